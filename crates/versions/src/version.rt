@@ -47,7 +47,7 @@ impl<K: Ord + Drop, V: Drop> Version<K, V> {
         ensures limit { IfOk result (λ version. version.limit ≡ limit) }
     {
         Ok(Version {
-            pairs: Arc::new(alloc, Vec::new(alloc)).map_err(AllocError::from)?,
+            pairs: Arc::new(alloc, Vec::new(alloc))?,
             limit,
         })
     }
