@@ -7,6 +7,7 @@
 #![tactic(auto)]
 
 mod key;
+pub mod laws;
 mod word;
 
 pub use key::PathKey;
