@@ -12,3 +12,6 @@ mod word;
 
 pub use key::PathKey;
 pub use word::Path;
+
+#[cfg(test)]
+mod tests;
