@@ -23,15 +23,25 @@ digits_after level (suc count) w = digit w level ∷ digits_after (level + 1) co
 abbrev pub spelled : ℕ → List ℕ
 spelled w = digits_after 0 word_digits w
 
--- the weight of a level's digit in the position: 2 to the number of bits in the digits after it
-abbrev pub weight : ℕ → ℕ
-weight level = 2 ^ (word_bits - 5 * (level + 1))
+-- the word with these digits, least significant first
+abbrev pub word_of : List ℕ → ℕ
+word_of [] = 0
+word_of (d ∷ ds) = d + word_of ds * 32
 
--- the digits of a word from a level on, as many as are told, each times its weight, added up
-abbrev pub weighed : ℕ → ℕ → ℕ → ℕ
-weighed level zero w = 0
-weighed level (suc count) w = digit w level * weight level + weighed (level + 1) count w
+-- how many positions of so many bits share all digits below a level
+abbrev pub breadth : ℕ → ℕ → ℕ
+breadth bits level = 2 ^ (bits - 5 * level)
 
--- a word's place in the order of a walk: all its digits, each times its weight, with digit 0 as the most significant
-abbrev pub position : ℕ → ℕ
-position w = weighed 0 word_digits w
+-- digits from a level on, each times its weight in a position of so many bits, added up
+abbrev pub weighed : ℕ → ℕ → List ℕ → ℕ
+weighed bits level [] = 0
+weighed bits level (d ∷ ds) = d * breadth bits (level + 1) + weighed bits (level + 1) ds
+
+-- a word's place in the order of a walk: its digits with digit 0 as the most significant,
+-- each with the weight of 2 to the number of bits in the digits after it
+unfoldable pub position : ℕ → ℕ
+position w = weighed word_bits 0 (spelled w)
+
+-- the least position of the words whose digits begin with a prefix: that prefix, and zeros after it
+abbrev pub lowest : List ℕ → ℕ
+lowest prefix = weighed word_bits 0 prefix

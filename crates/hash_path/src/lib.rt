@@ -7,7 +7,11 @@
 #![tactic(auto)]
 
 mod key;
+pub mod laws;
 mod word;
 
 pub use key::PathKey;
 pub use word::Path;
+
+#[cfg(test)]
+mod tests;
