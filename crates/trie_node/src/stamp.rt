@@ -1,0 +1,17 @@
+//! Stamps of nodes, and want of memory.
+
+use std::alloc::AllocError;
+
+/// Which write made a node: writes of one generation share a stamp.
+#[derive(Clone, Copy, Debug, PartialEq, Eq)]
+pub struct Stamp(pub u64);
+
+/// A request for memory, or the clone of an `Arc`, was refused.
+#[derive(Clone, Copy, Debug, PartialEq, Eq)]
+pub struct NoMemory;
+
+impl From<AllocError> for NoMemory {
+    fn from(_: AllocError) -> NoMemory {
+        NoMemory
+    }
+}
