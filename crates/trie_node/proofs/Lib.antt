@@ -1,0 +1,4 @@
+pub mod Views
+pub mod Empty
+pub mod Walks
+pub mod Lists
