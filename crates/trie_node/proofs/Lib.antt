@@ -1,0 +1,4 @@
+pub mod Bits
+pub mod Tries
+pub mod Passing
+pub mod Branches
