@@ -8,7 +8,8 @@ use Rattle.std.proofs.lemmas.Bool.{eq-eqb}
 use Rattle.std.proofs.lemmas.Bool.Decides.{eqb_tells}
 use Rattle.trie_node.specs.Tree.{Tree, branch, bucket, Trees, no_trees, more_trees, digits_of}
 use Rattle.std.specs.Prelude.{bytes_eq}
-use Rattle.trie_node.specs.Shape.{Spot, no_node, a_branch, pairs, spot_at, spot_below, but_last, is_empty, beginning, has_two_words, is_branch, spot, Lacks, Hangs, AllHang, Fits, HasShape}
+use Rattle.trie_node.specs.Shape.{Spot, no_node, a_branch, pairs, spot_at, spot_below, but_last, is_empty, beginning, has_two_words, is_branch, spot, Lacks, Hangs, AllHang, Fits, count_of, AllFit, HasShape}
+use Rattle.trie_node.proofs.Unique.{Rising, rises, at_head, at_tail, spot_lacking}
 
 and_false : (a b c : Bool) → (b ≡ false → c ≡ false) → (a && b) ≡ false → (a && c) ≡ false
 and_false true b c h e = h e
@@ -121,3 +122,49 @@ module _ {K V : Type 0} (word : K → List ℕ) (m : List (K × V)) where
   -- a tree that divides the pairs so has the shape
   pub hangs_shape : (t : Tree K V) → Fits t → Hangs word m [] t → HasShape word m t
   hangs_shape t f h = record { fits = f; spots = hangs_spots t [] h refl }
+
+  -- what the spot of some pairs tells
+  pairs_told : (b c : Bool) (fs es : List (K × V)) → cond b a_branch (cond (c && not (is_empty fs)) (pairs fs) no_node) ≡ pairs es → (b ≡ false) × (fs ≡ es) × (is_empty es ≡ false)
+  pairs_told true c fs es e = cc
+  pairs_told false true [] es e = cc
+  pairs_told false true (x ∷ xs) es e =
+      let same : x ∷ xs ≡ es = cc in
+      (refl, same, ap is_empty (sym same))
+  pairs_told false false fs es e = cc
+
+  branch_told : (b c : Bool) (fs : List (K × V)) → cond b a_branch (cond (c && not (is_empty fs)) (pairs fs) no_node) ≡ a_branch → b ≡ true
+  branch_told true c fs e = refl
+  branch_told false true [] e = cc
+  branch_told false true (x ∷ fs) e = cc
+  branch_told false false fs e = cc
+
+  none_told : (b c : Bool) (fs : List (K × V)) → c ≡ true → cond b a_branch (cond (c && not (is_empty fs)) (pairs fs) no_node) ≡ no_node → fs ≡ []
+  none_told b c [] up e = refl
+  none_told true c (x ∷ fs) up e = cc
+  none_told false true (x ∷ fs) up e = cc
+  none_told false false (x ∷ fs) up e = cc
+
+  mutual
+    pub spots_hang : (t : Tree K V) (p : List ℕ) → Fits t → ((q : List ℕ) → spot_at t q ≡ spot word m (p ++ q)) → Hangs word m p t
+    spots_hang (branch s n b ts) p f h =
+        let up = branch_told (is_branch word m p) (is_branch word m (but_last p)) (beginning word p m) (sym (h [] ∙ ap (spot word m) (append-nil p))) in
+        (
+          up,
+          all_spots_hang ts p (digits_of b) 0 (rises b) f.1 f.3 (λ d q le. h (d ∷ q)),
+          λ d lacks. none_told (is_branch word m (p ++ d ∷ [])) (is_branch word m (but_last (p ++ d ∷ []))) (beginning word (p ++ d ∷ []) m) (ap (is_branch word m) (but_last_snoc p d) ∙ up)
+            (sym (sym (spot_lacking d [] (digits_of b) ts lacks) ∙ h (d ∷ []))),
+        )
+    spots_hang (bucket s es) p f h = pairs_told (is_branch word m p) (is_branch word m (but_last p)) (beginning word p m) es (sym (h [] ∙ ap (spot word m) (append-nil p)))
+
+    all_spots_hang : (ts : Trees K V) (p ds : List ℕ) (low : ℕ) → Rising low ds → count_of ts ≡ length ds → AllFit ts → ((d : ℕ) (q : List ℕ) → low ≤ d → spot_below ds ts d q ≡ spot word m (p ++ d ∷ q)) → AllHang word m p ds ts
+    all_spots_hang no_trees p [] low r e f h = tt
+    all_spots_hang (more_trees t ts) p [] low r e f h = tt
+    all_spots_hang no_trees p (d ∷ ds) low r e f h = absurd (omega arith)
+    all_spots_hang (more_trees t ts) p (d ∷ ds) low r e f h = (
+        spots_hang t (p ++ d ∷ []) f.0 (λ q. sym (at_head d q ds t ts) ∙ h d q r.0 ∙ ap (spot word m) (sym (append_assoc p (d ∷ []) q))),
+        all_spots_hang ts p ds (d + 1) r.1 (omega arith) f.1 (λ x q le. sym (at_tail d x q ds t ts (omega arith)) ∙ h x q (omega (arith, r.0))),
+    )
+
+  -- the shape divides the pairs so
+  pub shape_hangs : (t : Tree K V) → HasShape word m t → Hangs word m [] t
+  shape_hangs t h = spots_hang t [] h.fits h.spots

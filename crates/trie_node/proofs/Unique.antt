@@ -3,7 +3,7 @@ use Rattle.std.proofs.Common.{◌≡◌, ℕ, zero, suc, ◌+◌, ◌*◌, ◌/�
 use Rattle.std.proofs.lemmas.Bool.{eq-eqb, eqb-true}
 use Rattle.std.proofs.lemmas.Bool.Decides.{eqb_tells}
 use Rattle.trie_node.specs.Tree.{Tree, branch, bucket, Trees, no_trees, more_trees, entries, entries_of_all, digits_from, digits_of}
-use Rattle.trie_node.specs.Shape.{Spot, no_node, a_branch, pairs, spot_at, spot_below, count_of, Fits, AllFit, HasShape, plain, all_plain}
+use Rattle.trie_node.specs.Shape.{Spot, no_node, a_branch, pairs, spot_at, spot_below, count_of, Fits, AllFit, HasShape, plain, all_plain, Lacks}
 
 -- digits in strictly rising order, from low on
 abbrev pub Rising : ℕ → List ℕ → Type 0
@@ -22,6 +22,10 @@ rising_from (suc count) d m =
       | true ↦ (omega arith, rest)
       | false ↦ rising_more d (d + 1) _ (omega arith) rest
     ]
+
+pub rising_lacks : (d low : ℕ) (xs : List ℕ) → d < low → Rising low xs → Lacks d xs
+rising_lacks d low [] lt r = tt
+rising_lacks d low (x ∷ xs) lt r = ((λ e. omega arith), rising_lacks d (x + 1) xs (omega arith) r.1)
 
 not_rising : (d : ℕ) (xs ys : List ℕ) → Rising (d + 1) xs → d ∷ ys ≡ xs → ⊥
 not_rising d [] ys r e = cc
@@ -57,7 +61,7 @@ other x d ne = elim (eqb_tells x d) as (λ _. (x == d) ≡ false) [ inl h ↦ ab
 equal : (x y : ℕ) → ((x < y) → ⊥) → ((y < x) → ⊥) → x ≡ y
 equal x y a b = elim (eqb_tells x y) as (λ _. x ≡ y) [ inl h ↦ h.1 | inr h ↦ omega arith ]
 
-rises : (b : ℕ) → Rising 0 (digits_of b)
+pub rises : (b : ℕ) → Rising 0 (digits_of b)
 unfolding digits_of
 rises b = rising_from 32 0 b
 
@@ -71,15 +75,18 @@ module _ {K V : Type 0} where
   some_node (branch s n b ts) e = cc
   some_node (bucket s es) e = cc
 
-  none_below : (d : ℕ) (p : List ℕ) (xs : List ℕ) (ts : Trees K V) → Rising (d + 1) xs → spot_below xs ts d p ≡ no_node
-  none_below d p [] ts r = refl
-  none_below d p (x ∷ xs) no_trees r = refl
-  none_below d p (x ∷ xs) (more_trees t ts) r = ap (λ b. cond b (spot_at t p) (spot_below xs ts d p)) (other x d (λ e. omega arith)) ∙ none_below d p xs ts (rising_more (d + 1) (x + 1) xs (omega arith) r.1)
+  pub spot_lacking : (d : ℕ) (p : List ℕ) (xs : List ℕ) (ts : Trees K V) → Lacks d xs → spot_below xs ts d p ≡ no_node
+  spot_lacking d p [] ts l = refl
+  spot_lacking d p (x ∷ xs) no_trees l = refl
+  spot_lacking d p (x ∷ xs) (more_trees t ts) l = ap (λ b. cond b (spot_at t p) (spot_below xs ts d p)) (other x d l.0) ∙ spot_lacking d p xs ts l.1
 
-  at_head : (d : ℕ) (p : List ℕ) (xs : List ℕ) (t : Tree K V) (ts : Trees K V) → spot_below (d ∷ xs) (more_trees t ts) d p ≡ spot_at t p
+  none_below : (d : ℕ) (p : List ℕ) (xs : List ℕ) (ts : Trees K V) → Rising (d + 1) xs → spot_below xs ts d p ≡ no_node
+  none_below d p xs ts r = spot_lacking d p xs ts (rising_lacks d (d + 1) xs (omega arith) r)
+
+  pub at_head : (d : ℕ) (p : List ℕ) (xs : List ℕ) (t : Tree K V) (ts : Trees K V) → spot_below (d ∷ xs) (more_trees t ts) d p ≡ spot_at t p
   at_head d p xs t ts = ap (λ b. cond b (spot_at t p) (spot_below xs ts d p)) (eq-eqb d d refl)
 
-  at_tail : (x d : ℕ) (p : List ℕ) (xs : List ℕ) (t : Tree K V) (ts : Trees K V) → x < d → spot_below (x ∷ xs) (more_trees t ts) d p ≡ spot_below xs ts d p
+  pub at_tail : (x d : ℕ) (p : List ℕ) (xs : List ℕ) (t : Tree K V) (ts : Trees K V) → x < d → spot_below (x ∷ xs) (more_trees t ts) d p ≡ spot_below xs ts d p
   at_tail x d p xs t ts lt = ap (λ b. cond b (spot_at t p) (spot_below xs ts d p)) (other x d (λ e. omega arith))
 
   mutual
