@@ -10,3 +10,4 @@ pub mod Unique
 pub mod Hangs
 pub mod Spoken
 mod Rows
+pub mod Divides
