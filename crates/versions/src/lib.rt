@@ -7,6 +7,8 @@
 mod no_memory;
 mod pairs;
 mod refusal;
+#[cfg(test)]
+mod tests;
 mod version;
 
 pub use no_memory::NoMemory;

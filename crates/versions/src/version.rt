@@ -8,7 +8,7 @@ ghost use Rattle.versions.specs.Puts.{FullExactly};
 use crate::no_memory::NoMemory;
 use crate::pairs::{Pair, find_pair, put_pair};
 use crate::refusal::Refusal;
-use std::alloc::{AllocError, Global};
+use std::alloc::Global;
 use std::marker::Model;
 use std::sync::Arc;
 
@@ -107,7 +107,7 @@ impl<K: Ord + Drop, V: Drop> Version<K, V> {
     {
         let before = self.value_before(&key)?;
         let pairs = put_pair(alloc, self.pairs.as_slice(), &key, &value)?;
-        self.pairs = Arc::new(alloc, pairs).map_err(AllocError::from)?;
+        self.pairs = Arc::new(alloc, pairs)?;
         Ok(before)
     }
 
