@@ -11,3 +11,5 @@ pub mod Hangs
 pub mod Spoken
 mod Rows
 pub mod Divides
+pub mod Apart
+pub mod Roots
