@@ -13,3 +13,4 @@ mod Rows
 pub mod Divides
 pub mod Apart
 pub mod Roots
+pub mod Names
