@@ -8,9 +8,9 @@ use Rattle.std.specs.FinMap.Entries.{same_entries, is_sorted-where_key}
 use Rattle.std.specs.List.{starts_with}
 use Rattle.std.proofs.lemmas.Bool.Decides.{eqb_tells, leb_tells}
 use Rattle.std.proofs.lemmas.Bool.{and_parts}
-use Rattle.hash_path.specs.Digits.{digit}
+use Rattle.hash_path.specs.Digits.{digit, spelled}
 use Rattle.trie_node.specs.Tree.{Tree, branch, bucket, Trees, no_trees, more_trees, digits_of, entries, entries_of_all, IsTrie, AreTries, HasTwoWords, KeysHaveDigit, KeysHaveWord}
-use Rattle.trie_node.specs.Shape.{beginning, has_two_words, is_branch, is_empty, Lacks, Hangs, AllHang, Fits, AllFit, count_of, spelled}
+use Rattle.trie_node.specs.Shape.{beginning, has_two_words, is_branch, is_empty, Lacks, Hangs, AllHang, Fits, AllFit, count_of}
 use Rattle.trie_node.specs.Roots.{word_of}
 use Rattle.trie_node.proofs.Tries.{or_else, find_append, find_other}
 use Rattle.trie_node.proofs.Apart.{find_lacking_all}

@@ -9,7 +9,7 @@ pub mod Branches
 pub mod Spell
 pub mod Finds
 pub mod Listings
-pub mod Stamps
+pub mod Restamps
 pub mod Unique
 pub mod Hangs
 pub mod Spoken

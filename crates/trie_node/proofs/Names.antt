@@ -9,8 +9,9 @@ use Rattle.std.proofs.lemmas.Bool.{or_left, or_right, cases_Bool}
 use Rattle.std.proofs.lemmas.Bool.Decides.{eqb_tells}
 use Rattle.std.proofs.lemmas.List.Elements.{All-cons, All-nil, All-append, All-map, All-contains, Contains-append_left, Contains-append_right}
 use Rattle.std.proofs.lemmas.Slice.Eq.{bytes_eq-Decides}
+use Rattle.hash_path.specs.Digits.{spelled}
 use Rattle.trie_node.specs.Tree.{Tree, branch, bucket, Trees, no_trees, more_trees, digits_of, entries, entries_of_all, IsTrie, AreTries}
-use Rattle.trie_node.specs.Shape.{Nodes, nodes, nodes_below, nodes_of_all, a_branch, spot_at, spot_below, is_branch, is_name, beginning, spelled, Hangs, AllHang}
+use Rattle.trie_node.specs.Shape.{Nodes, nodes, nodes_below, nodes_of_all, a_branch, spot_at, spot_below, is_branch, is_name, beginning, Hangs, AllHang}
 use Rattle.trie_node.specs.Roots.{IsRoot, map_of, word_of}
 use Rattle.trie_node.proofs.Tries.{or_else, find_append}
 use Rattle.trie_node.proofs.Finds.{found_first, found_passes, passes_found}
