@@ -22,7 +22,7 @@ use Rattle.trie_node.specs.Shape.{Nodes, Lacks, nodes_below, nodes_of_all, IsRes
 use Rattle.trie_node.specs.Roots.{word_of}
 use Rattle.trie_node.specs.Writes.{Writes}
 use Rattle.trie_node.proofs.Tries.{or_else, join, entries_append, find_append, find_lacking, at_child, at_gap}
-use Rattle.trie_node.proofs.Stamps.{restamps_between, restamps_branch, nodes_append}
+use Rattle.trie_node.proofs.Restamps.{restamps_between, restamps_branch, nodes_append}
 use Rattle.trie_node.proofs.Spell.{starts_snoc}
 use Rattle.trie_node.proofs.Passing.{passes_none_lacking, begins_itself}
 
