@@ -7,6 +7,7 @@
 #![tactic(auto)]
 
 mod condition;
+mod laws;
 mod node;
 mod put;
 mod reading;
@@ -16,6 +17,7 @@ mod shown;
 mod stamps;
 
 pub use condition::{Always, Condition, IfAbsent, IfEqual, IfPresent};
+pub use laws::{map_determines_root, map_names_nodes, root_is_map, writes_keep_stamps_below};
 pub use node::{Node, empty_root};
 pub use put::{Written, put_where, with_put};
 pub use reading::{child, look, size, stamp};
