@@ -13,7 +13,7 @@ pub mod Restamps
 pub mod Unique
 pub mod Hangs
 pub mod Spoken
-mod Rows
+mod Examples
 pub mod Divides
 pub mod Apart
 pub mod Roots
