@@ -1,3 +1,7 @@
+pub mod Views
+pub mod Empty
+pub mod Walks
+pub mod Lists
 pub mod Bits
 pub mod Tries
 pub mod Passing
@@ -10,3 +14,4 @@ pub mod Unique
 pub mod Hangs
 pub mod Spoken
 mod Rows
+pub mod Divides

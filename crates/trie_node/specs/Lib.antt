@@ -4,3 +4,7 @@ pub mod Shape
 pub mod View
 pub mod Roots
 pub mod Writes
+pub mod Outline
+pub mod Looks
+pub mod Conditions
+pub mod Changes
