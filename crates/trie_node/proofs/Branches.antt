@@ -23,11 +23,11 @@ use Rattle.trie_node.specs.Roots.{word_of}
 use Rattle.trie_node.specs.Writes.{Writes}
 use Rattle.trie_node.proofs.Bits.{bit_at_clear_others}
 use Rattle.trie_node.proofs.Tries.{or_else, join, entries_append, find_append, find_lacking, at_child, at_gap}
-use Rattle.trie_node.proofs.Stamps.{restamps_between, restamps_branch, nodes_append}
+use Rattle.trie_node.proofs.Restamps.{restamps_between, restamps_branch, nodes_append}
 use Rattle.trie_node.proofs.Spell.{starts_snoc}
 use Rattle.trie_node.proofs.Passing.{passes_none_lacking, begins_itself}
 
-tied : (r : Ordering) → is_eq r ≡ true → r ≡ Equal
+pub tied : (r : Ordering) → is_eq r ≡ true → r ≡ Equal
 tied Less e = absurd (false≢true e)
 tied Equal e = refl
 tied Greater e = absurd (false≢true e)
@@ -57,9 +57,19 @@ restamps_same stamp w olds olds2 news news2 e f h = subst (λ ns. Restamps stamp
 pub length-three : {X : Type 0} (xs es ys : List X) → length (xs ++ (es ++ ys)) ≡ length xs + (length es + length ys)
 length-three xs es ys = length-append xs (es ++ ys) ∙ ap (λ n. length xs + n) (length-append es ys)
 
+module _ {K V : Type 0} (R : K → K → Ordering) (path : K → ℕ) where
+  -- a branch that is a trie, but for its having two words
+  abbrev pub IsNearlyTrie : ℕ → Tree K V → Type 0
+  IsNearlyTrie level (branch stamp size bitmap ts) = (level ≤ 6) × (bitmap < 2 ^ 32) × (size ≡ length (entries_of_all ts)) × AreTries R path level (digits_of bitmap) ts
+  IsNearlyTrie level (bucket stamp es) = ⊥
+
+  trie_of_two : (level : ℕ) (t : Tree K V) → IsNearlyTrie level t → (0 < level → HasTwoWords R path (entries t)) → IsTrie R path level t
+  trie_of_two level (branch stamp size bitmap ts) h two = (h.0, h.1, h.2, h.3, two)
+  trie_of_two level (bucket stamp es) h two = absurd h
+
 -- what a write does to a branch whose pairs may have become those of one word
 pub record Changes {K V : Type 0} (R : K → K → Ordering) (path : K → ℕ) (level stamp : ℕ) (k : K) (given : Option V) (old new : Tree K V) : Type 0 where
-  pub trie_of_two : (0 < level → HasTwoWords R path (entries new)) → IsTrie R path level new
+  pub near : IsNearlyTrie R path level new
   pub finds : (q : K) → find R q (entries new) ≡ cond (eq_by_cmp R q k) given (find R q (entries old))
   pub least : length (entries old) ≤ length (entries new) + 1
   pub most : length (entries new) ≤ length (entries old) + 1
@@ -115,15 +125,15 @@ module _ {K V : Type 0} (R : K → K → Ordering) (path : K → ℕ) (total : I
         ((p : List ℕ) → nodes_below (word_of path) p new ≡ (p, stamp) ∷ (nodes_of_all (word_of path) p bs (trees xs) ++ (ns p ++ nodes_of_all (word_of path) p as_ (trees ys)))) →
         FindsGiven es fs → length es ≤ length fs + 1 → length fs ≤ length es + 1 →
         ((p : List ℕ) → length p ≡ level → starts_with nat_eq (word_of path k) p ≡ true → Restamps stamp (word_of path k) (ms p) (ns p)) →
-        ((0 < level → HasTwoWords R path (entries new)) → IsTrie R path level new) → Changes R path level stamp k given old new
-    changes_between lt before old new es fs ms ns old_entries new_entries old_nodes new_nodes finds least most stamps trie =
+        IsNearlyTrie R path level new → Changes R path level stamp k given old new
+    changes_between lt before old new es fs ms ns old_entries new_entries old_nodes new_nodes finds least most stamps near =
         let first = entries_of_all (trees xs) in
         let last = entries_of_all (trees ys) in
         let found : FindsGiven (entries old) (entries new) = λ q. ap (find R q) new_entries ∙ find_changed es fs finds q ∙ ap (λ ps. cond (eq_by_cmp R q k) given (find R q ps)) (sym old_entries) in
         let long_old : length (entries old) ≡ length first + (length es + length last) = ap length old_entries ∙ length-three first es last in
         let long_new : length (entries new) ≡ length first + (length fs + length last) = ap length new_entries ∙ length-three first fs last in
         record {
-          trie_of_two = trie;
+          near = near;
           finds = found;
           least = omega (arith, long_old, long_new, least);
           most = omega (arith, long_old, long_new, most);
@@ -189,12 +199,11 @@ module _ {K V : Type 0} (R : K → K → Ordering) (path : K → ℕ) (total : I
       (λ p. nodes_below (word_of path) (p ++ d ∷ []) c.child) (λ p. nodes_below (word_of path) (p ++ d ∷ []) u) old_entries new_entries
       (branch_nodes old c.front c.back c.child before size bitmap d a.before a.after old_is c.digits c.long) (branch_nodes new c.front c.back u stamp size2 bitmap d a.before a.after new_is c.digits c.long)
       w.finds w.least w.most (below_child d here lt c.child u w)
-      (λ two. subst (IsTrie R path level) (sym new_is) (
+      (subst (IsNearlyTrie R path level) (sym new_is) (
         ok.0,
         ok.1,
         counted ∙ ap (λ x. length (entries x)) new_is,
         subst (λ ds. AreTries R path level ds (trees (c.front ++ u ∷ c.back))) (sym c.digits) (join R path level a.before (d ∷ a.after) c.front (u ∷ c.back) c.front_ok (digit_kept d (entries c.child) (entries u) here w.finds c.keys, w.trie, c.back_ok)),
-        λ up. subst (λ x. HasTwoWords R path (entries x)) new_is (two up),
       ))
 
   -- a child of the key's digit is added where there was none
@@ -230,12 +239,11 @@ module _ {K V : Type 0} (R : K → K → Ordering) (path : K → ℕ) (total : I
       (λ p. []) (λ p. nodes_below (word_of path) (p ++ d ∷ []) u) old_entries new_entries
       (gap_nodes old c.front c.back before size bitmap a.before a.after old_is g.digits c.long) (branch_nodes new c.front c.back u stamp size2 wider d a.before a.after new_is digits c.long)
       w.finds w.least w.most (below_child d here lt (bucket stamp0 []) u w)
-      (λ two. subst (IsTrie R path level) (sym new_is) (
+      (subst (IsNearlyTrie R path level) (sym new_is) (
         ok.0,
         or_lt 32 bitmap (1 * 2 ^ d % 2 ^ 32) ok.1 (omega arith),
         counted ∙ ap (λ x. length (entries x)) new_is,
         subst (λ ds. AreTries R path level ds (trees (c.front ++ u ∷ c.back))) (sym digits) (join R path level a.before (d ∷ a.after) c.front (u ∷ c.back) c.front_ok (digit_kept d [] (entries u) here w.finds (λ q never. absurd (false≢true never)), w.trie, c.back_ok)),
-        λ up. subst (λ x. HasTwoWords R path (entries x)) new_is (two up),
       ))
 
   -- the child of the key's digit, which had no other key, is left out
@@ -264,14 +272,13 @@ module _ {K V : Type 0} (R : K → K → Ordering) (path : K → ℕ) (total : I
         (λ p. nodes_below (word_of path) (p ++ d ∷ []) c.child) (λ p. []) old_entries new_entries
         (branch_nodes old c.front c.back c.child before size bitmap d a.before a.after old_is c.digits c.long) (gap_nodes new c.front c.back stamp size2 narrower a.before a.after new_is digits c.long)
         (subst (λ x. FindsGiven (entries x) []) same finds) (omega (arith, alone)) (omega arith) (λ p deep on. All-nil (IsRestamped stamp (word_of path k) (nodes_below (word_of path) (p ++ d ∷ []) c.child)))
-        (λ two. subst (IsTrie R path level) (sym new_is) (
+        (subst (IsNearlyTrie R path level) (sym new_is) (
             ok.0, omega (arith, and_le_l bitmap (bit_not w32 (1 * 2 ^ d % 2 ^ 32)), ok.1), counted ∙ ap (λ x. length (entries x)) new_is,
-            subst (λ ds. AreTries R path level ds (trees (c.front ++ c.back))) (sym digits) (join R path level a.before a.after c.front c.back c.front_ok c.back_ok),
-            λ up. subst (λ x. HasTwoWords R path (entries x)) new_is (two up)))
+            subst (λ ds. AreTries R path level ds (trees (c.front ++ c.back))) (sym digits) (join R path level a.before a.after c.front c.back c.front_ok c.back_ok)))
 
   -- where keys of two words are found, or at the root, the branch is a trie
   pub writes_of_two : (old new : Tree K V) → Changes R path level stamp k given old new → (0 < level → HasTwoWords R path (entries new)) → Writes R path level stamp k given old new
-  writes_of_two old new c two = record { trie = c.trie_of_two two; finds = c.finds; least = c.least; most = c.most; stamps = c.stamps }
+  writes_of_two old new c two = record { trie = trie_of_two R path level new c.near two; finds = c.finds; least = c.least; most = c.most; stamps = c.stamps }
 
 module _ {K V : Type 0} (R : K → K → Ordering) (path : K → ℕ) (total : IsTotalOrder R) (exact : (x y : K) → R x y ≡ Equal → x ≡ y) where
   -- a put keeps two words

@@ -9,9 +9,11 @@ pub mod Branches
 pub mod Spell
 pub mod Finds
 pub mod Listings
-pub mod Stamps
+pub mod Restamps
 pub mod Unique
 pub mod Hangs
 pub mod Spoken
 mod Rows
 pub mod Divides
+pub mod Removals
+pub mod Taken
