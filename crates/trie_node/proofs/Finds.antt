@@ -9,8 +9,9 @@ use Rattle.std.specs.List.{list_any}
 use Rattle.std.proofs.lemmas.Bool.{or_left, or_right, false_from_ne_true}
 use Rattle.std.proofs.lemmas.Bool.Decides.{eqb_tells}
 use Rattle.std.proofs.lemmas.Slice.Eq.{bytes_eq-Decides}
+use Rattle.hash_path.specs.Digits.{spelled}
 use Rattle.trie_node.specs.Tree.{KeysHaveWord, HasTwoWords}
-use Rattle.trie_node.specs.Shape.{has_two_words, spelled}
+use Rattle.trie_node.specs.Shape.{has_two_words}
 use Rattle.trie_node.specs.Roots.{word_of}
 use Rattle.trie_node.proofs.Spell.{spelled_tells}
 

@@ -17,3 +17,6 @@ mod Rows
 pub mod Divides
 pub mod Removals
 pub mod Taken
+pub mod Apart
+pub mod Roots
+pub mod Names

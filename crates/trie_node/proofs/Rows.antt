@@ -2,8 +2,9 @@
 use Rattle.std.proofs.Common.{◌≡◌, ℕ, zero, suc, ◌+◌, ◌<◌, ◌≤◌, Bool, true, false, List, [], ◌∷◌, ◌++◌, length, refl, arith, map}
 use Rattle.std.specs.List.{Contains}
 use Rattle.std.proofs.lemmas.List.Elements.{All-cons, All-nil}
+use Rattle.hash_path.specs.Digits.{spelled}
 use Rattle.trie_node.specs.Tree.{Tree, branch, bucket, Trees, no_trees, more_trees, trees, entries, digits_of}
-use Rattle.trie_node.specs.Shape.{spelled, Spot, no_node, a_branch, pairs, is_branch, is_name, spot, spot_at, Fits, HasShape, Nodes, nodes, IsRestamped, Restamps, NoneAbove, own_count}
+use Rattle.trie_node.specs.Shape.{Spot, no_node, a_branch, pairs, is_branch, is_name, spot, spot_at, Fits, HasShape, Nodes, nodes, IsRestamped, Restamps, NoneAbove, own_count}
 
 abbrev word : ℕ × ℕ → List ℕ
 word k = spelled (k.0)
