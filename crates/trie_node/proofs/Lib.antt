@@ -1,7 +1,7 @@
 pub mod Views
 pub mod Empty
 pub mod Walks
-pub mod Lists
+pub mod Appended
 pub mod Bits
 pub mod Tries
 pub mod Passing

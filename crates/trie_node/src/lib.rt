@@ -6,14 +6,17 @@
 //! of its key's path and on no other.
 #![tactic(auto)]
 
+mod bitmap;
+mod basics;
 mod condition;
+mod copies;
 mod node;
+mod pairs;
 mod put;
 mod reading;
 mod removal;
 mod search;
 mod shown;
-mod stamps;
 
 pub use condition::{Always, Condition, IfAbsent, IfEqual, IfPresent};
 pub use node::{Node, empty_root};
@@ -22,4 +25,4 @@ pub use reading::{child, look, size, stamp};
 pub use removal::{removed_where, with_removed};
 pub use search::find;
 pub use shown::Look;
-pub use stamps::{NoMemory, Stamp};
+pub use basics::{NoMemory, Stamp};
