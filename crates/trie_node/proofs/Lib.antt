@@ -1,7 +1,7 @@
 pub mod Views
 pub mod Empty
 pub mod Walks
-pub mod Lists
+pub mod Appended
 pub mod Bits
 pub mod Tries
 pub mod Passing
@@ -15,6 +15,8 @@ pub mod Hangs
 pub mod Spoken
 mod Examples
 pub mod Divides
+pub mod Removals
+pub mod Taken
 pub mod Apart
 pub mod Roots
 pub mod Names
