@@ -1,5 +1,5 @@
 -- A tree whose branches divide the pairs of a map by their digits has the shape of the map.
-use Rattle.std.proofs.Common.{◌≡◌, ℕ, zero, suc, ◌+◌, ◌<◌, ◌≤◌, ◌≢◌, ◌==◌, Bool, true, false, not, cond, ◌&&◌, ◌||◌, List, [], ◌∷◌, ◌++◌, length, refl, sym, ap, ◌∙◌, subst, arith, append_assoc, nat_eq, get_or, inl, inr}
+use Rattle.std.proofs.Common.{◌≡◌, ℕ, ◌+◌, ◌≤◌, ◌≢◌, ◌==◌, Bool, true, false, not, cond, ◌&&◌, ◌||◌, List, [], ◌∷◌, ◌++◌, length, refl, sym, ap, ◌∙◌, arith, append_assoc, nat_eq, get_or, inl, inr}
 use Rattle.std.specs.List.{filter, list_any, starts_with, All}
 use Rattle.std.proofs.lemmas.List.{append-nil}
 use Rattle.std.proofs.lemmas.List.Elements.{All-filter, All-cons, All-nil}
@@ -8,7 +8,7 @@ use Rattle.std.proofs.lemmas.Bool.{or_parts}
 use Rattle.std.proofs.lemmas.Bool.Decides.{eqb_tells}
 use Rattle.trie_node.specs.Tree.{Tree, branch, bucket, Trees, no_trees, more_trees, digits_of}
 use Rattle.std.specs.Prelude.{bytes_eq}
-use Rattle.trie_node.specs.Shape.{Spot, no_node, a_branch, pairs, spot_at, spot_below, but_last, is_empty, beginning, has_two_words, is_branch, spot, Lacks, Hangs, AllHang, Fits, count_of, AllFit, HasShape}
+use Rattle.trie_node.specs.Shape.{no_node, a_branch, pairs, spot_at, spot_below, but_last, is_empty, beginning, has_two_words, is_branch, spot, Lacks, Hangs, AllHang, Fits, count_of, AllFit, HasShape}
 use Rattle.trie_node.proofs.Unique.{Rising, rises, at_head, at_tail, spot_lacking}
 
 and_false : (a b c : Bool) → (b ≡ false → c ≡ false) → (a && b) ≡ false → (a && c) ≡ false
