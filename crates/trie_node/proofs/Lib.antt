@@ -1,7 +1,7 @@
 pub mod Views
 pub mod Empty
 pub mod Walks
-pub mod Lists
+pub mod Appended
 pub mod Bits
 pub mod Tries
 pub mod Passing
@@ -13,8 +13,10 @@ pub mod Restamps
 pub mod Unique
 pub mod Hangs
 pub mod Spoken
-mod Rows
+mod Examples
 pub mod Divides
+pub mod Removals
+pub mod Taken
 pub mod Apart
 pub mod Roots
 pub mod Names

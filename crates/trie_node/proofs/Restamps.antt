@@ -1,9 +1,9 @@
 -- How the stamp rule goes up through a branch.
-use Rattle.std.proofs.Common.{◌≡◌, ℕ, zero, suc, ◌+◌, ◌<◌, ◌≤◌, ◌≢◌, Bool, true, false, cond, List, [], ◌∷◌, ◌++◌, length, refl, sym, ap, ◌∙◌, subst, arith, append_assoc, nat_eq, get_or}
+use Rattle.std.proofs.Common.{◌≡◌, ℕ, Bool, true, false, List, [], ◌∷◌, ◌++◌, length, refl, sym, ap, ◌∙◌, subst, arith, append_assoc, nat_eq, get_or}
 use Rattle.std.specs.Bool.{MatchBool}
 use Rattle.std.specs.List.{All, Contains, starts_with}
-use Rattle.std.proofs.lemmas.List.Elements.{All-cons, All-nil, All-append, Contains-get_or, Contains-append_left, Contains-append_right}
-use Rattle.trie_node.specs.Tree.{Tree, branch, bucket, Trees, no_trees, more_trees, trees}
+use Rattle.std.proofs.lemmas.List.Elements.{All-cons, All-append, Contains-get_or, Contains-append_left, Contains-append_right}
+use Rattle.trie_node.specs.Tree.{Tree, trees}
 use Rattle.trie_node.specs.Shape.{Nodes, nodes_below, nodes_of_all, IsRestamped, Restamps}
 
 -- a node is restamped also where there were more nodes before

@@ -1,13 +1,14 @@
 -- What a trie is at its root: the tree of its map's shape; and what a write there does to the map.
-use Rattle.std.proofs.Common.{◌≡◌, ℕ, ◌<◌, ◌^◌, Bool, true, false, T, List, [], length, Option, Some, None, refl, sym, ap, ◌∙◌, subst}
+use Rattle.std.proofs.Common.{◌≡◌, ℕ, ◌<◌, ◌^◌, Bool, true, false, T, [], length, Some, None, refl, sym, ◌∙◌, subst}
 use Rattle.std.specs.declared.cmp.Ordering.{Ordering}
 use Rattle.std.specs.declared.cmp.Ordering.TheVariants.{Equal}
 use Rattle.std.specs.Cmp.{IsTotalOrder}
 use Rattle.std.specs.FinMap.{find, is_sorted}
-use Rattle.trie_node.specs.Map.{IsMap, value_at, with_pair, without}
+use Rattle.trie_node.specs.Map.{IsMap, value_at}
 use Rattle.trie_node.specs.Tree.{Tree, entries, IsTrie}
-use Rattle.trie_node.specs.Shape.{HasShape, beginning, nodes, plain, Restamps}
+use Rattle.trie_node.specs.Shape.{HasShape, plain}
 use Rattle.trie_node.specs.Roots.{IsRoot, map_of, word_of}
+use Rattle.trie_node.specs.Changes.{IsPut, IsRemoval}
 use Rattle.trie_node.specs.Writes.{Writes}
 use Rattle.trie_node.proofs.Apart.{apart}
 use Rattle.trie_node.proofs.Divides.{trie_fits, trie_hangs, hangs_trie}
@@ -48,14 +49,19 @@ module _ {K V : Type 0} (R : K → K → Ordering) (path : K → ℕ) (total : I
     pub root_is_unique : (t u : Tree K V) → IsRoot R path t → IsRoot R path u → map_of R t ≡ map_of R u → plain t ≡ plain u
     root_is_unique t u g h same = shape_is_unique (word_of path) (map_of R u) t u (subst (λ m. HasShape (word_of path) m t) same g) h
 
-  module _ (stamp : ℕ) (k : K) (old new : Tree K V) where
-    -- what a write does at the root
-    pub write_restamps : (given : Option V) → Writes R path 0 stamp k given old new → Restamps stamp (word_of path k) (nodes (word_of path) old) (nodes (word_of path) new)
-    write_restamps given w = w.stamps [] refl refl
+    module _ (stamp : ℕ) (k : K) (old new : Tree K V) where
+      -- a write of a value at the root is a put
+      pub write_puts : (v : V) → Writes R path 0 stamp k (Some v) old new → IsPut R path stamp k v old new
+      write_puts v w = record {
+        root = trie_is_root new w.trie;
+        map = put_listed R total exact (entries old) (entries new) k v w.finds;
+        stamps = w.stamps [] refl refl;
+      }
 
-    module _ (exact : (x y : K) → R x y ≡ Equal → x ≡ y) where
-      pub put_map_of : (v : V) → Writes R path 0 stamp k (Some v) old new → map_of R new ≡ with_pair R (map_of R old) k v
-      put_map_of v w = put_listed R total exact (entries old) (entries new) k v w.finds
-
-      pub without_map_of : Writes R path 0 stamp k None old new → map_of R new ≡ without R (map_of R old) k
-      without_map_of w = without_listed R total exact (entries old) (entries new) k w.finds
+      -- and of none a removal
+      pub write_removes : Writes R path 0 stamp k None old new → IsRemoval R path stamp k old new
+      write_removes w = record {
+        root = trie_is_root new w.trie;
+        map = without_listed R total exact (entries old) (entries new) k w.finds;
+        stamps = w.stamps [] refl refl;
+      }
