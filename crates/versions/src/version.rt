@@ -3,7 +3,6 @@ ghost use Rattle.std.specs.Prelude.{◌≡◌, ◌≤◌, ◌<◌, ◌+◌, ◌^
 ghost use Rattle.std.specs.Arc.{arc_value};
 ghost use Rattle.trie_node.specs.Roots.{IsRoot, map_of, word_of};
 ghost use Rattle.trie_node.specs.Shape.{NoneAbove, Restamps, nodes, own_count};
-ghost use Rattle.trie_node.specs.Tree.{entries};
 ghost use Rattle.trie_node.specs.View.{tree};
 ghost use Rattle.versions.specs.Changes.{RestampsIf};
 ghost use Rattle.versions.specs.Commands.{is_full_for};
@@ -18,7 +17,7 @@ use hash_path::PathKey;
 use std::alloc::Global;
 use std::marker::Model;
 use std::sync::Arc;
-use trie_node::{Always, Condition, NoMemory, Node, Stamp, Written};
+use trie_node::{Always, Condition, NoMemory, Node, Stamp, Written, root_is_map, writes_keep_stamps_below};
 
 /// The most pairs that a map may be limited to.
 pub const MOST_PAIRS: u64 = 16_777_216;
@@ -78,7 +77,7 @@ impl<K: PathKey + Drop, V: Drop> Version<K, V> {
         ensures within { length self.now.entries ≤ self.now.limit }
         ensures sorted { IsMap K.cmp self.now.entries }
     {
-        has_pairs_of_its_map(&self.root);
+        root_is_map::<K, V>();
         trie_node::size(&self.root)
     }
 
@@ -157,6 +156,7 @@ impl<K: PathKey + Drop, V: Drop> Version<K, V> {
         ensures full { FullExactly result (C.holds condition.now None && is_full_for K.cmp self.old.limit self.old.entries key.value) }
         ensures err { OnErr result (self.new ≡ self.old) }
     {
+        writes_keep_stamps_below();
         let full = self.len() == self.limit;
         let room = WithinRoom { condition, full };
         let Written {
@@ -211,6 +211,8 @@ impl<K: PathKey + Drop, V: Drop> Version<K, V> {
         ensures nodes { IfOk result (λ change. RestampsIf change.done self.old.stamp (word_of K.path_of key.now) self.old.nodes self.new.nodes) }
         ensures err { OnErr result (self.new ≡ self.old) }
     {
+        root_is_map::<K, V>();
+        writes_keep_stamps_below();
         let Written {
             root,
             previous: found,
@@ -294,12 +296,4 @@ fn shared<V>(value: Option<&Arc<V>>) -> Result<Option<Arc<V>>, NoMemory>
         Some(value) => Ok(Some(Arc::try_clone(value)?)),
         None => Ok(None),
     }
-}
-
-// A root has as many pairs as its map, which are in order there.
-fn has_pairs_of_its_map<K: PathKey, V>(root: &Node<K, V>)
-    requires { IsRoot K.cmp K.path_of (tree root.now) }
-    ensures count { length (entries (tree root.now)) ≡ length (map_of K.cmp (tree root.now)) }
-    ensures sorted { IsMap K.cmp (map_of K.cmp (tree root.now)) }
-{
 }
