@@ -2,7 +2,7 @@
 use std::sync::Arc;
 
 /// What a command is answered. It tells of the map before the command.
-#[derive(Debug, Drop)]
+#[derive(Debug, Drop, PartialEq, Eq)]
 pub enum Reply<V> {
     /// The value of the key, or none.
     Old(Option<Arc<V>>),

@@ -19,6 +19,7 @@ impl Path {
     }
 
     /// The word's place in the order of a walk: its digits, with digit 0 as the most significant.
+    #[tactic(auto, unfolding(crate::specs::Digits::position))]
     pub fn position(self) -> u32
         ensures { result ≡ position self.0 }
     {

@@ -1,7 +1,7 @@
 //! Why a call is refused, with one enum for every layer.
 
-use crate::no_memory::NoMemory;
-use std::alloc::AllocError;
+use trie_node::NoMemory;
+use std::alloc::{AllocError, AllocFailed};
 
 /// Why a call was refused. All that the call was made on is then as it was before.
 #[derive(Clone, Copy, Debug, PartialEq, Eq)]
@@ -35,6 +35,17 @@ impl From<AllocError> for Refusal {
     ghost from_gives = { λ _ e. e ≡ NoMemory };
 
     fn from(_: AllocError) -> Refusal {
+        Refusal::NoMemory
+    }
+}
+
+impl<T: Drop> From<AllocFailed<T>> for Refusal {
+    ghost use Rattle.std.specs.Prelude.{◌≡◌};
+    ghost use Rattle.versions.specs.declared.refusal.Refusal.TheVariants.{NoMemory};
+
+    ghost from_gives = { λ _ e. e ≡ NoMemory };
+
+    fn from(_: AllocFailed<T>) -> Refusal {
         Refusal::NoMemory
     }
 }

@@ -1,0 +1,22 @@
+pub mod Views
+pub mod Empty
+pub mod Walks
+pub mod Appended
+pub mod Bits
+pub mod Tries
+pub mod Passing
+pub mod Branches
+pub mod Spell
+pub mod Finds
+pub mod Listings
+pub mod Restamps
+pub mod Unique
+pub mod Hangs
+pub mod Spoken
+mod Examples
+pub mod Divides
+pub mod Removals
+pub mod Taken
+pub mod Apart
+pub mod Roots
+pub mod Names
