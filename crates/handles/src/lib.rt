@@ -11,8 +11,6 @@ mod limits;
 mod places;
 mod reply;
 mod table;
-#[cfg(test)]
-mod tests;
 
 pub use call::Call;
 pub use call_reply::CallReply;
