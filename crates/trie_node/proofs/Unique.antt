@@ -10,7 +10,7 @@ abbrev pub Rising : ℕ → List ℕ → Type 0
 Rising low [] = Unit {0}
 Rising low (x ∷ xs) = (low ≤ x) × Rising (x + 1) xs
 
-rising_more : (a b : ℕ) (xs : List ℕ) → a ≤ b → Rising b xs → Rising a xs
+pub rising_more : (a b : ℕ) (xs : List ℕ) → a ≤ b → Rising b xs → Rising a xs
 rising_more a b [] le r = tt
 rising_more a b (x ∷ xs) le r = (omega arith, r.1)
 

@@ -9,3 +9,4 @@ pub mod Looks
 pub mod Conditions
 pub mod Changes
 pub mod Removals
+pub mod Order

@@ -4,15 +4,25 @@ ghost use Rattle.std.specs.Prelude.{◌≡◌, ◌↔◌, ◌≤◌, ℕ, true, 
 ghost use Rattle.trie_node.specs.Map.{IsMap};
 ghost use Rattle.trie_node.specs.Tree.{Tree, entries};
 ghost use Rattle.trie_node.specs.Shape.{Nodes, nodes, plain, is_name, Restamps, NoneAbove};
+ghost use Rattle.trie_node.specs.Order.{walked};
 ghost use Rattle.trie_node.specs.Roots.{IsRoot, map_of, word_of};
 
 use hash_path::PathKey;
+use hash_path::laws::positions_follow_digits;
 
 /// The pairs of a root are a map's, and no pair stands twice.
 pub fn root_is_map<K: PathKey, V>()
     ensures sorted { (t : Tree K V) → IsMap K.cmp (map_of K.cmp t) }
     ensures size { (t : Tree K V) → IsRoot K.cmp K.path_of t → length (entries t) ≡ length (map_of K.cmp t) }
 {}
+
+/// The pairs of a root stand in the order of their positions, and at one position in the order of
+/// their keys.
+pub fn root_walks_in_order<K: PathKey, V>()
+    ensures { (t : Tree K V) → IsRoot K.cmp K.path_of t → entries t ≡ walked K.cmp K.path_of (map_of K.cmp t) }
+{
+    positions_follow_digits();
+}
 
 /// Roots of one map are one tree, stamps aside.
 pub fn map_determines_root<K: PathKey, V>()
