@@ -20,4 +20,5 @@ pub mod Taken
 pub mod Apart
 pub mod Roots
 pub mod Names
+pub mod InOrder
 pub mod Ordered

@@ -17,7 +17,7 @@ use Rattle.trie_node.proofs.Listings.{listed_sorted, find_listed, length_listed,
 use Rattle.trie_node.proofs.Spoken.{find_beginning}
 use Rattle.trie_node.proofs.Unique.{shape_is_unique}
 
-holds : (b : Bool) → T b → b ≡ true
+pub holds : (b : Bool) → T b → b ≡ true
 holds true h = refl
 holds false h = absurd h
 

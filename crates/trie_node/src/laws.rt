@@ -1,6 +1,8 @@
 //! Laws of roots, for proofs about callers: each call does nothing, and its contract is the law.
 
 ghost use Rattle.std.specs.Prelude.{◌≡◌, ◌↔◌, ◌≤◌, ℕ, true, List, map, length, Contains};
+ghost use Rattle.std.specs.Ordering.{nat_cmp};
+ghost use Rattle.std.specs.Cmp.Lexicographic.{slice_cmp};
 ghost use Rattle.trie_node.specs.Map.{IsMap};
 ghost use Rattle.trie_node.specs.Tree.{Tree, entries};
 ghost use Rattle.trie_node.specs.Shape.{Nodes, nodes, plain, is_name, Restamps, NoneAbove};
@@ -29,9 +31,10 @@ pub fn map_determines_root<K: PathKey, V>()
     ensures { (t u : Tree K V) → IsRoot K.cmp K.path_of t → IsRoot K.cmp K.path_of u → map_of K.cmp t ≡ map_of K.cmp u → plain t ≡ plain u }
 {}
 
-/// A root's nodes have the names that the trie of its map has, and no others.
+/// A root's nodes have the names that the trie of its map has, each once, and no others.
 pub fn map_names_nodes<K: PathKey, V>()
-    ensures { (t : Tree K V) → IsRoot K.cmp K.path_of t → (n : List ℕ) → Contains (map (λ x. x.0) (nodes (word_of K.path_of) t)) n ↔ (is_name (word_of K.path_of) (map_of K.cmp t) n ≡ true) }
+    ensures once { (t : Tree K V) → IsRoot K.cmp K.path_of t → IsMap (slice_cmp nat_cmp) (nodes (word_of K.path_of) t) }
+    ensures names { (t : Tree K V) → IsRoot K.cmp K.path_of t → (n : List ℕ) → Contains (map (λ x. x.0) (nodes (word_of K.path_of) t)) n ↔ (is_name (word_of K.path_of) (map_of K.cmp t) n ≡ true) }
 {}
 
 /// Where no node's stamp is above a stamp, a write with that stamp leaves none above it.
