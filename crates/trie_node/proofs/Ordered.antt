@@ -1,5 +1,5 @@
 -- The pairs of a trie stand in the order of their positions, and at one position in the order of their keys.
-use Rattle.std.proofs.Common.{◌≡◌, ℕ, suc, ◌+◌, ◌<◌, ◌≤◌, ◌^◌, Bool, true, false, cond, ◌&&◌, T, List, [], ◌∷◌, ◌++◌, Option, Some, None, is_some, All, refl, sym, ap, ◌∙◌, subst, arith, nat_eq, nat_cmp, eqb-true, append_assoc}
+use Rattle.std.proofs.Common.{◌≡◌, ℕ, ◌+◌, ◌<◌, ◌≤◌, ◌^◌, true, false, cond, T, List, [], ◌∷◌, ◌++◌, Some, is_some, All, refl, sym, ap, ◌∙◌, subst, arith, nat_eq, nat_cmp}
 use Rattle.std.specs.declared.cmp.Ordering.{Ordering}
 use Rattle.std.specs.declared.cmp.Ordering.TheVariants.{Less, Equal, Greater}
 use Rattle.std.specs.Ordering.{eq_by_cmp, is_eq, is_lt, on, then_cmp, ordering_then}
@@ -8,18 +8,16 @@ use Rattle.std.specs.Cmp.Lexicographic.{slice_cmp, nat_list_cmp_total}
 use Rattle.std.specs.FinMap.{find, is_sorted}
 use Rattle.std.specs.FinMap.Entries.{below_all}
 use Rattle.std.specs.List.{starts_with}
-use Rattle.std.proofs.lemmas.Bool.{and_parts}
-use Rattle.std.proofs.lemmas.List.Elements.{All-cons, All-nil, All-head, All-tail, All-append, All-weaker, All-same, filter_passes}
+use Rattle.std.proofs.lemmas.List.Elements.{All-cons, All-nil, All-head, All-tail, All-append, All-weaker, filter_passes}
 use Rattle.hash_path.specs.Digits.{spelled, position}
 use Rattle.hash_path.specs.Laws.{PositionOrder}
-use Rattle.trie_node.specs.Tree.{Tree, branch, bucket, Trees, no_trees, more_trees, digits_of, entries, entries_of_all, IsTrie, AreTries, KeysHaveWord}
-use Rattle.trie_node.specs.Shape.{nodes_below, nodes_of_all, Hangs, AllHang, HasShape}
+use Rattle.trie_node.specs.Tree.{Tree, branch, bucket, Trees, no_trees, more_trees, digits_of, entries, entries_of_all, IsTrie, AreTries}
+use Rattle.trie_node.specs.Shape.{Hangs, AllHang, HasShape}
 use Rattle.trie_node.specs.Order.{by_position, walked}
 use Rattle.trie_node.specs.Roots.{IsRoot, map_of, word_of}
 use Rattle.trie_node.proofs.Finds.{found_first, found_later}
 use Rattle.trie_node.proofs.Hangs.{shape_hangs}
 use Rattle.trie_node.proofs.Listings.{listed_as}
-use Rattle.trie_node.proofs.Passing.{begins_itself}
 use Rattle.trie_node.proofs.Roots.{root_is_trie, find_entries}
 use Rattle.trie_node.proofs.Unique.{Rising, rises, rising_more}
 use Rattle.trie_node.proofs.InOrder.{starts_shorter, digits_less, both, left_of, right_of, below_those, sorted_append}
