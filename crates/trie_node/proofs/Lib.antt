@@ -22,3 +22,4 @@ pub mod Roots
 pub mod Names
 pub mod InOrder
 pub mod Ordered
+pub mod Counts

@@ -10,3 +10,4 @@ pub mod Conditions
 pub mod Changes
 pub mod Removals
 pub mod Order
+pub mod Counts

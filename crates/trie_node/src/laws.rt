@@ -1,11 +1,12 @@
 //! Laws of roots, for proofs about callers: each call does nothing, and its contract is the law.
 
-ghost use Rattle.std.specs.Prelude.{◌≡◌, ◌↔◌, ◌≤◌, ℕ, true, List, map, length, Contains};
+ghost use Rattle.std.specs.Prelude.{◌≡◌, ◌↔◌, ◌+◌, ◌*◌, ◌≤◌, ℕ, true, List, map, length, Contains};
 ghost use Rattle.std.specs.Ordering.{nat_cmp};
 ghost use Rattle.std.specs.Cmp.Lexicographic.{slice_cmp};
 ghost use Rattle.trie_node.specs.Map.{IsMap};
 ghost use Rattle.trie_node.specs.Tree.{Tree, entries};
 ghost use Rattle.trie_node.specs.Shape.{Nodes, nodes, plain, is_name, Restamps, NoneAbove};
+ghost use Rattle.trie_node.specs.Counts.{node_count, HasPairs};
 ghost use Rattle.trie_node.specs.Order.{walked};
 ghost use Rattle.trie_node.specs.Roots.{IsRoot, map_of, word_of};
 
@@ -25,6 +26,13 @@ pub fn root_walks_in_order<K: PathKey, V>()
 {
     positions_follow_digits();
 }
+
+/// A root has at most one node and seven more for each of its pairs, and no leaf without a pair.
+pub fn root_has_few_nodes<K: PathKey, V>()
+    ensures few { (t : Tree K V) → IsRoot K.cmp K.path_of t → node_count t ≤ 7 * length (map_of K.cmp t) + 1 }
+    ensures pairs { (t : Tree K V) → IsRoot K.cmp K.path_of t → HasPairs t }
+    ensures all { (t : Tree K V) → IsRoot K.cmp K.path_of t → length (nodes (word_of K.path_of) t) ≡ node_count t }
+{}
 
 /// Roots of one map are one tree, stamps aside.
 pub fn map_determines_root<K: PathKey, V>()
