@@ -63,7 +63,7 @@ module _ {K V : Type 0} (R : K → K → Ordering) (total : IsTotalOrder R) (exa
     pub tells_two_words : ((k : K) → path k < 2 ^ 32) → (es : List (K × V)) → HasTwoWords R path es → has_two_words (word_of path) es ≡ true
     tells_two_words small es (q, (r, (q_in, r_in, ne))) =
         found_passes (λ a. list_any (λ b. not (bytes_eq (word_of path a) (word_of path b.0))) es) es q q_in
-          (found_passes (λ b. not (bytes_eq (word_of path q) (word_of path b))) es r r_in (other_words path small q r ne))
+        (found_passes (λ b. not (bytes_eq (word_of path q) (word_of path b))) es r r_in (other_words path small q r ne))
 
     pub two_words_told : (es : List (K × V)) → has_two_words (word_of path) es ≡ true → HasTwoWords R path es
     two_words_told es any =

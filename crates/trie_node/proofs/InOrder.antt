@@ -75,5 +75,5 @@ module _ {K V : Type 0} (S : K → K → Ordering) where
   sorted_append [] ys g h below = h
   sorted_append (x ∷ xs) ys g h below =
       both (below_all S x.0 (xs ++ ys)) (is_sorted S (xs ++ ys))
-        (below_append x.0 xs ys (left_of (below_all S x.0 xs) (is_sorted S xs) g) (All-head (λ e. T (below_all S e.0 ys)) x xs below))
-        (sorted_append xs ys (right_of (below_all S x.0 xs) (is_sorted S xs) g) h (All-tail (λ e. T (below_all S e.0 ys)) x xs below))
+      (below_append x.0 xs ys (left_of (below_all S x.0 xs) (is_sorted S xs) g) (All-head (λ e. T (below_all S e.0 ys)) x xs below))
+      (sorted_append xs ys (right_of (below_all S x.0 xs) (is_sorted S xs) g) h (All-tail (λ e. T (below_all S e.0 ys)) x xs below))

@@ -108,8 +108,8 @@ module _ {K V : Type 0} (R : K → K → Ordering) (path : K → ℕ) (total : I
       nodes_named (bucket s (e ∷ es)) p h =
           let found = found_beginning p e.0 (ap (λ xs. is_some (find R e.0 xs)) h.1 ∙ ap is_some (found_first R total exact e es)) in
           All-cons Named (word_of path e.0, s) []
-            (or_right (is_branch (word_of path) m (word_of path e.0)) _ (found_passes R total exact (λ k. bytes_eq (word_of path k) (word_of path e.0)) m e.0 found ((bytes_eq-Decides (word_of path e.0) (word_of path e.0)).1 refl)))
-            (All-nil Named)
+          (or_right (is_branch (word_of path) m (word_of path e.0)) _ (found_passes R total exact (λ k. bytes_eq (word_of path k) (word_of path e.0)) m e.0 found ((bytes_eq-Decides (word_of path e.0) (word_of path e.0)).1 refl)))
+          (All-nil Named)
 
       all_nodes_named : (ts : Trees K V) (p ds : List ℕ) → AllHang (word_of path) m p ds ts → All Named (nodes_of_all (word_of path) p ds ts)
       all_nodes_named ts p [] h = All-nil Named
@@ -121,17 +121,17 @@ module _ {K V : Type 0} (R : K → K → Ordering) (path : K → ℕ) (total : I
     named_word n any =
         let found = passes_found R total exact (λ k. bytes_eq (word_of path k) n) (map_of R t) any in
         subst (Contains (names (nodes (word_of path) t))) ((bytes_eq-Decides (word_of path found.0) n).0 found.2)
-          (word_named t [] 0 (root_is_trie R path total exact small t root) found.0 (ap is_some (find_entries R path total t found.0) ∙ found.1))
+        (word_named t [] 0 (root_is_trie R path total exact small t root) found.0 (ap is_some (find_entries R path total t found.0) ∙ found.1))
 
     -- a name stands among a root's nodes exactly where the map's trie has it
     pub names_are : (n : List ℕ) → Contains (names (nodes (word_of path) t)) n ↔ (is_name (word_of path) (map_of R t) n ≡ true)
     names_are n = (
-        λ c. All-contains (λ x. is_name (word_of path) (map_of R t) x ≡ true) (names (nodes (word_of path) t)) n
+      λ c. All-contains (λ x. is_name (word_of path) (map_of R t) x ≡ true) (names (nodes (word_of path) t)) n
           (All-map (λ x. is_name (word_of path) (map_of R t) x ≡ true) (λ x. x.0) (nodes (word_of path) t) (nodes_named (map_of R t) t [] (shape_hangs (word_of path) (map_of R t) t root))) c,
-        λ e. elim (cases_Bool (is_branch (word_of path) (map_of R t) n)) as (λ _. Contains (names (nodes (word_of path) t)) n) [
-          | inl b ↦ branch_named (word_of path) t [] n ((branches (word_of path) (map_of R t) t root n).1 b)
-          | inr b ↦ named_word n (sym (ap (λ x. x || list_any (λ e. bytes_eq (word_of path e.0) n) (map_of R t)) b) ∙ e)
-        ],
+      λ e. elim (cases_Bool (is_branch (word_of path) (map_of R t) n)) as (λ _. Contains (names (nodes (word_of path) t)) n) [
+        | inl b ↦ branch_named (word_of path) t [] n ((branches (word_of path) (map_of R t) t root n).1 b)
+        | inr b ↦ named_word n (sym (ap (λ x. x || list_any (λ e. bytes_eq (word_of path e.0) n) (map_of R t)) b) ∙ e)
+      ],
     )
 
 -- The names stand in the order of a dictionary, so none stands twice.
@@ -151,27 +151,27 @@ module _ {K V : Type 0} (word : K → List ℕ) (m : List (K × V)) where
     names_begin : (t : Tree K V) (p : List ℕ) → Hangs word m p t → All (NameBegins p) (nodes_below word p t)
     names_begin (branch s n b ts) p h =
         All-cons (NameBegins p) (p, s) (nodes_of_all word p (digits_of b) ts) (begins_itself p)
-          (All-weaker (NameFrom p 0) (NameBegins p) (λ n x. starts_shorter n.0 p (x.0 ∷ []) x.2) (nodes_of_all word p (digits_of b) ts) (names_begin_from ts p (digits_of b) 0 (rises b) h.1))
+        (All-weaker (NameFrom p 0) (NameBegins p) (λ n x. starts_shorter n.0 p (x.0 ∷ []) x.2) (nodes_of_all word p (digits_of b) ts) (names_begin_from ts p (digits_of b) 0 (rises b) h.1))
     names_begin (bucket s []) p h = All-nil (NameBegins p)
     names_begin (bucket s (e ∷ es)) p h =
         All-cons (NameBegins p) (word e.0, s) [] (All-head (λ x. starts_with nat_eq (word x.0) p ≡ true) e es (subst (All (λ x. starts_with nat_eq (word x.0) p ≡ true)) h.1 (filter_passes (λ x. starts_with nat_eq (word x.0) p) m)))
-          (All-nil (NameBegins p))
+        (All-nil (NameBegins p))
 
     names_begin_from : (ts : Trees K V) (p ds : List ℕ) (low : ℕ) → Rising low ds → AllHang word m p ds ts → All (NameFrom p low) (nodes_of_all word p ds ts)
     names_begin_from ts p [] low r h = All-nil (NameFrom p low)
     names_begin_from no_trees p (d ∷ ds) low r h = All-nil (NameFrom p low)
     names_begin_from (more_trees t ts) p (d ∷ ds) low r h =
         All-append (NameFrom p low) (nodes_below word (p ++ d ∷ []) t) (nodes_of_all word p ds ts)
-          (All-weaker (NameBegins (p ++ d ∷ [])) (NameFrom p low) (λ n x. (d, r.0, x)) (nodes_below word (p ++ d ∷ []) t) (names_begin t (p ++ d ∷ []) h.0))
-          (names_begin_from ts p ds low (rising_more low (d + 1) ds (omega (arith, r.0)) r.1) h.1)
+        (All-weaker (NameBegins (p ++ d ∷ [])) (NameFrom p low) (λ n x. (d, r.0, x)) (nodes_below word (p ++ d ∷ []) t) (names_begin t (p ++ d ∷ []) h.0))
+        (names_begin_from ts p ds low (rising_more low (d + 1) ds (omega (arith, r.0)) r.1) h.1)
 
   mutual
     pub names_sorted : (t : Tree K V) (p : List ℕ) → Hangs word m p t → T (is_sorted (slice_cmp nat_cmp) (nodes_below word p t))
     names_sorted (branch s n b ts) p h =
         both (below_all (slice_cmp nat_cmp) p (nodes_of_all word p (digits_of b) ts)) (is_sorted (slice_cmp nat_cmp) (nodes_of_all word p (digits_of b) ts))
-          (below_those (slice_cmp nat_cmp) p (nodes_of_all word p (digits_of b) ts)
-            (All-weaker (NameFrom p 0) (λ n. slice_cmp nat_cmp p n.0 ≡ Less) (λ n x. prefix_less n.0 p x.0 x.2) (nodes_of_all word p (digits_of b) ts) (names_begin_from ts p (digits_of b) 0 (rises b) h.1)))
-          (all_names_sorted ts p (digits_of b) 0 (rises b) h.1)
+        (below_those (slice_cmp nat_cmp) p (nodes_of_all word p (digits_of b) ts)
+        (All-weaker (NameFrom p 0) (λ n. slice_cmp nat_cmp p n.0 ≡ Less) (λ n x. prefix_less n.0 p x.0 x.2) (nodes_of_all word p (digits_of b) ts) (names_begin_from ts p (digits_of b) 0 (rises b) h.1)))
+        (all_names_sorted ts p (digits_of b) 0 (rises b) h.1)
     names_sorted (bucket s []) p h = tt
     names_sorted (bucket s (e ∷ es)) p h = tt
 
@@ -181,9 +181,9 @@ module _ {K V : Type 0} (word : K → List ℕ) (m : List (K × V)) where
     all_names_sorted (more_trees t ts) p (d ∷ ds) low r h =
         let after = names_begin_from ts p ds (d + 1) r.1 h.1 in
         let below : (n : List ℕ × ℕ) → NameBegins (p ++ d ∷ []) n → T (below_all (slice_cmp nat_cmp) n.0 (nodes_of_all word p ds ts)) =
-              λ n first. below_those (slice_cmp nat_cmp) n.0 (nodes_of_all word p ds ts) (All-weaker (NameFrom p (d + 1)) (λ x. slice_cmp nat_cmp n.0 x.0 ≡ Less) (λ x second. lesser_name p d n x first second) (nodes_of_all word p ds ts) after) in
+        λ n first. below_those (slice_cmp nat_cmp) n.0 (nodes_of_all word p ds ts) (All-weaker (NameFrom p (d + 1)) (λ x. slice_cmp nat_cmp n.0 x.0 ≡ Less) (λ x second. lesser_name p d n x first second) (nodes_of_all word p ds ts) after) in
         sorted_append (slice_cmp nat_cmp) (nodes_below word (p ++ d ∷ []) t) (nodes_of_all word p ds ts) (names_sorted t (p ++ d ∷ []) h.0) (all_names_sorted ts p ds (d + 1) r.1 h.1)
-          (All-weaker (NameBegins (p ++ d ∷ [])) (λ n. T (below_all (slice_cmp nat_cmp) n.0 (nodes_of_all word p ds ts))) below (nodes_below word (p ++ d ∷ []) t) (names_begin t (p ++ d ∷ []) h.0))
+        (All-weaker (NameBegins (p ++ d ∷ [])) (λ n. T (below_all (slice_cmp nat_cmp) n.0 (nodes_of_all word p ds ts))) below (nodes_below word (p ++ d ∷ []) t) (names_begin t (p ++ d ∷ []) h.0))
 
 module _ {K V : Type 0} (R : K → K → Ordering) (path : K → ℕ) where
   -- the nodes of a root are a map from names to stamps

@@ -46,22 +46,22 @@ module _ {K V : Type 0} (R : K → K → Ordering) (path : K → ℕ) where
       let same : word_of path k ≡ word_of path e.0 = here ∙ sym (All-head (λ x. word_of path x.0 ≡ w) e es all) in
       let tied : slice_cmp nat_cmp (word_of path k) (word_of path e.0) ≡ Equal = ap (λ v. slice_cmp nat_cmp (word_of path k) v) (sym same) ∙ tied_itself nat_list_cmp_total (word_of path k) in
       both (is_lt (by_word R path k e.0)) (below_all (by_word R path) k es)
-        (subst T (ap (λ r. is_lt (ordering_then r (R k e.0))) (sym tied)) (left_of (is_lt (R k e.0)) (below_all R k es) h))
-        (of_one_word w k es here (All-tail (λ x. word_of path x.0 ≡ w) e es all) (right_of (is_lt (R k e.0)) (below_all R k es) h))
+      (subst T (ap (λ r. is_lt (ordering_then r (R k e.0))) (sym tied)) (left_of (is_lt (R k e.0)) (below_all R k es) h))
+      (of_one_word w k es here (All-tail (λ x. word_of path x.0 ≡ w) e es all) (right_of (is_lt (R k e.0)) (below_all R k es) h))
 
   one_word_sorted : (w : List ℕ) (es : List (K × V)) → All (λ e. word_of path e.0 ≡ w) es → T (is_sorted R es) → T (is_sorted (by_word R path) es)
   one_word_sorted w [] all h = tt
   one_word_sorted w (e ∷ es) all h =
       both (below_all (by_word R path) e.0 es) (is_sorted (by_word R path) es)
-        (of_one_word w e.0 es (All-head (λ x. word_of path x.0 ≡ w) e es all) (All-tail (λ x. word_of path x.0 ≡ w) e es all) (left_of (below_all R e.0 es) (is_sorted R es) h))
-        (one_word_sorted w es (All-tail (λ x. word_of path x.0 ≡ w) e es all) (right_of (below_all R e.0 es) (is_sorted R es) h))
+      (of_one_word w e.0 es (All-head (λ x. word_of path x.0 ≡ w) e es all) (All-tail (λ x. word_of path x.0 ≡ w) e es all) (left_of (below_all R e.0 es) (is_sorted R es) h))
+      (one_word_sorted w es (All-tail (λ x. word_of path x.0 ≡ w) e es all) (right_of (below_all R e.0 es) (is_sorted R es) h))
 
   module _ (total : IsTotalOrder R) (exact : (x y : K) → R x y ≡ Equal → x ≡ y) where
     all_found : (es : List (K × V)) → All (λ e. is_some (find R e.0 es) ≡ true) es
     all_found [] = All-nil (λ (e : K × V). is_some {T = V} (find R e.0 []) ≡ true)
     all_found (e ∷ es) =
         All-cons (λ x. is_some (find R x.0 (e ∷ es)) ≡ true) e es (ap is_some (found_first R total exact e es))
-          (All-weaker (λ x. is_some (find R x.0 es) ≡ true) (λ x. is_some (find R x.0 (e ∷ es)) ≡ true) (λ x h. found_later R total exact x.0 e es h) es (all_found es))
+        (All-weaker (λ x. is_some (find R x.0 es) ≡ true) (λ x. is_some (find R x.0 (e ∷ es)) ≡ true) (λ x h. found_later R total exact x.0 e es h) es (all_found es))
 
     module _ (m : List (K × V)) where
       mutual
@@ -75,8 +75,8 @@ module _ {K V : Type 0} (R : K → K → Ordering) (path : K → ℕ) where
         all_begin_from (more_trees t ts) p level [] low r i h = absurd i
         all_begin_from (more_trees t ts) p level (d ∷ ds) low r i h =
             All-append (BeginsFrom path p low) (entries t) (entries_of_all ts)
-              (All-weaker (Begins path (p ++ d ∷ [])) (BeginsFrom path p low) (λ e x. (d, r.0, x)) (entries t) (all_begin t (p ++ d ∷ []) (level + 1) i.1 h.0))
-              (all_begin_from ts p level ds low (rising_more low (d + 1) ds (omega (arith, r.0)) r.1) i.2 h.1)
+            (All-weaker (Begins path (p ++ d ∷ [])) (BeginsFrom path p low) (λ e x. (d, r.0, x)) (entries t) (all_begin t (p ++ d ∷ []) (level + 1) i.1 h.0))
+            (all_begin_from ts p level ds low (rising_more low (d + 1) ds (omega (arith, r.0)) r.1) i.2 h.1)
 
       mutual
         trie_sorted : (t : Tree K V) (p : List ℕ) (level : ℕ) → IsTrie R path level t → Hangs (word_of path) m p t → T (is_sorted (by_word R path) (entries t))
@@ -91,9 +91,9 @@ module _ {K V : Type 0} (R : K → K → Ordering) (path : K → ℕ) where
         tries_sorted (more_trees t ts) p level (d ∷ ds) low r i h =
             let after = all_begin_from ts p level ds (d + 1) r.1 i.2 h.1 in
             let below : (e : K × V) → Begins path (p ++ d ∷ []) e → T (below_all (by_word R path) e.0 (entries_of_all ts)) =
-                  λ e first. below_those (by_word R path) e.0 (entries_of_all ts) (All-weaker (BeginsFrom path p (d + 1)) (λ x. by_word R path e.0 x.0 ≡ Less) (λ x second. lesser p d e x first second) (entries_of_all ts) after) in
+            λ e first. below_those (by_word R path) e.0 (entries_of_all ts) (All-weaker (BeginsFrom path p (d + 1)) (λ x. by_word R path e.0 x.0 ≡ Less) (λ x second. lesser p d e x first second) (entries_of_all ts) after) in
             sorted_append (by_word R path) (entries t) (entries_of_all ts) (trie_sorted t (p ++ d ∷ []) (level + 1) i.1 h.0) (tries_sorted ts p level ds (d + 1) r.1 i.2 h.1)
-              (All-weaker (Begins path (p ++ d ∷ [])) (λ e. T (below_all (by_word R path) e.0 (entries_of_all ts))) below (entries t) (all_begin t (p ++ d ∷ []) (level + 1) i.1 h.0))
+            (All-weaker (Begins path (p ++ d ∷ [])) (λ e. T (below_all (by_word R path) e.0 (entries_of_all ts))) below (entries t) (all_begin t (p ++ d ∷ []) (level + 1) i.1 h.0))
 
       -- a root's pairs stand in the order of a walk
       pub root_sorted : (t : Tree K V) → IsTrie R path 0 t → HasShape (word_of path) m t → T (is_sorted (by_word R path) (entries t))
@@ -140,5 +140,5 @@ module _ {K V : Type 0} (R : K → K → Ordering) (path : K → ℕ) (total : I
   entries_walked t root =
       let sorted = root_sorted R path total exact (map_of R t) t (root_is_trie R path total exact small t root) root in
       sym (listed_as (by_position R path) (by_position_total R path total exact) (by_position_exact R path total exact) (map_of R t) (entries t)
-        (subst (λ S. T (is_sorted S (entries t))) (by_word_is R path order small) sorted)
-        (λ q. find_by_position R path total exact q (map_of R t) ∙ sym (find_entries R path total t q) ∙ sym (find_by_position R path total exact q (entries t))))
+      (subst (λ S. T (is_sorted S (entries t))) (by_word_is R path order small) sorted)
+      (λ q. find_by_position R path total exact q (map_of R t) ∙ sym (find_entries R path total t q) ∙ sym (find_by_position R path total exact q (entries t))))
