@@ -24,3 +24,6 @@ pub mod Splits
 pub mod Apart
 pub mod Roots
 pub mod Names
+pub mod InOrder
+pub mod Ordered
+pub mod Counts
