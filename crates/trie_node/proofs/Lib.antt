@@ -20,3 +20,4 @@ pub mod Taken
 pub mod Apart
 pub mod Roots
 pub mod Names
+pub mod Shortened
