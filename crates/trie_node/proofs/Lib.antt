@@ -21,3 +21,5 @@ pub mod Apart
 pub mod Roots
 pub mod Names
 pub mod Shortened
+pub mod Opened
+pub mod Removing
