@@ -12,15 +12,15 @@ use Rattle.std.specs.FinMap.Entries.{below_all, where_key, is_sorted-where_key}
 use Rattle.std.proofs.lemmas.List.{get_or-map, get_or_default, length-map}
 use Rattle.std.proofs.lemmas.List.Edits.{length-remove}
 use Rattle.std.proofs.lemmas.List.Elements.{All-cons, All-nil}
-use Rattle.trie_node.specs.Map.{is_other}
+use Rattle.trie_node.specs.Map.{is_other, without}
 use Rattle.trie_node.specs.Tree.{bucket, IsTrie}
 use Rattle.trie_node.specs.Shape.{nodes_below, IsRestamped, Restamps}
-use Rattle.trie_node.specs.Roots.{word_of}
+use Rattle.trie_node.specs.Roots.{listed, word_of}
 use Rattle.trie_node.specs.Writes.{Writes}
 use Rattle.trie_node.specs.Removals.{IsAt, IsOnly}
 use Rattle.trie_node.proofs.Shortened.{remove_only}
 use Rattle.trie_node.proofs.Finds.{found_first}
-use Rattle.trie_node.proofs.Listings.{find_without}
+use Rattle.trie_node.proofs.Listings.{find_without, find_listed, without_listed}
 use Rattle.trie_node.proofs.Passing.{begins_itself}
 use Rattle.trie_node.proofs.Branches.{tied}
 
@@ -130,3 +130,16 @@ pub equal_of_index : (r : Ordering) → (ordering_index r == 1) ≡ true → r �
 equal_of_index Less e = absurd (false≢true e)
 equal_of_index Equal e = refl
 equal_of_index Greater e = absurd (false≢true e)
+
+-- there is nothing to remove without a test where the key is absent
+pub absent_of : {A : Type 0} (o : Option A) → false ≡ (is_some o && true) → o ≡ None
+absent_of (Some x) e = absurd (false≢true e)
+absent_of None e = refl
+
+-- a map without a key that is absent is the map
+pub without_absent : {K V : Type 0} (R : K → K → Ordering) (total : IsTotalOrder R) (exact : (x y : K) → R x y ≡ Equal → x ≡ y) (es : List (K × V)) (k : K) → find R k (listed R es) ≡ None → listed R es ≡ without R (listed R es) k
+without_absent R total exact es k absent = without_listed R total exact es es k (λ q. same q (eq_by_cmp R q k) refl)
+  where
+    same : (q : _) (b : Bool) → eq_by_cmp R q k ≡ b → find R q es ≡ cond b None (find R q es)
+    same q true e = ap (λ x. find R x es) (exact q k (tied (R q k) e)) ∙ sym (find_listed R total es k) ∙ absent
+    same q false e = refl

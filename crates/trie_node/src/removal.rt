@@ -1,10 +1,11 @@
 //! Roots with a pair removed.
 
 ghost use Rattle.std.specs.Prelude.{◌≡◌, ◌&&◌, option_map, is_some, IfOk, IfSome, None, true};
-ghost use Rattle.trie_node.specs.Map.{value_at};
+ghost use Rattle.trie_node.specs.Map.{value_at, without};
 ghost use Rattle.trie_node.specs.Tree.{IsTrie};
 ghost use Rattle.trie_node.specs.View.{tree};
-ghost use Rattle.trie_node.specs.Roots.{IsRoot, map_of};
+ghost use Rattle.trie_node.specs.Roots.{IsRoot, map_of, word_of};
+ghost use Rattle.trie_node.specs.Shape.{nodes, Restamps};
 ghost use Rattle.trie_node.specs.Changes.{IsRemoval};
 ghost use Rattle.trie_node.specs.Removals.{Removes};
 
@@ -101,7 +102,11 @@ pub fn with_removed<K: PathKey + Drop, V: Drop>(
     stamp: Stamp,
 ) -> Result<Node<K, V>, NoMemory>
     requires root { IsRoot K.cmp K.path_of (tree node.now) }
-    ensures removed { IfOk result (λ n. is_some (value_at K.cmp (map_of K.cmp (tree node.now)) key.now) ≡ true → IsRemoval K.cmp K.path_of stamp.0 key.now (tree node.now) (tree n)) }
+    ensures root { IfOk result (λ n. IsRoot K.cmp K.path_of (tree n)) }
+    ensures map { IfOk result (λ n. map_of K.cmp (tree n) ≡ without K.cmp (map_of K.cmp (tree node.now)) key.now) }
+
+    // The nodes of the key's path get the stamp, where the key is there. Else no node changes.
+    ensures stamps { IfOk result (λ n. is_some (value_at K.cmp (map_of K.cmp (tree node.now)) key.now) ≡ true → Restamps stamp.0 (word_of K.path_of key.now) (nodes (word_of K.path_of) (tree node.now)) (nodes (word_of K.path_of) (tree n))) }
     ensures absent { IfOk result (λ n. value_at K.cmp (map_of K.cmp (tree node.now)) key.now ≡ None → tree n ≡ tree node.now) }
 {
     match removed_where(alloc, node, key, stamp, &Always)?.root {
