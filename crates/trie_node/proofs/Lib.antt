@@ -27,3 +27,6 @@ pub mod Names
 pub mod InOrder
 pub mod Ordered
 pub mod Counts
+pub mod Shortened
+pub mod Opened
+pub mod Removing

@@ -11,13 +11,16 @@ mod basics;
 mod condition;
 mod laws;
 mod copies;
+mod drawing;
 mod node;
+mod outcome;
 mod pairs;
 mod put;
 mod reading;
 mod removal;
 mod search;
 mod shown;
+mod taking;
 
 pub use condition::{Always, Condition, IfAbsent, IfEqual, IfPresent};
 pub use laws::{map_determines_root, map_names_nodes, root_has_few_nodes, root_is_map, root_walks_in_order, writes_keep_stamps_below};
