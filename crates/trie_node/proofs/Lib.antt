@@ -28,5 +28,4 @@ pub mod InOrder
 pub mod Ordered
 pub mod Counts
 pub mod Shortened
-pub mod Opened
 pub mod Removing
