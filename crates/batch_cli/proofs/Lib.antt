@@ -6,3 +6,4 @@ pub mod WordLemmas
 pub mod OneFault
 pub mod ScriptLemmas
 pub mod ReadLemmas
+pub mod RunLemmas

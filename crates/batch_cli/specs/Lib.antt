@@ -5,3 +5,6 @@ pub mod Verbs
 pub mod Commands
 pub mod Faults
 pub mod Scripts
+pub mod Replies
+pub mod Events
+pub mod Runs

@@ -40,6 +40,18 @@ impl Key {
         Ok(Some(Key { bytes }))
     }
 
+    /// A copy of the key.
+    ///
+    /// # Errors
+    ///
+    /// Memory for the copy was refused.
+    pub fn try_clone(&self, alloc: Global) -> Result<Key, AllocError>
+        ensures { IfOk result (λ copy. copy ≡ self.now) }
+    {
+        let bytes = Vec::from_slice(alloc, self.as_slice())?;
+        Ok(Key { bytes })
+    }
+
     /// The bytes of the key.
     pub fn as_slice(&self) -> &[u8]
         ensures bytes { result.now ≡ self.now }

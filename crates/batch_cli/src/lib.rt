@@ -4,6 +4,7 @@
 #![tactic(auto)]
 
 mod command;
+mod events;
 mod fault;
 mod fields;
 mod key;
@@ -11,6 +12,8 @@ pub mod law;
 mod line;
 mod lines;
 mod number;
+mod reply;
+mod run;
 mod script;
 mod stop;
 mod verb;
@@ -18,4 +21,6 @@ mod verb;
 pub use command::{Command, CommandLine};
 pub use fault::{Reason, ScriptFault};
 pub use key::Key;
+pub use reply::LineReply;
+pub use run::{RunFault, run_script};
 pub use script::{Script, parse_script};
