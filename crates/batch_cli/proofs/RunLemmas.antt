@@ -55,5 +55,5 @@ answers_more lines text s t u line reply h m =
       answers = h.answers ++ answer ∷ [];
       made = makes_more lines h.answers line answer h.made m.1;
       run = rw (events_more h.answers answer) (run_append s t u (events_of h.answers) m.0 h.run m.2);
-      written = ap (λ (shown : List ℕ). shown ++ line_text line.number reply) h.written ∙ sym (text_more lines h.answers line answer h.made)
+      written = ap (λ (shown : List ℕ). shown ++ line_text line.number reply) h.written ∙ sym (text_more lines h.answers line answer h.made);
     }

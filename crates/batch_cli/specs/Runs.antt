@@ -1,8 +1,10 @@
 -- What is written for a script.
-use Rattle.std.specs.Prelude.{◌≡◌, ℕ, List, [], ◌∷◌, ◌++◌}
+use Rattle.std.specs.Prelude.{◌≡◌, ℕ, List, [], ◌∷◌, ◌++◌, Option}
+use Rattle.std.specs.Io.KnownBytes.{Appends}
 use Rattle.std.specs.List.{flat_map}
 use Rattle.handles.specs.Machine.{nothing}
 use Rattle.batch_cli.specs.Replies.{line_text}
+use Rattle.batch_cli.specs.Scripts.{Spells}
 use Rattle.batch_cli.specs.Events.{ProgramState, Event, Makes, IsRun}
 use Rattle.batch_cli.specs.declared.command.CommandLine.{CommandLine}
 use Rattle.batch_cli.specs.declared.reply.LineReply.{LineReply}
@@ -41,3 +43,7 @@ start = nothing (record { pairs = 16777216; entries = 1048576 })
 -- the text has the replies of the script in some run of the machine from no handles
 abbrev pub IsOutputOf : List CommandLine → List ℕ → Type 0
 IsOutputOf script text = (end : ProgramState) × Answers script text start end
+
+-- the text spells a script, and a writer that held the old bytes has its output behind them
+abbrev pub RunsText : List ℕ → Option (List ℕ) → Option (List ℕ) → Type 0
+RunsText text old new = (script : List CommandLine) × Spells text script × (output : List ℕ) × IsOutputOf script output × Appends old new output

@@ -3,6 +3,7 @@
 //! A script is read by [`parse_script`].
 #![tactic(auto)]
 
+mod arguments;
 mod command;
 mod events;
 mod fault;
@@ -15,12 +16,17 @@ mod number;
 mod reply;
 mod run;
 mod script;
+mod status;
 mod stop;
 mod verb;
+mod words;
 
+pub use arguments::{ArgFault, Options};
 pub use command::{Command, CommandLine};
 pub use fault::{Reason, ScriptFault};
 pub use key::Key;
 pub use reply::LineReply;
 pub use run::{RunFault, run_script};
 pub use script::{Script, parse_script};
+pub use status::execute;
+pub use words::options;
