@@ -1,6 +1,5 @@
 pub mod Views
 pub mod Empty
-pub mod Walks
 pub mod Appended
 pub mod Bits
 pub mod Tries
@@ -28,5 +27,4 @@ pub mod InOrder
 pub mod Ordered
 pub mod Counts
 pub mod Shortened
-pub mod Opened
 pub mod Removing
