@@ -8,6 +8,7 @@ use crate::{NoMemory, Refusal, Version};
 use generation::Source;
 use hash_path::PathKey;
 use std::alloc::Global;
+use std::process::Abort;
 use std::sync::Arc;
 use std::test::Fail;
 use test_keys::{ByteKey, ChosenKey};
@@ -53,7 +54,7 @@ fn put<K: PathKey + Drop>(
 
 // A fork of the version.
 fn fork<K: PathKey + Drop>(
-    rt: &HostRuntime,
+    rt: &impl Abort,
     version: &mut Version<K, i64>,
     source: &mut Source,
 ) -> Result<Version<K, i64>, Fail> {
