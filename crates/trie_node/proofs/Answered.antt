@@ -1,5 +1,5 @@
 -- What a write under a condition answers, from what it answers one level below.
-use Rattle.std.proofs.Common.{◌≡◌, ℕ, ◌+◌, Bool, true, false, Option, Some, None, is_some, refl, sym, ap, ◌∙◌, subst, IfSome}
+use Rattle.std.proofs.Common.{◌≡◌, ℕ, ◌+◌, Bool, true, false, Option, Some, None, is_some, option_map, refl, sym, ap, ◌∙◌, subst, IfSome}
 use Rattle.std.specs.declared.cmp.Ordering.{Ordering}
 use Rattle.std.specs.FinMap.{find}
 use Rattle.trie_node.specs.Tree.{Tree, entries}
@@ -25,3 +25,12 @@ module _ {K V : Type 0} (R : K → K → Ordering) (path : K → ℕ) (level sta
 
     pub raised : (u : Tree K V) → new ≡ Some u → (t : Tree K V) → Writes R path level stamp k given old t → WritesWhere R path level stamp k given holds old previous (Some t)
     raised u some t writes = record { previous_is = w.previous_is ∙ sym same; written = ap is_some (sym some) ∙ w.written ∙ ap holds (sym same); writes = writes }
+
+-- what holds of the value that an option has, after a function
+pub is_some_mapped : {A B : Type 0} (f : A → B) (o : Option A) → is_some o ≡ is_some (option_map f o)
+is_some_mapped f (Some x) = refl
+is_some_mapped f None = refl
+
+pub if_some_mapped : {A B : Type 0} (f : A → B) (o : Option A) (P : B → Type 0) (Q : A → Type 0) → ((x : A) → P (f x) → Q x) → IfSome (option_map f o) P → IfSome o Q
+if_some_mapped f (Some x) P Q h p = h x p
+if_some_mapped f None P Q h p = tt

@@ -1,6 +1,5 @@
 pub mod Views
 pub mod Empty
-pub mod Walks
 pub mod Appended
 pub mod Bits
 pub mod Tries

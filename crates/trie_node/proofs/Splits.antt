@@ -91,10 +91,10 @@ module _ {K V : Type 0} (R : K → K → Ordering) (path : K → ℕ) (total : I
 
   near_lone : IsNearlyTrie R path level lone
   near_lone = (
-      within,
-      omega arith,
-      ap length (sym (append-nil es)),
-      subst (λ ds. AreTries R path level ds (trees (bucket before es ∷ []))) (sym (digits_of_one d small)) ((λ q found. ap (λ x. digit x level) (words q found) ∙ there), (omega arith, trie.1, trie.2, trie.3), tt),
+    within,
+    omega arith,
+    ap length (sym (append-nil es)),
+    subst (λ ds. AreTries R path level ds (trees (bucket before es ∷ []))) (sym (digits_of_one d small)) ((λ q found. ap (λ x. digit x level) (words q found) ∙ there), (omega arith, trie.1, trie.2, trie.3), tt),
   )
 
   nodes_lone : (p : List ℕ) → nodes_below (word_of path) p lone ≡ (p, 0) ∷ nodes_below (word_of path) p (bucket before es)
@@ -115,12 +115,17 @@ module _ {K V : Type 0} (R : K → K → Ordering) (path : K → ℕ) (total : I
       of_first [] have some f = absurd (omega arith)
       of_first (x ∷ xs) have some f =
           let first : is_some (find R x.0 (x ∷ xs)) ≡ true = ap is_some (found_first R total exact x xs) in
-          let tie : eq_by_cmp R k k ≡ true = ap is_eq (tied_itself total k) in
-          (x.0, (k, (
-              ap is_some (f x.0) ∙ still (eq_by_cmp R x.0 k) (find R x.0 (x ∷ xs)) first,
-              ap is_some (f k) ∙ ap (λ b. is_some (cond b (Some v) (find R k (x ∷ xs)))) tie,
-              λ same. apart (sym (have x.0 first) ∙ same),
-          )))
+          let tie : eq_by_cmp R k k ≡ true = ap is_eq (tied_itself total k) in (
+            x.0,
+            (
+              k,
+              (
+                ap is_some (f x.0) ∙ still (eq_by_cmp R x.0 k) (find R x.0 (x ∷ xs)) first,
+                ap is_some (f k) ∙ ap (λ b. is_some (cond b (Some v) (find R k (x ∷ xs)))) tie,
+                λ same. apart (sym (have x.0 first) ∙ same),
+              ),
+            ),
+          )
 
   -- what is true of it is true of the leaf or bucket
   of_lone : (new : Tree K V) → Changes R path level stamp k (Some v) lone new → Writes R path level stamp k (Some v) (bucket before es) new
@@ -135,7 +140,7 @@ module _ {K V : Type 0} (R : K → K → Ordering) (path : K → ℕ) (total : I
         most = omega (arith, made.most, same);
         stamps = λ p deep on.
             restamps_under stamp (word_of path k) p 0 (nodes_below (word_of path) p (bucket before es)) (nodes_below (word_of path) p new) on
-              (subst (λ ns. Restamps stamp (word_of path k) ns (nodes_below (word_of path) p new)) (nodes_lone p) (c.stamps p deep on));
+            (subst (λ ns. Restamps stamp (word_of path k) ns (nodes_below (word_of path) p new)) (nodes_lone p) (c.stamps p deep on));
       }
 
   -- the place of a leaf of another digit is before or behind it
@@ -147,7 +152,7 @@ module _ {K V : Type 0} (R : K → K → Ordering) (path : K → ℕ) (total : I
       new ≡ branch stamp (length es + 1) (bit_or (one_digit d) (one_digit e)) (trees (insert (bucket before es ∷ []) (count_ones (one_digit d % 2 ^ e)) (bucket stamp ((k, v) ∷ [])))) → Writes R path level stamp k (Some v) (bucket before es) new
   puts_beside e here below ne new made =
       of_lone new (nearly_added R path total exact level stamp k (Some v) e here below 0 (length es) (one_digit d) (bucket before es ∷ []) lone refl near_lone (one_digit_other d e small ne)
-        0 (bucket stamp ((k, v) ∷ [])) (puts_leaf R path total exact (level + 1) stamp 0 k v (omega arith)) (length es + 1) new refl made)
+      0 (bucket stamp ((k, v) ∷ [])) (puts_leaf R path total exact (level + 1) stamp 0 k v (omega arith)) (length es + 1) new refl made)
 
   -- they differ further down: a branch of one child
   pub puts_further : digit (path k) level ≡ d → (u : Tree K V) → Writes R path (level + 1) stamp k (Some v) (bucket before es) u → (new : Tree K V) → new ≡ branch stamp (length (entries u)) (one_digit d) (trees (set (bucket before es ∷ []) 0 u)) →
@@ -156,4 +161,4 @@ module _ {K V : Type 0} (R : K → K → Ordering) (path : K → ℕ) (total : I
       let c = at_child R path level (one_digit d) d small (bucket before es ∷ []) near_lone.3 (one_digit_same d small) in
       let first : 0 ≡ count_ones (one_digit d % 2 ^ d) = omega (arith, c.around.place, c.long, ap length c.whole, length-append c.front (c.child ∷ c.back)) in
       of_lone new (nearly_replaced R path total exact level stamp k (Some v) d here small 0 (length es) (one_digit d) (bucket before es ∷ []) lone refl near_lone (one_digit_same d small)
-        (bucket before es) u (ap (λ i. get_or (bucket before es ∷ []) i (bucket before es)) first) writes (length (entries u)) new (omega arith) (made ∙ ap (λ i. branch stamp (length (entries u)) (one_digit d) (trees (set (bucket before es ∷ []) i u))) first))
+      (bucket before es) u (ap (λ i. get_or (bucket before es ∷ []) i (bucket before es)) first) writes (length (entries u)) new (omega arith) (made ∙ ap (λ i. branch stamp (length (entries u)) (one_digit d) (trees (set (bucket before es ∷ []) i u))) first))

@@ -58,11 +58,22 @@ fn add_leaf<K: Drop, V: Drop>(
     ensures { IfOk result (λ n. tree n ≡ branch entry.stamp.0 (size + 1) (bit_or bitmap (1 * 2 ^ digit % 2 ^ 32)) (trees (insert (map tree children.now) (count_ones (bitmap % 2 ^ digit)) (bucket entry.stamp.0 ((entry.key.value, entry.value.value) ∷ []))))) }
 {
     let Entry {
-        key, value, stamp, ..
+        key,
+        value,
+        stamp,
+        ..
     } = entry;
     let leaf = make_leaf(alloc, stamp, key, value)?;
     let at = place(bitmap, digit);
-    with_more(alloc, stamp, size + 1, bitmap | (1 << digit), children, at, leaf)
+    with_more(
+        alloc,
+        stamp,
+        size + 1,
+        bitmap | (1 << digit),
+        children,
+        at,
+        leaf,
+    )
 }
 
 /// A leaf or bucket of the entry among pairs of its word.
@@ -118,9 +129,24 @@ fn split<K: PathKey + Drop, V: Drop>(
     if old_digit == digit {
         let child = split(alloc, old, old_path, size, entry, level + 1)?;
         let all = count(&child);
-        with_child(alloc, stamp, all, 1 << digit, slice::from_ref(old), 0, child)
+        with_child(
+            alloc,
+            stamp,
+            all,
+            1 << digit,
+            slice::from_ref(old),
+            0,
+            child,
+        )
     } else {
-        add_leaf(alloc, size, 1 << old_digit, slice::from_ref(old), digit, entry)
+        add_leaf(
+            alloc,
+            size,
+            1 << old_digit,
+            slice::from_ref(old),
+            digit,
+            entry,
+        )
     }
 }
 
@@ -228,7 +254,15 @@ fn put_at<'a, K: PathKey + Drop, V: Drop, C: Condition<V>>(
                 });
             };
             let new_size = *old_size + count(&child) - count(old);
-            let root = with_child(alloc, stamp, new_size, *bitmap, children.as_slice(), at, child)?;
+            let root = with_child(
+                alloc,
+                stamp,
+                new_size,
+                *bitmap,
+                children.as_slice(),
+                at,
+                child,
+            )?;
             Ok(Written {
                 root: Some(root),
                 previous,
@@ -246,20 +280,26 @@ fn put_at<'a, K: PathKey + Drop, V: Drop, C: Condition<V>>(
 /// A root with the value put at the key, where the condition holds of the value that the key has.
 /// The old root is unchanged. Where the condition fails, no node is copied.
 pub fn put_where<'a, K: PathKey + Drop, V: Drop, C: Condition<V>>(
-    _alloc: Global,
-    _node: &'a Node<K, V>,
-    _key: Arc<K, Global>,
-    _value: Arc<V, Global>,
-    _stamp: Stamp,
-    _condition: &C,
+    alloc: Global,
+    node: &'a Node<K, V>,
+    key: Arc<K, Global>,
+    value: Arc<V, Global>,
+    stamp: Stamp,
+    condition: &C,
 ) -> Result<Written<'a, K, V>, NoMemory>
-    requires root { IsRoot K.cmp K.path_of (tree _node.now) }
-    requires room { length (map_of K.cmp (tree _node.now)) < 2 ^ 63 }
-    ensures previous { IfOk result (λ w. option_map (λ v. v.now.value) w.previous ≡ value_at K.cmp (map_of K.cmp (tree _node.now)) _key.value) }
-    ensures written { IfOk result (λ w. is_some w.root ≡ C.holds _condition.now (value_at K.cmp (map_of K.cmp (tree _node.now)) _key.value)) }
-    ensures put { IfOk result (λ w. IfSome w.root (λ n. IsPut K.cmp K.path_of _stamp.0 _key.value _value.value (tree _node.now) (tree n))) }
+    requires root { IsRoot K.cmp K.path_of (tree node.now) }
+    requires room { length (map_of K.cmp (tree node.now)) < 2 ^ 63 }
+    ensures previous { IfOk result (λ w. option_map (λ v. v.now.value) w.previous ≡ value_at K.cmp (map_of K.cmp (tree node.now)) key.value) }
+    ensures written { IfOk result (λ w. is_some w.root ≡ C.holds condition.now (value_at K.cmp (map_of K.cmp (tree node.now)) key.value)) }
+    ensures put { IfOk result (λ w. IfSome w.root (λ n. IsPut K.cmp K.path_of stamp.0 key.value value.value (tree node.now) (tree n))) }
 {
-    Err(NoMemory)
+    let entry = Entry {
+        path: key.path(),
+        key,
+        value,
+        stamp,
+    };
+    put_at(alloc, node, entry, 0, condition)
 }
 
 /// A root with the value put at the key. The old root is unchanged.

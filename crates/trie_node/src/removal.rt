@@ -52,11 +52,28 @@ fn remove_at<'a, K: PathKey + Drop, V: Drop, C: Condition<V>>(
                 Removal::Nothing(found) => Ok(Removal::Nothing(found)),
                 Removal::Gone(value) => {
                     let narrower = *bitmap & !(1 << digit);
-                    let rest = without_rest(alloc, stamp, *size - 1, narrower, children.as_slice(), at, level)?;
+                    let rest = without_rest(
+                        alloc,
+                        stamp,
+                        *size - 1,
+                        narrower,
+                        children.as_slice(),
+                        at,
+                        level,
+                    )?;
                     Ok(Removal::Left(rest, value))
                 }
                 Removal::Left(child, value) => {
-                    let rest = with_rest(alloc, stamp, *size - 1, *bitmap, children.as_slice(), at, child, level)?;
+                    let rest = with_rest(
+                        alloc,
+                        stamp,
+                        *size - 1,
+                        *bitmap,
+                        children.as_slice(),
+                        at,
+                        child,
+                        level,
+                    )?;
                     Ok(Removal::Left(rest, value))
                 }
             }

@@ -17,3 +17,6 @@ pub use laws::{law_of_equal_maps, law_of_put, law_of_removal};
 pub use refusal::Refusal;
 pub use trie_node::NoMemory;
 pub use version::{MOST_PAIRS, Version};
+
+#[cfg(test)]
+mod tests;

@@ -23,11 +23,11 @@ returns g c =
     let long = length-map a.children.now tree in
     let longer = length-set (map tree a.children.now) a.at (tree a.child) in
     let kept : drawn_up a.level (branch a.stamp.0 a.size a.bitmap (trees ts)) ≡ branch a.stamp.0 a.size a.bitmap (trees ts) =
-        elim c.else-level-gt0.branch [
-          | else-level-gt0-via-then-level-gt0+then-children-eq1+else-is_pairs w ↦
-              let only = set_only (map tree a.children.now) a.at (tree a.child) (omega (arith, long, w.if-children-eq1.true)) (omega (arith, long, c.requires)) in
-              subst (λ xs. drawn_up a.level (branch a.stamp.0 a.size a.bitmap (trees xs)) ≡ branch a.stamp.0 a.size a.bitmap (trees xs)) (sym only) (drawn_up_branch a.level a.stamp.0 a.size a.bitmap (tree a.child) (sym w.is_pairs.ensures ∙ w.if-is_pairs.false))
-          | else-level-gt0-via-then-level-gt0+else-children-eq1 w ↦ drawn_up_more a.level a.stamp.0 a.size a.bitmap ts (λ one. omega (arith, one, long, longer, w.if-children-eq1.false))
-          | else-level-gt0-via-else-level-gt0 w ↦ drawn_up_root a.level _ (omega (arith, w.if-level-gt0.false))
-        ] in
+    elim c.else-level-gt0.branch [
+      | else-level-gt0-via-then-level-gt0+then-children-eq1+else-is_pairs w ↦
+          let only = set_only (map tree a.children.now) a.at (tree a.child) (omega (arith, long, w.if-children-eq1.true)) (omega (arith, long, c.requires)) in
+          subst (λ xs. drawn_up a.level (branch a.stamp.0 a.size a.bitmap (trees xs)) ≡ branch a.stamp.0 a.size a.bitmap (trees xs)) (sym only) (drawn_up_branch a.level a.stamp.0 a.size a.bitmap (tree a.child) (sym w.is_pairs.ensures ∙ w.if-is_pairs.false))
+      | else-level-gt0-via-then-level-gt0+else-children-eq1 w ↦ drawn_up_more a.level a.stamp.0 a.size a.bitmap ts (λ one. omega (arith, one, long, longer, w.if-children-eq1.false))
+      | else-level-gt0-via-else-level-gt0 w ↦ drawn_up_root a.level _ (omega (arith, w.if-level-gt0.false))
+    ] in
     subst (λ t. IfOk c.with_child.result (λ n. tree n ≡ t)) (sym kept) c.with_child.ensures

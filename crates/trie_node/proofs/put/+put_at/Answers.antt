@@ -54,7 +54,7 @@ returns-then-not-has_digit g t c =
     let none = not_below R path a.level a.node.now b.stamp.0 b.old_size b.bitmap b.children.items o d.result d.ensures.small exact lacks k here in
     let wider = bit_or b.bitmap (1 * 2 ^ d.result % 2 ^ 32) in
     let made : tree n ≡ branch s (b.old_size + 1) wider (trees (insert (map tree b.children.items) (count_ones (b.bitmap % 2 ^ d.result)) (bucket s ((k, v) ∷ [])))) =
-        c.in_ok-root-in-Branch.ensures ∙ ap (λ xs. branch s (b.old_size + 1) wider (trees (insert (map tree xs) (count_ones (b.bitmap % 2 ^ d.result)) (bucket s ((k, v) ∷ []))))) c.as_slice.ensures.value in
+    c.in_ok-root-in-Branch.ensures ∙ ap (λ xs. branch s (b.old_size + 1) wider (trees (insert (map tree xs) (count_ones (b.bitmap % 2 ^ d.result)) (bucket s ((k, v) ∷ []))))) c.as_slice.ensures.value in
     let writes = puts_added R path g.met.K.Ord.total exact a.level s k v d.result here d.ensures.small b.stamp.0 b.old_size b.bitmap (map tree b.children.items) (tree a.node.now) o.is o.trie lacks (bucket s ((k, v) ∷ [])) refl (tree n) made in
     all_written R path a.level s k (Some v) (g.C.Condition.holds a.condition.now) (tree a.node.now) None (sym none) (sym c.holds.ensures ∙ c.if-not-holds.false) (tree n) writes
 
@@ -99,7 +99,7 @@ returns-in_default g t c =
     let here = ap (λ w. digit w a.level) (sym c.requires.path) ∙ sym d.ensures.value in
     let child = below_at R path a.level a.node.now b.stamp.0 b.old_size b.bitmap b.children.items o d.result d.ensures.small g.met.K.PathKey.exact has c.place-at.result c.place-at.ensures old c.index-old.ensures in
     nothing_raised R path a.level a.entry.stamp.0 k (Some a.entry.value.value) (g.C.Condition.holds a.condition.now) (tree a.node.now) (a.level + 1) (tree old) (child.finds k here)
-        (option_map (λ v. v.now.value) found.field-0.previous) (option_map tree found.field-0.root) found.ensures (ap (option_map tree) c.in_default.is)
+    (option_map (λ v. v.now.value) found.field-0.previous) (option_map tree found.field-0.root) found.ensures (ap (option_map tree) c.in_default.is)
 
 pub overflow_add-new_size : goal.overflow_add-new_size
 overflow_add-new_size g t c =
@@ -186,7 +186,7 @@ returns-in_ok-root-in-Branch-3 g t c =
     let size2 = b.old_size + c.size.result - c.size-in-Branch.result in
     let sized : size2 + length (entries (tree old)) ≡ b.old_size + length (entries (tree new)) = omega (arith, more, less, o.counted, child.fewer) in
     let made : tree node ≡ branch s size2 b.bitmap (trees (set (map tree b.children.items) (count_ones (b.bitmap % 2 ^ d.result)) (tree new))) =
-        c.in_ok-root-in-Branch-3.ensures ∙ (λ i. branch s size2 b.bitmap (trees (set (map tree (c.as_slice-in-Branch.ensures.value i)) (c.place-at.ensures i) (tree new)))) in
+    c.in_ok-root-in-Branch-3.ensures ∙ (λ i. branch s size2 b.bitmap (trees (set (map tree (c.as_slice-in-Branch.ensures.value i)) (c.place-at.ensures i) (tree new)))) in
     let at_place = child.at ∙ ap (λ i. get_or (map tree b.children.items) i (tree old)) c.place-at.ensures in
     let writes = puts_replaced R path g.met.K.Ord.total exact a.level s k v d.result here d.ensures.small b.stamp.0 b.old_size b.bitmap (map tree b.children.items) (tree a.node.now) o.is o.trie has (tree old) (tree new) at_place given size2 (tree node) sized made in
     raised R path a.level s k (Some v) holds (tree a.node.now) (a.level + 1) (tree old) (child.finds k here) (option_map (λ v. v.now.value) found.field-0.previous) (option_map tree found.field-0.root) found.ensures (tree new) (ap (option_map tree) c.in-Some.is) (tree node) writes

@@ -110,10 +110,10 @@ returns-in_ok-child g t c =
     let writes : Writes R path (a.level + 1) s k (Some v) (bucket (stamp_of t0) es) u = subst (λ x. Writes R path (a.level + 1) s k (Some v) x u) c.requires.bucket c.in_ok-child.ensures in
     let all : c.size-all.result ≡ length (entries u) = c.size-all.ensures (trie_fits R path (a.level + 1) u writes.trie) in
     on_ok c.with_child.result _ _ (λ n made.
-        subst (λ x. Writes R path a.level s k (Some v) x (tree n)) (sym c.requires.bucket)
-          (puts_further R path g.met.K.Ord.total g.met.K.PathKey.exact a.level s k v (stamp_of t0) es trie a.old_path.0 d.result c.requires.word apart within there d.ensures.small (here ∙ sym c.if-old_digit-digit.true) u writes (tree n)
-            (made ∙ (λ i. branch s (all i) (one_digit (sym c.if-old_digit-digit.true i)) (trees (set (map tree (c.from_ref.ensures.value i)) 0 u)))
-             ∙ ap (λ x. branch s (length (entries u)) (one_digit d.result) (trees (set (x ∷ []) 0 u))) c.requires.bucket))) c.with_child.ensures
+    subst (λ x. Writes R path a.level s k (Some v) x (tree n)) (sym c.requires.bucket)
+    (puts_further R path g.met.K.Ord.total g.met.K.PathKey.exact a.level s k v (stamp_of t0) es trie a.old_path.0 d.result c.requires.word apart within there d.ensures.small (here ∙ sym c.if-old_digit-digit.true) u writes (tree n)
+    (made ∙ (λ i. branch s (all i) (one_digit (sym c.if-old_digit-digit.true i)) (trees (set (map tree (c.from_ref.ensures.value i)) 0 u)))
+    ∙ ap (λ x. branch s (length (entries u)) (one_digit d.result) (trees (set (x ∷ []) 0 u))) c.requires.bucket))) c.with_child.ensures
 
 pub returns-else-old_digit-digit : goal.returns-else-old_digit-digit
 returns-else-old_digit-digit g t c =
@@ -139,7 +139,7 @@ returns-else-old_digit-digit g t c =
     let wider = bit_or (one_digit d.result) (one_digit e.result) in
     let i = count_ones (one_digit d.result % 2 ^ e.result) in
     on_ok c.add_leaf.result _ _ (λ n made.
-        subst (λ x. Writes R path a.level s k (Some v) x (tree n)) (sym c.requires.bucket)
-          (puts_beside R path g.met.K.Ord.total g.met.K.PathKey.exact a.level s k v (stamp_of t0) es trie a.old_path.0 d.result c.requires.word apart within there d.ensures.small e.result here e.ensures.small ne (tree n)
-            (made ∙ (λ j. branch s (c.requires.size j + 1) wider (trees (insert (map tree (c.from_ref-else-old_digit-digit.ensures.value j)) i leaf)))
-             ∙ ap (λ x. branch s (length es + 1) wider (trees (insert (x ∷ []) i leaf))) c.requires.bucket))) c.add_leaf.ensures
+    subst (λ x. Writes R path a.level s k (Some v) x (tree n)) (sym c.requires.bucket)
+    (puts_beside R path g.met.K.Ord.total g.met.K.PathKey.exact a.level s k v (stamp_of t0) es trie a.old_path.0 d.result c.requires.word apart within there d.ensures.small e.result here e.ensures.small ne (tree n)
+    (made ∙ (λ j. branch s (c.requires.size j + 1) wider (trees (insert (map tree (c.from_ref-else-old_digit-digit.ensures.value j)) i leaf)))
+    ∙ ap (λ x. branch s (length es + 1) wider (trees (insert (x ∷ []) i leaf))) c.requires.bucket))) c.add_leaf.ensures
