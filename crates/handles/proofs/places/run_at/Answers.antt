@@ -1,6 +1,6 @@
 use Rattle.std.proofs.Common.{◌≡◌, ◌∙◌, ap, sym, unwrap_or, [], Option, ℕ, arith}
 use Rattle.std.specs.Ordering.{nat_cmp}
-use Rattle.versions.specs.Map.{Map, value_at, with_pair}
+use Rattle.versions.specs.Map.{Map, with_pair}
 use Rattle.versions.specs.Commands as map
 use Rattle.handles.specs.Handles.{live_from, maps_in}
 use Rattle.handles.specs.Views.{command_of, reply_of}
