@@ -10,3 +10,6 @@ mod source;
 
 pub use own::own_nodes;
 pub use source::Source;
+
+#[cfg(test)]
+mod tests;

@@ -42,7 +42,11 @@ impl<K: PathKey + Drop, V: Eq + Drop> Command<K, V> {
     ///
     /// It is refused as `Full` where it would put a new key into a map that holds as many pairs as it may, and as
     /// `NoMemory`. The map is then as before.
-    pub fn run_on(self, alloc: Global, version: &mut Version<K, V>) -> Result<Reply<V>, Refusal>
+    pub(crate) fn run_on(
+        self,
+        alloc: Global,
+        version: &mut Version<K, V>,
+    ) -> Result<Reply<V>, Refusal>
         ensures reply { IfOk result (λ y. reply_of y ≡ reply K.cmp V.eq version.old.entries (command_of self)) }
         ensures map { OnOk result (version.new.entries ≡ after K.cmp V.eq version.old.entries (command_of self)) }
         ensures limit { version.new.limit ≡ version.old.limit }

@@ -12,6 +12,8 @@ mod limits;
 mod places;
 mod reply;
 mod table;
+#[cfg(test)]
+mod tests;
 
 pub use call::Call;
 pub use call_reply::CallReply;

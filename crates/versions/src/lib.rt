@@ -13,7 +13,7 @@ mod room;
 mod version;
 
 pub use change::Change;
-pub use laws::{law_of_equal_maps, law_of_put, law_of_removal};
+pub use laws::{law_of_equal_maps, law_of_names, law_of_put, law_of_removal};
 pub use refusal::Refusal;
 pub use trie_node::NoMemory;
 pub use version::{MOST_PAIRS, Version};

@@ -266,7 +266,7 @@ impl<K: PathKey + Drop, V: Drop> Version<K, V> {
         ensures source_err { OnErr result (source.new ≡ source.old) }
     {
         let root = self.root.try_clone()?;
-        self.stamp = source.next();
+        self.restamp(source);
         Ok(Version {
             root,
             limit: self.limit,
