@@ -1,7 +1,6 @@
 //! The table of handles.
 ghost use Rattle.std.specs.Prelude.{◌≡◌, ◌+◌, ◌<◌, ◌≤◌, IfOk, OnErr, if◌then◌else◌, false, true};
-ghost use Rattle.handles.specs.Machine as Machine;
-ghost use Rattle.handles.specs.Machine.{IsRunOfSome, Run, is_entry, nothing, on, open_handle, snapshot};
+ghost use Rattle.handles.specs.Machine.{IsRunOfSome, Run, drop_handle, is_entry, nothing, on, open_handle, snapshot};
 ghost use Rattle.handles.specs.Views.{AnswersWithoutMemory, IsStep, command_of, lacks_memory, unit_outcome, reply_outcome, call_outcome, outcomes_of, request_of, requests_of, without_queries};
 
 use crate::call::Call;
@@ -139,7 +138,7 @@ impl<K: PathKey + Drop, V: Eq + Drop> Table<K, V> {
     ///
     /// It is refused as `JournalFull`, `BadNumber` or `NoHandle`.
     pub fn drop_handle(&mut self, handle: u32) -> Result<(), Refusal>
-        ensures step { IsStep (without_queries K.cmp V.eq) self.old (Machine.drop_handle handle) unit_outcome result self.new }
+        ensures step { IsStep (without_queries K.cmp V.eq) self.old (drop_handle handle) unit_outcome result self.new }
         ensures memory { lacks_memory result ≡ false }
     {
         if let Some(refusal) = self.refusal_of_use(handle) {

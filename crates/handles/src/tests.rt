@@ -2,7 +2,7 @@
 mod memory;
 mod operations;
 
-use crate::{Call, CallReply, Command, Limits, Reply, Table};
+use crate::{Call, CallReply, Command, Limits, Reply, Table, law_of_other_handles, law_of_refusals};
 use std::alloc::Global;
 use std::sync::Arc;
 use std::test::Fail;
@@ -152,4 +152,10 @@ fn calls_as_values(rt: HostRuntime) -> Result<(), Fail> {
     assert_eq!(rt; answers[0], Ok(CallReply::Reply(Reply::Size(0))));
     assert_eq!(rt; answers[1], Err(Refusal::Taken));
     Ok(())
+}
+
+#[test]
+fn laws_are_calls_that_do_nothing() {
+    law_of_other_handles::<ChosenKey, i64>();
+    law_of_refusals::<ChosenKey, i64>();
 }
