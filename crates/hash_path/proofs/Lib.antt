@@ -1,0 +1,3 @@
+pub mod Weights
+pub mod Spelling
+pub mod Positions

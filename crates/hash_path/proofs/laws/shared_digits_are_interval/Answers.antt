@@ -1,0 +1,8 @@
+use Rattle.hash_path.proofs.Positions.{position-interval, lowest-step}
+use Rattle.hash_path.proofs.laws.shared_digits_are_interval.Goals as goal
+
+pub returns-clause-interval : goal.returns-clause-interval
+returns-clause-interval c = position-interval
+
+pub returns-clause-step : goal.returns-clause-step
+returns-clause-step c = lowest-step

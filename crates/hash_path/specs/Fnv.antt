@@ -1,0 +1,30 @@
+-- The hash FNV-1a of 32 bits, as Glenn Fowler, Landon Curt Noll and Kiem-Phong Vo publish it
+-- (http://www.isthe.com/chongo/tech/comp/fnv/).
+use Rattle.std.specs.Prelude.{ℕ, ◌*◌, ◌%◌, ◌^◌, ◌<◌, List, [], ◌∷◌, bit_xor}
+use Rattle.std.proofs.Common.{lit<}
+use Rattle.std.proofs.lemmas.Nat.{mod_below}
+
+-- where the hash starts
+abbrev pub offset_basis : ℕ
+offset_basis = 2166136261
+
+-- what each step multiplies by
+abbrev pub prime : ℕ
+prime = 16777619
+
+-- the hash of bytes, from a hash so far: for each byte, exclusive or the byte in, then multiply by the prime
+abbrev pub fnv1a_from : ℕ → List ℕ → ℕ
+fnv1a_from h [] = h
+fnv1a_from h (b ∷ bs) = fnv1a_from ((bit_xor h b * prime) % 2 ^ 32) bs
+
+-- the hash of bytes
+abbrev pub fnv1a : List ℕ → ℕ
+fnv1a = fnv1a_from offset_basis
+
+-- each hash has 32 bits
+pub fnv1a-below : (bytes : List ℕ) → fnv1a bytes < 2 ^ 32
+fnv1a-below bytes = from offset_basis bytes (lit< tt)
+  where
+    from : (h : ℕ) (bs : List ℕ) → h < 2 ^ 32 → fnv1a_from h bs < 2 ^ 32
+    from h [] small = small
+    from h (b ∷ bs) small = from ((bit_xor h b * prime) % 2 ^ 32) bs (mod_below (bit_xor h b * prime) (2 ^ 32) (lit< tt))

@@ -1,0 +1,22 @@
+ghost use Rattle.std.specs.Prelude.{◌≡◌, ℕ, ◌<◌, ◌^◌};
+ghost use Rattle.std.specs.declared.cmp.Ordering.TheVariants.{Equal};
+
+use crate::word::Path;
+
+/// A key of a trie map: it has an order and a path word.
+///
+/// Keys that compare equal are one value to contracts, and so have one path word.
+pub trait PathKey: Ord {
+    /// The number of the key's path word.
+    ghost path_of: { Self → ℕ };
+
+    /// The key's path word.
+    fn path(&self) -> Path
+        ensures { result.0 ≡ path_of self.now };
+
+    /// Keys that compare equal are one value.
+    ghost exact: { (a b : Self) → Self.Ord.cmp a b ≡ Equal → a ≡ b };
+
+    /// Each path word has 32 bits.
+    ghost small: { (k : Self) → path_of k < 2 ^ 32 };
+}
