@@ -1,0 +1,7 @@
+use Rattle.handles.specs.Machine.{Run}
+use Rattle.handles.specs.Views.{requests_of, outcomes_of, without_queries}
+use Rattle.handles.proofs.table.Table.run.Given as goal
+
+-- the answers so far are those of a run of the calls so far
+abbrev pub invariant-loop-call : goal.invariant-loop-call
+invariant-loop-call g l = Run (without_queries g.K.Ord.cmp g.V.PartialEq.eq) l.fn.self (requests_of l.yielded) (outcomes_of l.answers.items) l.self

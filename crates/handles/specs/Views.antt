@@ -1,0 +1,104 @@
+-- How the table's calls and their answers appear to the machine.
+use Rattle.std.specs.Prelude.{◌≡◌, ℕ, Bool, List, [], Option, None, option_map, Result, Ok, Err, map, true, false}
+use Rattle.std.specs.Arc.{arc_value}
+use Rattle.std.specs.declared.cmp.Ordering.{Ordering}
+use Rattle.versions.specs.Map.{Map}
+use Rattle.versions.specs.Commands as commands
+use Rattle.versions.specs.declared.refusal.Refusal.{Refusal}
+use Rattle.versions.specs.declared.refusal.Refusal.TheVariants.{NoMemory}
+use Rattle.handles.specs.declared.command.Command.{Command}
+use Rattle.handles.specs.declared.command.Command.TheVariants.{Get, Put, Size}
+use Rattle.handles.specs.declared.reply.Reply.{Reply}
+use Rattle.handles.specs.declared.reply.Reply.TheVariants as replies
+use Rattle.handles.specs.declared.call.Call.{Call}
+use Rattle.handles.specs.declared.call.Call.TheVariants.{Open, Snapshot, On}
+use Rattle.handles.specs.declared.call_reply.CallReply.{CallReply}
+use Rattle.handles.specs.declared.call_reply.CallReply.TheVariants as call_replies
+use Rattle.handles.specs.Machine.{Kind, State, Request, open_handle, snapshot, on, takes_no_memory, Outcome, Step, made, replied, refused}
+
+-- a command, wherever its key and values lie
+abbrev pub command_of : {K V : Type 0} → Command K V → commands.Command K V
+command_of (Get k) = commands.get (arc_value k)
+command_of (Put k v) = commands.put (arc_value k) (arc_value v)
+command_of Size = commands.size
+
+-- a reply, wherever its value lies
+abbrev pub reply_of : {V : Type 0} → Reply V → commands.Reply V
+reply_of (replies.Old o) = commands.old (option_map arc_value o)
+reply_of (replies.Done b) = commands.done b
+reply_of (replies.Size n) = commands.count n
+reply_of replies.Cleared = commands.cleared
+
+-- no query reserves a number
+abbrev pub no_target : Unit {0} → Option ℕ
+no_target q = None
+
+-- no query has an answer
+abbrev pub no_answer : {K V : Type 0} → Unit {0} → Map K V → Unit {0} → Type 0
+no_answer q m a = ⊥
+
+-- no answer makes a map
+abbrev pub no_map : {K V : Type 0} → Unit {0} → Map K V
+no_map a = []
+
+-- what is told of an answer is the answer
+abbrev pub told_itself : Unit {0} → Unit {0}
+told_itself a = a
+
+-- a machine that knows no query yet
+abbrev pub without_queries : {K V : Type 0} → (K → K → Ordering) → (V → V → Bool) → Kind K V (Unit {0}) (Unit {0}) (Unit {0})
+without_queries R E = record { order = R; equal = E; target = no_target; answers = no_answer; map_of = no_map; told = told_itself }
+
+-- the outcome of a call that opened a handle
+abbrev pub unit_outcome : {K V B : Type 0} → Unit {0} → Outcome K V B
+unit_outcome u = made
+
+-- the outcome of a call that made a command with this reply
+abbrev pub reply_outcome : {K V B : Type 0} → Reply V → Outcome K V B
+reply_outcome y = replied (reply_of y)
+
+-- the request that a call is
+abbrev pub request_of : {K V Q : Type 0} → Call K V → Request K V Q
+request_of (Open h) = open_handle h
+request_of (Snapshot h to) = snapshot h to
+request_of (On h c) = on h (command_of c)
+
+-- the outcome of a call that was answered so
+abbrev pub call_outcome : {K V B : Type 0} → CallReply V → Outcome K V B
+call_outcome call_replies.Unit = made
+call_outcome (call_replies.Reply y) = replied (reply_of y)
+
+-- the outcome of a call with this result
+abbrev pub outcome_of : {K V B : Type 0} → Result (CallReply V) Refusal → Outcome K V B
+outcome_of (Ok y) = call_outcome y
+outcome_of (Err e) = refused e
+
+-- the requests that the calls are
+abbrev pub requests_of : {K V Q : Type 0} → List (Call K V) → List (Request K V Q)
+requests_of calls = map request_of calls
+
+-- the outcomes of calls with these results
+abbrev pub outcomes_of : {K V B : Type 0} → List (Result (CallReply V) Refusal) → List (Outcome K V B)
+outcomes_of answers = map outcome_of answers
+
+-- whether a call failed for want of memory
+abbrev pub lacks_memory : {T : Type 0} → Result T Refusal → Bool
+lacks_memory (Err NoMemory) = true
+lacks_memory _ = false
+
+-- a call is refused for want of memory alone, and not where it takes no memory
+abbrev pub RefusedForMemoryAlone : {T : Type 0} → Result T Refusal → Bool → Type 0
+RefusedForMemoryAlone (Ok x) takes_none = Unit {0}
+RefusedForMemoryAlone (Err NoMemory) takes_none = takes_none ≡ false
+RefusedForMemoryAlone (Err e) takes_none = ⊥
+
+module _ {K V Q A B T : Type 0} (kind : Kind K V Q A B) where
+  -- a call is a step of the machine, with the outcome that its result shows; but for want of memory it changes nothing
+  abbrev pub IsStep : State K V Q → Request K V Q → (T → Outcome K V B) → Result T Refusal → State K V Q → Type 0
+  IsStep s r shown (Ok x) t = Step kind s r (shown x) t
+  IsStep s r shown (Err NoMemory) t = t ≡ s
+  IsStep s r shown (Err e) t = Step kind s r (refused e) t
+
+  -- a call that takes no memory does not fail for want of it
+  abbrev pub AnswersWithoutMemory : Request K V Q → Result T Refusal → Type 0
+  AnswersWithoutMemory r result = takes_no_memory r ≡ true → lacks_memory result ≡ false

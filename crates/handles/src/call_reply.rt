@@ -1,0 +1,11 @@
+//! What a call of a table is answered.
+use crate::reply::Reply;
+
+/// What a call is answered where it is not refused.
+#[derive(Debug, Drop, PartialEq, Eq)]
+pub enum CallReply<V> {
+    /// A handle was opened.
+    Unit,
+    /// A command was made, and this is its reply.
+    Reply(Reply<V>),
+}

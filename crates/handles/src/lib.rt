@@ -1,0 +1,22 @@
+//! A table of maps under handle numbers, each call of which is one step of a machine.
+//!
+//! The machine keeps one plain finite map for each handle that is live, and counts the entries of a journal. Its
+//! states, steps and runs are definitions in `specs/Machine.antt`; the contract of each call of a `Table` is a step.
+#![tactic(auto)]
+
+mod call;
+mod call_reply;
+mod command;
+mod limits;
+mod places;
+mod reply;
+mod table;
+#[cfg(test)]
+mod tests;
+
+pub use call::Call;
+pub use call_reply::CallReply;
+pub use command::Command;
+pub use limits::{Limits, MOST_ENTRIES};
+pub use reply::Reply;
+pub use table::Table;

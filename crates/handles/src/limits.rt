@@ -1,0 +1,13 @@
+//! How much a table may hold.
+
+/// The most entries that a journal may be limited to.
+pub const MOST_ENTRIES: u32 = 1_048_576;
+
+/// How much a table may hold.
+#[derive(Clone, Copy, Debug, PartialEq, Eq)]
+pub struct Limits {
+    /// The pairs of each map, from 1 to `versions::MOST_PAIRS`.
+    pub pairs: u64,
+    /// The entries of the journal, from 2 to `MOST_ENTRIES`.
+    pub entries: u32,
+}

@@ -1,0 +1,148 @@
+//! What calls of a table answer, by hand.
+mod memory;
+
+use crate::{Call, CallReply, Command, Limits, Reply, Table};
+use std::alloc::Global;
+use std::sync::Arc;
+use std::test::Fail;
+use versions::Refusal;
+
+// The largest limits.
+const LARGEST: Limits = Limits {
+    pairs: 16_777_216,
+    entries: 1_048_576,
+};
+
+// Maps the key to the value on the handle.
+fn put(
+    alloc: Global,
+    table: &mut Table<u32, i64>,
+    handle: u32,
+    key: u32,
+    value: i64,
+) -> Result<Reply<i64>, Refusal> {
+    let command = Command::Put(Arc::new(alloc, key)?, Arc::new(alloc, value)?);
+    table.call(alloc, handle, command)
+}
+
+// Asks for the value of the key on the handle.
+fn get(
+    alloc: Global,
+    table: &mut Table<u32, i64>,
+    handle: u32,
+    key: u32,
+) -> Result<Reply<i64>, Refusal> {
+    let command = Command::Get(Arc::new(alloc, key)?);
+    table.call(alloc, handle, command)
+}
+
+// The reply that there was no value.
+fn none() -> Result<Reply<i64>, Refusal> {
+    Ok(Reply::Old(None))
+}
+
+// The reply that there was this value.
+fn some(alloc: Global, value: i64) -> Result<Reply<i64>, Refusal> {
+    Ok(Reply::Old(Some(Arc::new(alloc, value)?)))
+}
+
+#[test]
+fn a_put_answers_the_value_before(rt: HostRuntime) -> Result<(), Fail> {
+    let alloc = rt.alloc();
+    let mut table = Table::new(alloc, LARGEST)?;
+    assert_eq!(rt; table.entries(), 0);
+    assert_eq!(rt; table.open(alloc, 1), Ok(()));
+    assert_eq!(rt; put(alloc, &mut table, 1, 97, 5), none());
+    assert_eq!(rt; put(alloc, &mut table, 1, 97, 7), some(alloc, 5));
+    assert_eq!(rt; get(alloc, &mut table, 1, 97), some(alloc, 7));
+    assert_eq!(rt; table.call(alloc, 1, Command::Size), Ok(Reply::Size(1)));
+    assert_eq!(rt; table.entries(), 5);
+    Ok(())
+}
+
+#[test]
+fn a_snapshot_keeps_its_pairs(rt: HostRuntime) -> Result<(), Fail> {
+    let alloc = rt.alloc();
+    let mut table = Table::new(alloc, LARGEST)?;
+    table.open(alloc, 1)?;
+    assert_eq!(rt; put(alloc, &mut table, 1, 97, 1), none());
+    assert_eq!(rt; table.snapshot(1, 2), Ok(()));
+    assert_eq!(rt; put(alloc, &mut table, 1, 97, 9), some(alloc, 1));
+    assert_eq!(rt; get(alloc, &mut table, 2, 97), some(alloc, 1));
+    assert_eq!(rt; table.snapshot(2, 3), Ok(()));
+    assert_eq!(rt; get(alloc, &mut table, 3, 97), some(alloc, 1));
+    Ok(())
+}
+
+#[test]
+fn handles_that_are_refused(rt: HostRuntime) -> Result<(), Fail> {
+    let alloc = rt.alloc();
+    let mut table = Table::new(alloc, LARGEST)?;
+    assert_eq!(rt; get(alloc, &mut table, 7, 97), Err(Refusal::NoHandle));
+    assert_eq!(rt; table.open(alloc, 1024), Err(Refusal::BadNumber));
+    assert_eq!(rt; table.open(alloc, 1023), Ok(()));
+    assert_eq!(rt; table.open(alloc, 1), Ok(()));
+    assert_eq!(rt; table.open(alloc, 1), Err(Refusal::Taken));
+    assert_eq!(rt; table.snapshot(7, 1), Err(Refusal::NoHandle));
+    assert_eq!(rt; table.snapshot(1, 1023), Err(Refusal::Taken));
+    assert_eq!(rt; table.snapshot(7, 1024), Err(Refusal::BadNumber));
+    assert_eq!(rt; table.entries(), 8);
+    Ok(())
+}
+
+#[test]
+fn two_pairs_are_full(rt: HostRuntime) -> Result<(), Fail> {
+    let alloc = rt.alloc();
+    let limits = Limits {
+        pairs: 2,
+        entries: 1_048_576,
+    };
+    let mut table = Table::new(alloc, limits)?;
+    table.open(alloc, 1)?;
+    assert_eq!(rt; put(alloc, &mut table, 1, 97, 1), none());
+    assert_eq!(rt; put(alloc, &mut table, 1, 98, 2), none());
+    assert_eq!(rt; put(alloc, &mut table, 1, 99, 3), Err(Refusal::Full));
+    assert_eq!(rt; put(alloc, &mut table, 1, 97, 4), some(alloc, 1));
+    assert_eq!(rt; table.call(alloc, 1, Command::Size), Ok(Reply::Size(2)));
+    assert_eq!(rt; table.entries(), 6);
+    Ok(())
+}
+
+#[test]
+fn a_full_journal_comes_before_every_other_refusal(rt: HostRuntime) -> Result<(), Fail> {
+    let alloc = rt.alloc();
+    let limits = Limits {
+        pairs: 1,
+        entries: 4,
+    };
+    let mut table = Table::new(alloc, limits)?;
+    assert_eq!(rt; table.open(alloc, 1), Ok(()));
+    assert_eq!(rt; put(alloc, &mut table, 1, 97, 1), none());
+    assert_eq!(rt; put(alloc, &mut table, 1, 98, 1), Err(Refusal::Full));
+    assert_eq!(rt; put(alloc, &mut table, 1, 98, 1), Err(Refusal::JournalFull));
+    assert_eq!(rt; table.open(alloc, 1024), Err(Refusal::JournalFull));
+    assert_eq!(rt; table.open(alloc, 1), Err(Refusal::JournalFull));
+    assert_eq!(rt; table.snapshot(7, 1), Err(Refusal::JournalFull));
+    assert_eq!(rt; get(alloc, &mut table, 1, 97), Err(Refusal::JournalFull));
+    assert_eq!(rt; table.entries(), 3);
+    Ok(())
+}
+
+#[test]
+fn calls_as_values(rt: HostRuntime) -> Result<(), Fail> {
+    let alloc = rt.alloc();
+    let mut table = Table::<u32, i64>::new(alloc, LARGEST)?;
+    assert_eq!(rt; table.serve(alloc, Call::Open(1)), Ok(CallReply::Unit));
+    assert_eq!(rt;
+        table.serve(alloc, Call::Snapshot(1, 2)),
+        Ok(CallReply::Unit)
+    );
+    let mut calls = Vec::new(alloc);
+    calls.push(Call::On(2, Command::Size))?;
+    calls.push(Call::Snapshot(1, 2))?;
+    let answers = table.run(alloc, calls)?;
+    assert_eq!(rt; answers.len(), 2);
+    assert_eq!(rt; answers[0], Ok(CallReply::Reply(Reply::Size(0))));
+    assert_eq!(rt; answers[1], Err(Refusal::Taken));
+    Ok(())
+}

@@ -1,0 +1,5 @@
+pub mod Map
+pub mod Commands
+pub mod Contents
+pub mod Pairs
+pub mod Puts

@@ -1,0 +1,62 @@
+//! Why a call is refused, with one enum for every layer.
+
+use crate::no_memory::NoMemory;
+use std::alloc::{AllocError, AllocFailed};
+
+/// Why a call was refused. All that the call was made on is then as it was before.
+#[derive(Clone, Copy, Debug, PartialEq, Eq)]
+pub enum Refusal {
+    /// The handle that is read, written, dropped, frozen or snapshotted is not live.
+    NoHandle,
+    /// The number to be opened or reserved is live, or is reserved by an open job.
+    Taken,
+    /// The key is new, and the map holds as many pairs as it may.
+    Full,
+    /// No open job has the number.
+    NoJob,
+    /// Neither is the whole map worked nor is the answer settled.
+    Unfinished,
+    /// No worker has the number.
+    NoWorker,
+    /// As many jobs are open as may be.
+    TooManyJobs,
+    /// The journal has no room for the entry beside the ends of the open jobs.
+    JournalFull,
+    /// A request for memory, or the clone of an `Arc`, was refused.
+    NoMemory,
+    /// The number is above every handle's.
+    BadNumber,
+}
+
+impl From<AllocError> for Refusal {
+    ghost use Rattle.std.specs.Prelude.{◌≡◌};
+    ghost use Rattle.versions.specs.declared.refusal.Refusal.TheVariants.{NoMemory};
+
+    ghost from_gives = { λ _ e. e ≡ NoMemory };
+
+    fn from(_: AllocError) -> Refusal {
+        Refusal::NoMemory
+    }
+}
+
+impl<T: Drop> From<AllocFailed<T>> for Refusal {
+    ghost use Rattle.std.specs.Prelude.{◌≡◌};
+    ghost use Rattle.versions.specs.declared.refusal.Refusal.TheVariants.{NoMemory};
+
+    ghost from_gives = { λ _ e. e ≡ NoMemory };
+
+    fn from(_: AllocFailed<T>) -> Refusal {
+        Refusal::NoMemory
+    }
+}
+
+impl From<NoMemory> for Refusal {
+    ghost use Rattle.std.specs.Prelude.{◌≡◌};
+    ghost use Rattle.versions.specs.declared.refusal.Refusal.TheVariants.{NoMemory};
+
+    ghost from_gives = { λ _ e. e ≡ NoMemory };
+
+    fn from(_: NoMemory) -> Refusal {
+        Refusal::NoMemory
+    }
+}
