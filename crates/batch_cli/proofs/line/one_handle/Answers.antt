@@ -1,0 +1,10 @@
+use Rattle.std.proofs.Common.{[], arith}
+use Rattle.batch_cli.specs.Commands.{handle_argument}
+use Rattle.batch_cli.proofs.FaultLemmas.{later, passed}
+use Rattle.batch_cli.proofs.line.one_handle.Goals as goal
+
+pub returns-in_err-handle-clause-err : goal.returns-in_err-handle-clause-err
+returns-in_err-handle-clause-err c = passed _ _ _ c.from_residual.ensures.1 (c.in_err-handle.ensures.err [])
+
+pub returns-in_err-end_of-clause-err : goal.returns-in_err-end_of-clause-err
+returns-in_err-end_of-clause-err c = passed _ _ _ c.from_residual-in_err-end_of.ensures.1 (later (handle_argument c.in_ok-handle.handle) [] _ _ _ (omega arith) c.in_ok-handle.ensures.ok c.in_err-end_of.ensures.err)

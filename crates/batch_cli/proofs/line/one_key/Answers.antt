@@ -1,0 +1,10 @@
+use Rattle.std.proofs.Common.{[]}
+use Rattle.batch_cli.specs.Commands.{key_argument}
+use Rattle.batch_cli.proofs.FaultLemmas.{later, passed}
+use Rattle.batch_cli.proofs.line.one_key.Goals as goal
+
+pub returns-in_err-key-clause-err : goal.returns-in_err-key-clause-err
+returns-in_err-key-clause-err c = passed _ _ _ c.from_residual.ensures.1 (c.in_err-key.ensures.err [])
+
+pub returns-in_err-end_of-clause-err : goal.returns-in_err-end_of-clause-err
+returns-in_err-end_of-clause-err c = passed _ _ _ c.from_residual-in_err-end_of.ensures.1 (later (key_argument c.in_ok-key.key) [] _ _ _ c.in_ok-key.ensures.ok.0 c.in_ok-key.ensures.ok.1 c.in_err-end_of.ensures.err)

@@ -1,0 +1,26 @@
+//! What a script says.
+
+use crate::key::Key;
+
+/// What a client asks of the table. Handles are numbers, whether a table has them or not.
+#[derive(Debug, Drop)]
+pub enum Command {
+    /// Makes the handle live with the empty map.
+    Open { handle: u32 },
+    /// Makes the target live with the map of the handle.
+    Snap { handle: u32, target: u32 },
+    /// Asks for the value of the key.
+    Get { handle: u32, key: Key },
+    /// Maps the key to the value.
+    Put { handle: u32, key: Key, value: i64 },
+    /// Asks for the number of pairs.
+    Size { handle: u32 },
+}
+
+/// A command, the client that makes it and the number of its line, which counts from 1.
+#[derive(Debug, Drop)]
+pub struct CommandLine {
+    pub number: u32,
+    pub client: u32,
+    pub command: Command,
+}
