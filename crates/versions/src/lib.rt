@@ -4,6 +4,7 @@
 //! values are shared: an `Arc` goes in, and the same `Arc` comes out of this version and of each of its forks.
 #![tactic(auto)]
 
+mod laws;
 mod no_memory;
 mod pairs;
 mod refusal;
@@ -11,6 +12,7 @@ mod refusal;
 mod tests;
 mod version;
 
+pub use laws::{law_of_equal_maps, law_of_put, law_of_removal};
 pub use no_memory::NoMemory;
 pub use refusal::Refusal;
 pub use version::{MOST_PAIRS, Version};
