@@ -1,10 +1,8 @@
 -- Runs that go on: by an event, and by a line.
-use Rattle.std.proofs.Common.{◌≡◌, ℕ, ◌∙◌, false, List, [], ◌∷◌, ◌++◌, Option, Some, Result, Ok, Err, IfOk, refl, sym, ap, map, subst, append_assoc, append-nil}
+use Rattle.std.proofs.Common.{◌≡◌, ℕ, ◌∙◌, false, List, [], ◌∷◌, ◌++◌, Some, Result, Ok, Err, IfOk, refl, sym, ap, subst, append_assoc, append-nil}
 use Rattle.std.specs.Prelude.{ℤ}
-use Rattle.std.specs.List.{flat_map}
 use Rattle.versions.specs.declared.refusal.Refusal.{Refusal}
 use Rattle.handles.specs.declared.call_reply.CallReply.{CallReply}
-use Rattle.handles.specs.Machine.{Step, Run}
 use Rattle.handles.specs.Views.{IsStep, call_outcome, outcome_of, lacks_memory}
 use Rattle.handles.proofs.Runs.{step_of}
 use Rattle.batch_cli.specs.Replies.{line_text}

@@ -32,3 +32,6 @@ pub use run::{RunFault, run_script};
 pub use script::{Script, parse_script};
 pub use status::execute;
 pub use words::options;
+
+#[cfg(test)]
+mod tests;

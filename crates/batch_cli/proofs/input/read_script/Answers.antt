@@ -1,4 +1,4 @@
-use Rattle.std.proofs.Common.{◌≡◌, ◌++◌, ℕ, List, [], Option, Some, None, IfSome, take, option_map, ap, ◌∙◌}
+use Rattle.std.proofs.Common.{◌≡◌, ◌++◌, ℕ, List, [], Option, Some, None, IfSome, take, option_map}
 use Rattle.batch_cli.proofs.input.read_script.Goals as goal
 
 -- what is read behind nothing of the first bytes is these bytes

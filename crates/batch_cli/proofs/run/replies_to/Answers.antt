@@ -1,4 +1,4 @@
-use Rattle.std.proofs.Common.{rules, arith, ◌≡◌, ◌+◌, ◌<◌, ◌++◌, ◌∷◌, [], ◌∙◌, List, ap, sym, take, length, string_bytes}
+use Rattle.std.proofs.Common.{rules, arith, ◌≡◌, ◌+◌, ◌++◌, ◌∷◌, [], ◌∙◌, ap, sym, take, string_bytes}
 use Rattle.std.proofs.lemmas.List.{take_more}
 use Rattle.batch_cli.specs.Replies.{line_text}
 use Rattle.batch_cli.specs.declared.command.CommandLine.{CommandLine}

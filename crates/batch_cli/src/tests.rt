@@ -1,0 +1,25 @@
+//! What scripts print, by hand.
+mod command_line;
+mod failures;
+mod faults;
+mod parts;
+mod scripts;
+
+use crate::{Options, execute};
+use std::alloc::{AllocError, Global};
+
+/// The status of a script, and what it writes to standard output and standard error.
+fn executed(alloc: Global, script: &[u8]) -> Result<(u8, String, String), AllocError> {
+    let mut out = Vec::new(alloc);
+    let mut err = Vec::new(alloc);
+    let status = execute(alloc, &Options { file: None }, script, &mut out, &mut err);
+    Ok((status, text(alloc, &out)?, text(alloc, &err)?))
+}
+
+/// The bytes as text; a text of no bytes where they are none.
+fn text(alloc: Global, bytes: &Vec<u8>) -> Result<String, AllocError> {
+    match str::from_utf8(bytes.as_slice()) {
+        Ok(text) => String::from_str(alloc, text),
+        Err(_) => Ok(String::new(alloc)),
+    }
+}
