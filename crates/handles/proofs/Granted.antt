@@ -1,10 +1,10 @@
 -- What a request that is not refused has.
-use Rattle.std.proofs.Common.{◌≡◌, ℕ, ◌+◌, ◌<◌, ◌≤◌, ◌-◌, Bool, true, false, not, ◌&&◌, ◌||◌, List, [], ◌∷◌, length, Option, Some, None, cond, refl, ap, sym, ◌∙◌, arith}
+use Rattle.std.proofs.Common.{◌≡◌, ℕ, ◌+◌, ◌≤◌, ◌-◌, Bool, true, false, not, List, [], ◌∷◌, None, refl, arith}
 use Rattle.std.specs.Prelude.{is_some, nat_lt}
 use Rattle.std.proofs.lemmas.Bool.Decides.{nat_tests}
 use Rattle.versions.specs.Commands.{Command, is_full}
 use Rattle.versions.specs.declared.refusal.Refusal.{Refusal}
-use Rattle.handles.specs.Machine.{Kind, State, Request, on, snapshot, refusal, conditions, first_of, room, map_at, held_by}
+use Rattle.handles.specs.Machine.{Kind, State, on, snapshot, refusal, conditions, first_of, map_at, held_by}
 
 -- no condition holds
 abbrev AllFalse : List (Bool × Refusal) → Type 0

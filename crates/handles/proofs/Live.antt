@@ -1,5 +1,5 @@
 -- What the places show.
-use Rattle.std.proofs.Common.{◌≡◌, ℕ, ◌+◌, ◌<◌, ◌≤◌, List, [], ◌∷◌, length, Option, Some, None, cond, Bool, true, false, refl, ap, sym, ◌∙◌, suc, zero, arith, option_map, map, subst, ◌++◌, get_or, take, drop}
+use Rattle.std.proofs.Common.{◌≡◌, ℕ, ◌+◌, ◌<◌, List, [], ◌∷◌, length, Option, Some, None, cond, Bool, true, false, refl, ap, sym, ◌∙◌, suc, zero, arith, option_map, map, subst, ◌++◌, get_or, take, drop}
 use Rattle.std.proofs.lemmas.Grind.{common_steps}
 use Rattle.std.proofs.lemmas.Option.{slice_get_read}
 use Rattle.std.proofs.lemmas.List.{length-map}

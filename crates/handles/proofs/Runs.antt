@@ -1,11 +1,11 @@
 -- A run goes on by one step.
-use Rattle.std.proofs.Common.{◌≡◌, ℕ, Bool, true, false, List, [], ◌∷◌, ◌++◌, refl, sym, subst, ap, map}
+use Rattle.std.proofs.Common.{◌≡◌, true, false, List, [], ◌∷◌, ◌++◌, refl, sym, subst, ap, map}
 use Rattle.std.specs.Prelude.{Result, Ok, Err}
 use Rattle.versions.specs.declared.refusal.Refusal.{Refusal}
 use Rattle.versions.specs.declared.refusal.Refusal.TheVariants.{NoHandle, Taken, Full, NoJob, Unfinished, NoWorker, TooManyJobs, JournalFull, NoMemory, BadNumber}
 use Rattle.handles.specs.declared.call.Call.{Call}
 use Rattle.handles.specs.declared.call_reply.CallReply.{CallReply}
-use Rattle.handles.specs.Machine.{Kind, State, Request, Outcome, Step, Run, refused}
+use Rattle.handles.specs.Machine.{Kind, State, Request, Outcome, Step, Run}
 use Rattle.handles.specs.Views.{IsStep, request_of, call_outcome, outcome_of, requests_of, outcomes_of, lacks_memory}
 
 module _ {K V Q A B : Type 0} (kind : Kind K V Q A B) where
@@ -30,6 +30,21 @@ module _ {K V Q A B : Type 0} (kind : Kind K V Q A B) where
   step_of s r (Err TooManyJobs) t n h = h
   step_of s r (Err JournalFull) t n h = h
   step_of s r (Err BadNumber) t n h = h
+
+  -- an answer for want of memory leaves all as it was
+  pub unchanged : (s : State K V Q) (r : Request K V Q) (answer : Result (CallReply V) Refusal) (t : State K V Q)
+      → lacks_memory answer ≡ true → IsStep kind s r call_outcome answer t → t ≡ s
+  unchanged s r (Ok y) t n h = absurd (cc)
+  unchanged s r (Err NoMemory) t n h = h
+  unchanged s r (Err NoHandle) t n h = absurd (cc)
+  unchanged s r (Err Taken) t n h = absurd (cc)
+  unchanged s r (Err Full) t n h = absurd (cc)
+  unchanged s r (Err NoJob) t n h = absurd (cc)
+  unchanged s r (Err Unfinished) t n h = absurd (cc)
+  unchanged s r (Err NoWorker) t n h = absurd (cc)
+  unchanged s r (Err TooManyJobs) t n h = absurd (cc)
+  unchanged s r (Err JournalFull) t n h = absurd (cc)
+  unchanged s r (Err BadNumber) t n h = absurd (cc)
 
 map-snoc : {X Y : Type 0} (f : X → Y) (xs : List X) (x : X) → map f (xs ++ x ∷ []) ≡ map f xs ++ f x ∷ []
 map-snoc f [] x = refl

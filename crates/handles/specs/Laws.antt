@@ -2,7 +2,7 @@
 use Rattle.std.specs.Prelude.{◌≡◌, ◌≢◌, ℕ}
 use Rattle.versions.specs.Commands.{Command}
 use Rattle.versions.specs.declared.refusal.Refusal.{Refusal}
-use Rattle.handles.specs.Machine.{Kind, State, Request, on, snapshot, Outcome, made, refused, Step, map_at}
+use Rattle.handles.specs.Machine.{Kind, State, Request, on, Outcome, refused, Step, map_at}
 
 module _ {K V Q A B : Type 0} (kind : Kind K V Q A B) where
   -- a command on one handle leaves the maps of the other handles, its snapshots among them

@@ -1,12 +1,12 @@
 -- The machine of handles: its states, its step as a relation, and its runs.
-use Rattle.std.specs.Prelude.{◌≡◌, ℕ, ◌+◌, ◌-◌, Bool, true, false, not, ◌&&◌, ◌||◌, ◌==◌, nat_lt, List, [], ◌∷◌, length, Option, Some, None, is_some, unwrap_or, if◌then◌else◌}
+use Rattle.std.specs.Prelude.{◌≡◌, ℕ, ◌+◌, ◌-◌, Bool, true, false, not, ◌&&◌, ◌||◌, ◌==◌, nat_lt, List, [], ◌∷◌, ◌++◌, length, Option, Some, None, is_some, unwrap_or, if◌then◌else◌}
 use Rattle.std.specs.declared.cmp.Ordering.{Ordering}
 use Rattle.std.specs.Ordering.{nat_cmp}
 use Rattle.std.specs.List.{list_any}
 use Rattle.versions.specs.Map.{Map, value_at, with_pair, without}
-use Rattle.versions.specs.Commands.{Command, get, put, put_if_absent, replace, replace_if, remove, remove_if, size, clear, Reply, after, reply, is_full, needs_no_memory}
+use Rattle.versions.specs.Commands.{Command, Reply, after, reply, is_full, needs_no_memory}
 use Rattle.versions.specs.declared.refusal.Refusal.{Refusal}
-use Rattle.versions.specs.declared.refusal.Refusal.TheVariants.{NoHandle, Taken, Full, NoJob, Unfinished, NoWorker, TooManyJobs, JournalFull, NoMemory, BadNumber}
+use Rattle.versions.specs.declared.refusal.Refusal.TheVariants.{NoHandle, Taken, Full, NoJob, Unfinished, TooManyJobs, JournalFull, NoMemory, BadNumber}
 use Rattle.handles.specs.declared.limits.Limits.{Limits}
 
 -- an open job: its query, and the map that its freeze recorded
@@ -230,3 +230,11 @@ module _ {K V Q A B : Type 0} (kind : Kind K V Q A B) where
   Run s [] [] t = s ≡ t
   Run s (r ∷ rs) (o ∷ os) t = (m : State K V Q) × Step s r o m × Run m rs os t
   Run s _ _ t = ⊥
+
+  -- the first requests, up to some one of them, get some outcomes, one step after another
+  pub record IsRunOfSome (s : State K V Q) (rs : List (Request K V Q)) (t : State K V Q) : Type 0 where
+    pub done : List (Request K V Q)
+    pub left : List (Request K V Q)
+    pub outcomes : List (Outcome K V B)
+    pub all : rs ≡ done ++ left
+    pub run : Run s done outcomes t

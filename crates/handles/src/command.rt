@@ -21,7 +21,11 @@ pub enum Command<K, V> {
 
 impl<K: Ord + Drop, V: Eq + Drop> Command<K, V> {
     /// Makes the command on a map where it is not refused as `Full`.
-    pub fn run_on(self, alloc: Global, version: &mut Version<K, V>) -> Result<Reply<V>, Refusal>
+    pub(crate) fn run_on(
+        self,
+        alloc: Global,
+        version: &mut Version<K, V>,
+    ) -> Result<Reply<V>, Refusal>
         requires { is_full K.cmp version.old.limit version.old.entries (command_of self) ≡ false }
         ensures reply { IfOk result (λ y. reply_of y ≡ reply K.cmp V.eq version.old.entries (command_of self)) }
         ensures map { OnOk result (version.new.entries ≡ after K.cmp V.eq version.old.entries (command_of self)) }
@@ -43,7 +47,7 @@ impl<K: Ord + Drop, V: Eq + Drop> Command<K, V> {
     }
 
     /// Whether the command would put a new key into a map that holds as many pairs as it may.
-    pub fn is_full_at(&self, version: &Version<K, V>, limit: u64) -> bool
+    pub(crate) fn is_full_at(&self, version: &Version<K, V>, limit: u64) -> bool
         ensures { result ≡ is_full K.cmp limit version.now.entries (command_of self.now) }
     {
         match self {

@@ -1,6 +1,6 @@
 //! The table of handles.
-ghost use Rattle.std.specs.Prelude.{◌≡◌, ◌+◌, ◌<◌, ◌≤◌, IfOk, if◌then◌else◌, true};
-ghost use Rattle.handles.specs.Machine.{Run, is_entry, nothing, on, open_handle, snapshot};
+ghost use Rattle.std.specs.Prelude.{◌≡◌, ◌+◌, ◌<◌, ◌≤◌, IfOk, OnErr, if◌then◌else◌, true};
+ghost use Rattle.handles.specs.Machine.{IsRunOfSome, Run, is_entry, nothing, on, open_handle, snapshot};
 ghost use Rattle.handles.specs.Views.{AnswersWithoutMemory, IsStep, command_of, lacks_memory, unit_outcome, reply_outcome, call_outcome, outcomes_of, request_of, requests_of, without_queries};
 
 use crate::call::Call;
@@ -145,13 +145,14 @@ impl<K: Ord + Drop, V: Eq + Drop> Table<K, V> {
 
     /// Makes the calls in order, and answers what each was answered. The answers are those of a run of the machine.
     ///
-    /// Where memory is refused, the calls before that one are made, and their answers are lost.
+    /// Where memory is refused, a first part of the calls was made, as a run, and their answers are lost.
     pub fn run(
         &mut self,
         alloc: Global,
         calls: Vec<Call<K, V>>,
     ) -> Result<Vec<Result<CallReply<V>, Refusal>>, NoMemory>
-        ensures { IfOk result (λ answers. Run (without_queries K.cmp V.eq) self.old (requests_of calls.items) (outcomes_of answers.items) self.new) }
+        ensures run { IfOk result (λ answers. Run (without_queries K.cmp V.eq) self.old (requests_of calls.items) (outcomes_of answers.items) self.new) }
+        ensures err { OnErr result (IsRunOfSome (without_queries K.cmp V.eq) self.old (requests_of calls.items) self.new) }
     {
         let mut answers = Vec::new(alloc);
         for call in calls {

@@ -1,9 +1,9 @@
 -- Worked commands, computed.
-use Rattle.std.proofs.Common.{◌≡◌, ℕ, List, [], ◌∷◌, Some, None, Bool, true, false, refl}
+use Rattle.std.proofs.Common.{◌≡◌, ℕ, [], ◌∷◌, Some, None, true, false, refl}
 use Rattle.std.specs.Prelude.{nat_eq}
 use Rattle.std.specs.Ordering.{nat_cmp}
 use Rattle.versions.specs.Map.{Map, IsMap}
-use Rattle.versions.specs.Commands.{Command, get, put, put_if_absent, replace, replace_if, remove, remove_if, size, clear, Reply, old, done, count, cleared, after, reply, is_full, needs_no_memory}
+use Rattle.versions.specs.Commands.{Command, get, put, put_if_absent, replace, replace_if, remove, remove_if, size, clear, Reply, old, done, count, cleared, after, reply, is_full}
 
 -- the map of 3 to 30 and 5 to 50
 abbrev two : Map ℕ ℕ

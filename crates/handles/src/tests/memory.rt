@@ -1,4 +1,7 @@
 //! Calls that make no request for memory, with every request refused.
+//!
+//! The test takes the whole address space in blocks that it never touches, so it costs little memory. It needs the
+//! C library's allocator as a test is built with it: an address sanitizer's keeps memory of its own aside.
 use super::{LARGEST, put};
 use crate::{Command, Reply, Table};
 use std::alloc::{AllocError, Global};

@@ -1,4 +1,4 @@
-use Rattle.std.proofs.Common.{◌≡◌, ◌∙◌, ap, sym}
+use Rattle.std.proofs.Common.{◌∙◌, ap, sym}
 use Rattle.handles.specs.Handles.{live_from}
 use Rattle.handles.proofs.Live.{here_is, all_limited_set, limit_here, if_ok, same_maps}
 use Rattle.handles.proofs.places.fork_at.Goals as goal

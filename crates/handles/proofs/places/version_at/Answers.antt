@@ -1,4 +1,4 @@
-use Rattle.std.proofs.Common.{rules, ap, ◌∙◌, sym}
+use Rattle.std.proofs.Common.{ap, ◌∙◌, sym}
 use Rattle.handles.proofs.Live.{held_here}
 use Rattle.handles.specs.Handles.{map_in}
 use Rattle.handles.proofs.places.version_at.Goals as goal

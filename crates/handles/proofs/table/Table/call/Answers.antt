@@ -1,4 +1,4 @@
-use Rattle.std.proofs.Common.{rules, ◌≡◌, ◌≤◌, ◌+◌, ℕ, ap, subst, sym, ◌∙◌, length, arith, is_some, true, false, unwrap_or, []}
+use Rattle.std.proofs.Common.{rules, ◌≡◌, ℕ, ap, sym, ◌∙◌, length, arith, is_some, true, false, unwrap_or, []}
 use Rattle.std.specs.Ordering.{nat_cmp}
 use Rattle.versions.specs.Map.{Map, value_at}
 use Rattle.versions.specs.Commands.{is_full}

@@ -1,4 +1,4 @@
-use Rattle.std.proofs.Common.{rules, ◌≡◌, ◌≤◌, ◌+◌, ℕ, ap, subst, sym, ◌∙◌, length, arith}
+use Rattle.std.proofs.Common.{rules, ◌≡◌, ap, subst, sym, ◌∙◌, length, arith}
 use Rattle.handles.specs.Handles.{AllLimitedTo}
 use Rattle.handles.proofs.Live.{written, written_have}
 use Rattle.handles.specs.Views.{without_queries}

@@ -1,4 +1,4 @@
-use Rattle.std.proofs.Common.{rules, ◌≡◌, ◌≤◌, false, map, sym, ap, ◌∙◌, subst, length}
+use Rattle.std.proofs.Common.{rules, ◌≡◌, ◌≤◌, false, map, sym, subst, length}
 use Rattle.versions.specs.Commands.{is_full_for}
 use Rattle.versions.specs.Map.{IsMap, with_pair}
 use Rattle.versions.specs.Pairs.{pair_values}
