@@ -7,3 +7,5 @@ pub mod OneFault
 pub mod ScriptLemmas
 pub mod ReadLemmas
 pub mod RunLemmas
+pub mod GrammarLemmas
+pub mod OneRun

@@ -8,3 +8,4 @@ pub mod Scripts
 pub mod Replies
 pub mod Events
 pub mod Runs
+pub mod Grammar

@@ -1,6 +1,12 @@
-//! Scripts of clients: their text, their run over a table of maps, and the command line.
+//! Scripts of clients: their text, their run over a table of maps, and the command line of the program.
 //!
-//! A script is read by [`parse_script`].
+//! [`parse_script`] reads a script, [`run_script`] runs it and writes the replies, and [`execute`] does both and
+//! gives the status of the program. [`options`] reads the words of the command line, and [`read_script`] the bytes
+//! of a script.
+//!
+//! A line is a client, a verb and its arguments. A verb of a known shape of arguments stands in `verb.rt`,
+//! `command.rt`, `line.rt` and `events.rt`, and in `specs/Verbs.antt`, `specs/Commands.antt` and
+//! `specs/Events.antt`.
 #![tactic(auto)]
 
 mod arguments;

@@ -2,6 +2,7 @@
 #![tactic(auto)]
 
 use batch_cli::{ArgFault, Options, execute, options, read_script};
+use std::alloc::AllocError;
 use std::fs::File;
 use std::io::Read;
 use std::process::ExitCode;
@@ -21,16 +22,33 @@ fn main(rt: HostRuntime) -> ExitCode {
     ExitCode::from(status(&rt).unwrap_or(FAILED))
 }
 
-/// Does what the words after the program's name ask for, and gives the status. It fails where standard error does,
-/// or where memory for the words is refused.
+/// Does what the words after the program's name ask for, and gives the status. It fails where standard error does.
 fn status<R: Runtime + AllocGlobal>(rt: &R) -> io::Result<u8> {
-    let alloc = rt.alloc();
-    let arguments: Vec<String> = env::args(rt)?.collect(alloc)?;
-    let words: Vec<&str> = arguments.iter().skip(1).map(|word| word.as_str()).collect(alloc)?;
-    match options(alloc, words.as_slice()) {
+    match chosen(rt) {
         Ok(options) => run(rt, &options),
         Err(fault) => refuse(rt, fault),
     }
+}
+
+/// The options that the words after the program's name give.
+fn chosen<R: Runtime + AllocGlobal>(rt: &R) -> Result<Options, ArgFault> {
+    let Ok(arguments) = arguments(rt) else {
+        return Err(ArgFault::Memory);
+    };
+    let words: Result<Vec<&str>, AllocError> = arguments
+        .iter()
+        .skip(1)
+        .map(|word| word.as_str())
+        .collect(rt.alloc());
+    match words {
+        Ok(words) => options(rt.alloc(), words.as_slice()),
+        Err(_) => Err(ArgFault::Memory),
+    }
+}
+
+/// The words of the command line, the program's name first.
+fn arguments<R: Runtime + AllocGlobal>(rt: &R) -> io::Result<Vec<String>> {
+    Ok(env::args(rt)?.collect(rt.alloc())?)
 }
 
 /// Says why the words give no options, or what help was asked for.
@@ -55,7 +73,13 @@ fn run<R: Runtime + AllocGlobal>(rt: &R, options: &Options) -> io::Result<u8> {
         Err(error) => return unread(rt, options, &error),
     };
     let mut errors = Vec::new(rt.alloc());
-    let status = execute(rt.alloc(), options, text.as_slice(), &mut io::writer(rt), &mut errors);
+    let status = execute(
+        rt.alloc(),
+        options,
+        text.as_slice(),
+        &mut io::writer(rt),
+        &mut errors,
+    );
     if let Ok(errors) = str::from_utf8(errors.as_slice()) {
         rt.eprint(errors)?;
     }
@@ -71,7 +95,11 @@ fn input<R: Runtime + AllocGlobal>(rt: &R, options: &Options) -> io::Result<Vec<
 }
 
 /// Says that the bytes could not be read.
-fn unread<R: Runtime + AllocGlobal>(rt: &R, options: &Options, error: &io::Error) -> io::Result<u8> {
+fn unread<R: Runtime + AllocGlobal>(
+    rt: &R,
+    options: &Options,
+    error: &io::Error,
+) -> io::Result<u8> {
     if error.kind() == io::ErrorKind::OutOfMemory {
         return fail(rt, "out of memory");
     }

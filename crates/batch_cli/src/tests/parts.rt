@@ -60,4 +60,5 @@ fn laws_are_calls_that_do_nothing() {
     law::spelled_text_has_no_fault();
     law::text_has_one_script();
     law::text_has_one_fault();
+    law::script_has_one_output();
 }

@@ -1,0 +1,109 @@
+-- A command has one answer in a state, and a script one output.
+use Rattle.std.proofs.Common.{◌≡◌, ℕ, ◌+◌, ◌∙◌, ◌⊎◌, List, [], ◌∷◌, ◌++◌, Some, None, inl, inr, refl, sym, ap, subst}
+use Rattle.std.specs.Prelude.{ℤ, if◌then◌else◌}
+use Rattle.versions.specs.declared.refusal.Refusal.{Refusal}
+use Rattle.versions.specs.Commands as commands
+use Rattle.handles.specs.Machine.{Step, Granted, refusal, is_entry, live_with, held_by, open_handle, snapshot, on, made, replied, viewed, frozen, finished, unfinished, refused, worked}
+use Rattle.batch_cli.specs.Replies.{line_text}
+use Rattle.batch_cli.specs.Events.{program, ProgramState, ProgramRequest, ProgramOutcome, Event, request_for, reply_to, IsRun, MayAnswer}
+use Rattle.batch_cli.specs.Runs.{LineAnswer, EachMakes, events_of, text_for}
+use Rattle.batch_cli.specs.declared.command.Command.{Command}
+use Rattle.batch_cli.specs.declared.command.Command.TheVariants.{Open, Snap, Get, Put, Size}
+use Rattle.batch_cli.specs.declared.command.CommandLine.{CommandLine}
+use Rattle.batch_cli.specs.declared.reply.LineReply.{LineReply}
+
+-- the state behind a refusal
+abbrev refused_in : ProgramState → Refusal → ProgramState
+refused_in s e = record s { entries = if is_entry e then s.entries + 1 else s.entries }
+
+-- the step is a refusal, or is granted
+abbrev Settled : ProgramState → ProgramRequest → ProgramOutcome → ProgramState → Type 0
+Settled s r o t = ((e : Refusal) × (o ≡ refused e) × (refusal program s r ≡ Some e) × (t ≡ refused_in s e)) ⊎ ((refusal program s r ≡ None) × Granted program s r o t)
+
+settled : (s : ProgramState) (r : ProgramRequest) (o : ProgramOutcome) (t : ProgramState) → Step program s r o t → Settled s r o t
+settled s r (refused e) t h = inl (e, refl, h.0, h.1)
+settled s r made t h = inr h
+settled s r (replied y) t h = inr h
+settled s r (viewed m) t h = inr h
+settled s r (frozen j m) t h = inr h
+settled s r (finished b) t h = inr h
+settled s r unfinished t h = inr h
+settled s r worked t h = inr h
+
+-- what an open, a snapshot and a command are answered where they are granted, and what they leave
+one_open : (s : ProgramState) (h : ℕ) (o : ProgramOutcome) (t : ProgramState) → Granted program s (open_handle h) o t → (o ≡ made) × (t ≡ record s { live = live_with s h []; entries = s.entries + 1 })
+one_open s h made t g = (refl, g)
+one_open s h (replied y) t g = absurd g
+one_open s h (viewed m) t g = absurd g
+one_open s h (frozen j m) t g = absurd g
+one_open s h (finished b) t g = absurd g
+one_open s h unfinished t g = absurd g
+one_open s h (refused e) t g = absurd g
+one_open s h worked t g = absurd g
+
+one_snapshot : (s : ProgramState) (h to : ℕ) (o : ProgramOutcome) (t : ProgramState) → Granted program s (snapshot h to) o t → (o ≡ made) × (t ≡ record s { live = live_with s to (held_by s h); entries = s.entries + 1 })
+one_snapshot s h to made t g = (refl, g)
+one_snapshot s h to (replied y) t g = absurd g
+one_snapshot s h to (viewed m) t g = absurd g
+one_snapshot s h to (frozen j m) t g = absurd g
+one_snapshot s h to (finished b) t g = absurd g
+one_snapshot s h to unfinished t g = absurd g
+one_snapshot s h to (refused e) t g = absurd g
+one_snapshot s h to worked t g = absurd g
+
+one_reply : (s : ProgramState) (h : ℕ) (c : commands.Command (List ℕ) ℤ) (o : ProgramOutcome) (t : ProgramState) → Granted program s (on h c) o t
+    → (o ≡ replied (commands.reply program.order program.equal (held_by s h) c)) × (t ≡ record s { live = live_with s h (commands.after program.order program.equal (held_by s h) c); entries = s.entries + 1 })
+one_reply s h c (replied y) t g = (ap (λ (x : commands.Reply ℤ). replied x) g.0, g.1)
+one_reply s h c made t g = absurd g
+one_reply s h c (viewed m) t g = absurd g
+one_reply s h c (frozen j m) t g = absurd g
+one_reply s h c (finished b) t g = absurd g
+one_reply s h c unfinished t g = absurd g
+one_reply s h c (refused e) t g = absurd g
+one_reply s h c worked t g = absurd g
+
+-- two ways to be granted are one
+abbrev OneGrant : ProgramRequest → Type 0
+OneGrant r = (s t u : ProgramState) (o p : ProgramOutcome) → Granted program s r o t → Granted program s r p u → (o ≡ p) × (t ≡ u)
+
+one_grant : (c : Command) → OneGrant (request_for c)
+one_grant (Open h) s t u o p g k = let a = one_open s h o t g in let b = one_open s h p u k in (a.0 ∙ sym b.0, a.1 ∙ sym b.1)
+one_grant (Snap h to) s t u o p g k = let a = one_snapshot s h to o t g in let b = one_snapshot s h to p u k in (a.0 ∙ sym b.0, a.1 ∙ sym b.1)
+one_grant (Get h key) s t u o p g k = let a = one_reply s h (commands.get key) o t g in let b = one_reply s h (commands.get key) p u k in (a.0 ∙ sym b.0, a.1 ∙ sym b.1)
+one_grant (Put h key v) s t u o p g k = let a = one_reply s h (commands.put key v) o t g in let b = one_reply s h (commands.put key v) p u k in (a.0 ∙ sym b.0, a.1 ∙ sym b.1)
+one_grant (Size h) s t u o p g k = let a = one_reply s h commands.size o t g in let b = one_reply s h commands.size p u k in (a.0 ∙ sym b.0, a.1 ∙ sym b.1)
+
+one_settled : (r : ProgramRequest) → OneGrant r → (s t u : ProgramState) (o p : ProgramOutcome) → Settled s r o t → Settled s r p u → (o ≡ p) × (t ≡ u)
+one_settled r one s t u o p (inl (e, a, b, d)) (inl (f, a', b', d')) =
+    let same : Some e ≡ Some f = sym b ∙ b' in
+    let names : e ≡ f = cc in
+    (a ∙ ap (λ (x : Refusal). refused x) names ∙ sym a', d ∙ ap (refused_in s) names ∙ sym d')
+one_settled r one s t u o p (inl (e, a, b, d)) (inr (none, g)) = let same : Some e ≡ None = sym b ∙ none in cc
+one_settled r one s t u o p (inr (none, g)) (inl (e, a, b, d)) = let same : Some e ≡ None = sym b ∙ none in cc
+one_settled r one s t u o p (inr (none, g)) (inr (never, k)) = one s t u o p g k
+
+one_answer : (c : Command) (s t u : ProgramState) (a b : LineReply) → MayAnswer s c a t → MayAnswer s c b u → (a ≡ b) × (t ≡ u)
+one_answer c s t u a b (events, (o, are, shows), run) (others, (p, were, tells), ran) =
+    let step : IsRun s ((request_for c, o) ∷ []) t = rw are at run in
+    let trod : IsRun s ((request_for c, p) ∷ []) u = rw were at ran in
+    let same = one_settled (request_for c) (one_grant c) s step.0 trod.0 o p (settled s (request_for c) o step.0 step.1) (settled s (request_for c) p trod.0 trod.1) in
+    let shown : Some a ≡ Some b = sym shows ∙ ap reply_to same.0 ∙ tells in
+    (cc, sym step.2 ∙ same.1 ∙ trod.2)
+
+-- a run of events and further ones goes by a state between
+run_split : (s t : ProgramState) (es fs : List Event) → IsRun s (es ++ fs) t → (m : ProgramState) × IsRun s es m × IsRun m fs t
+run_split s t [] fs run = (s, refl, run)
+run_split s t (e ∷ es) fs run = let more = run_split run.0 t es fs run.2 in (more.0, (run.0, run.1, more.1), more.2)
+
+-- runs from one state print one text
+pub one_text : (lines : List CommandLine) (xs ys : List LineAnswer) (s t u : ProgramState) → EachMakes lines xs → EachMakes lines ys → IsRun s (events_of xs) t → IsRun s (events_of ys) u → text_for lines xs ≡ text_for lines ys
+one_text [] xs ys s t u ma mb run ran = refl
+one_text (line ∷ lines) [] ys s t u ma mb run ran = absurd ma
+one_text (line ∷ lines) (a ∷ xs) [] s t u ma mb run ran = absurd mb
+one_text (line ∷ lines) (a ∷ xs) (b ∷ ys) s t u ma mb run ran =
+    let here = run_split s t a.events (events_of xs) run in
+    let there = run_split s u b.events (events_of ys) ran in
+    let same = one_answer line.command s here.0 there.0 a.reply b.reply (a.events, ma.0, here.1) (b.events, mb.0, there.1) in
+    let from : IsRun here.0 (events_of ys) u = (let P : ProgramState → Type 0 = λ x. IsRun x (events_of ys) u in subst P (sym same.1) there.2) in
+    let rest : text_for lines xs ≡ text_for lines ys = one_text lines xs ys here.0 t u ma.1 mb.1 here.2 from in
+    ap (λ (r : LineReply). line_text line.number r ++ text_for lines xs) same.0 ∙ ap (λ (more : List ℕ). line_text line.number b.reply ++ more) rest
