@@ -1,5 +1,5 @@
 -- What is left of a trie by a removal is a trie.
-use Rattle.std.proofs.Common.{◌≡◌, ℕ, zero, suc, ◌+◌, ◌<◌, ◌≤◌, ◌≢◌, Bool, true, false, cond, List, [], ◌∷◌, ◌++◌, length, Option, Some, None, is_some, refl, sym, ap, ◌∙◌, subst, arith, length-append, get_or, set, ◌==◌, ◌&&◌, ◌%◌, ◌^◌, ◌*◌}
+use Rattle.std.proofs.Common.{◌≡◌, ℕ, zero, suc, ◌+◌, ◌<◌, ◌≢◌, Bool, true, false, cond, List, [], ◌∷◌, length, Option, Some, None, is_some, refl, sym, ap, ◌∙◌, subst, arith, length-append, get_or, set, ◌==◌, ◌&&◌, ◌%◌, ◌^◌, ◌*◌}
 use Rattle.std.specs.List.{remove}
 use Rattle.std.specs.Int.{bit_at, bit_not, w32}
 use Rattle.std.specs.Int.RustNames.{count_ones, bit_and}
@@ -58,12 +58,17 @@ module _ {K V : Type 0} (R : K → K → Ordering) (path : K → ℕ) (total : I
   two_children level (d ∷ []) t u ts once h = absurd h.2
   two_children level (d ∷ e ∷ ds) t u ts once h =
       let q = some_found (level + 1) t h.1 (omega arith) in
-      let r = some_found (level + 1) u h.2.1 (omega arith) in
-      (q.0, (r.0, (
-        found_before R path total q.0 (entries t) (entries_of_all (more_trees u ts)) q.1,
-        found_after R path total r.0 (entries t) (entries_of_all (more_trees u ts)) (found_before R path total r.0 (entries u) (entries_of_all ts) r.1),
-        λ same. once.0.0 (sym (h.2.0 r.0 r.1) ∙ ap (λ w. digit w level) (sym same) ∙ h.0 q.0 q.1),
-      )))
+      let r = some_found (level + 1) u h.2.1 (omega arith) in (
+        q.0,
+        (
+          r.0,
+          (
+            found_before R path total q.0 (entries t) (entries_of_all (more_trees u ts)) q.1,
+            found_after R path total r.0 (entries t) (entries_of_all (more_trees u ts)) (found_before R path total r.0 (entries u) (entries_of_all ts) r.1),
+            λ same. once.0.0 (sym (h.2.0 r.0 r.1) ∙ ap (λ w. digit w level) (sym same) ∙ h.0 q.0 q.1),
+          ),
+        ),
+      )
 
   -- and below an only child that is a branch
   only_branch : (level : ℕ) (ds : List ℕ) (stamp size bitmap : ℕ) (ts : Trees K V) → AreTries R path level ds (more_trees (branch stamp size bitmap ts) no_trees) → HasTwoWords R path (entries_of_all (more_trees (branch stamp size bitmap ts) no_trees))

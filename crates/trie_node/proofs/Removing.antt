@@ -1,5 +1,5 @@
 -- What a removal below an opened branch does to the branch.
-use Rattle.std.proofs.Common.{◌≡◌, ℕ, ◌+◌, ◌-◌, ◌*◌, ◌<◌, ◌≤◌, ◌==◌, ◌%◌, ◌^◌, Bool, true, false, List, map, set, length, Option, None, get_or, sym, ap, ◌∙◌, subst, arith}
+use Rattle.std.proofs.Common.{◌≡◌, ℕ, ◌+◌, ◌-◌, ◌*◌, ◌<◌, ◌==◌, ◌%◌, ◌^◌, Bool, true, false, List, map, set, Option, None, get_or, sym, ap, ◌∙◌, subst, arith}
 use Rattle.std.specs.List.{remove}
 use Rattle.std.specs.declared.cmp.Ordering.{Ordering}
 use Rattle.std.specs.declared.cmp.Ordering.TheVariants.{Equal}
@@ -8,7 +8,7 @@ use Rattle.std.specs.FinMap.{find}
 use Rattle.std.specs.Int.{bit_at, bit_not, w32}
 use Rattle.std.specs.Int.RustNames.{count_ones, bit_and}
 use Rattle.hash_path.specs.Digits.{digit}
-use Rattle.trie_node.specs.Tree.{branch, trees, entries, IsTrie}
+use Rattle.trie_node.specs.Tree.{branch, trees, entries}
 use Rattle.trie_node.specs.View.{tree}
 use Rattle.trie_node.specs.Removals.{drawn_up, is_removable, IsTaken, IsOnly, Leaves}
 use Rattle.trie_node.specs.declared.node.Node.{Node}
@@ -39,8 +39,8 @@ module _ {K V : Type 0} (R : K → K → Ordering) (path : K → ℕ) (total : I
     gone_below v taken only nodes same rest made =
         let some = size_below v taken in
         subst (Leaves R path level stamp k holds (tree node) v)
-          (sym (made ∙ (λ j. drawn_up level (branch stamp (size - 1) (bit_and bitmap (bit_not w32 (1 * 2 ^ d % 2 ^ 32))) (trees (remove (map tree (same j)) (place j)))))))
-          (removes_gone R path total exact level stamp k holds d here below before size bitmap (map tree items) (tree node) o.is o.trie has (tree child) there v taken only (size - 1) (omega (arith, some)))
+        (sym (made ∙ (λ j. drawn_up level (branch stamp (size - 1) (bit_and bitmap (bit_not w32 (1 * 2 ^ d % 2 ^ 32))) (trees (remove (map tree (same j)) (place j)))))))
+        (removes_gone R path total exact level stamp k holds d here below before size bitmap (map tree items) (tree node) o.is o.trie has (tree child) there v taken only (size - 1) (omega (arith, some)))
 
     -- the child is left without the pair
     pub left_below : (v : V) (left : Node K V) → Leaves R path (level + 1) stamp k holds (tree child) v (tree left) → (nodes : List (Node K V)) → nodes ≡ items → (rest : Node K V) →
@@ -48,5 +48,5 @@ module _ {K V : Type 0} (R : K → K → Ordering) (path : K → ℕ) (total : I
     left_below v left leaves nodes same rest made =
         let some = size_below v leaves.taken in
         subst (Leaves R path level stamp k holds (tree node) v)
-          (sym (made ∙ (λ j. drawn_up level (branch stamp (size - 1) bitmap (trees (set (map tree (same j)) (place j) (tree left)))))))
-          (removes_left R path total exact level stamp k holds d here below before size bitmap (map tree items) (tree node) o.is o.trie has (tree child) there v (tree left) leaves (size - 1) (omega (arith, some)))
+        (sym (made ∙ (λ j. drawn_up level (branch stamp (size - 1) bitmap (trees (set (map tree (same j)) (place j) (tree left)))))))
+        (removes_left R path total exact level stamp k holds d here below before size bitmap (map tree items) (tree node) o.is o.trie has (tree child) there v (tree left) leaves (size - 1) (omega (arith, some)))

@@ -1,5 +1,5 @@
 -- A pair taken out of sorted pairs.
-use Rattle.std.proofs.Common.{◌≡◌, ℕ, zero, suc, ◌+◌, ◌<◌, ◌≤◌, Bool, true, false, not, cond, T, ◌&&◌, ◌==◌, List, [], ◌∷◌, length, map, drop, drop-cons, get_or, Option, Some, None, is_some, refl, sym, ap, ◌∙◌, subst, arith, nat_eq}
+use Rattle.std.proofs.Common.{◌≡◌, ℕ, zero, suc, ◌<◌, Bool, true, false, not, cond, T, ◌&&◌, ◌==◌, List, [], ◌∷◌, length, map, drop, drop-cons, get_or, Option, Some, None, is_some, refl, sym, ap, ◌∙◌, subst, arith, nat_eq}
 use mathlib.Core.Bool.{false≢true}
 use Rattle.std.specs.Bool.{MatchBool}
 use Rattle.std.specs.List.{Contains, remove, starts_with}
@@ -81,8 +81,8 @@ module _ {K V : Type 0} (R : K → K → Ordering) (path : K → ℕ) (total : I
       let same : path e.0 ≡ path k = h e.0 (ap is_some (found_first R total exact e es)) in
       let begins : starts_with nat_eq (word_of path k) (word_of path e.0) ≡ true = (λ i. starts_with nat_eq (word_of path k) (word_of (λ x. same i) k)) ∙ begins_itself (word_of path k) in
       All-cons (IsRestamped stamp (word_of path k) olds) (word_of path e.0, stamp) []
-        (subst (λ b. MatchBool b (stamp ≡ stamp) (Contains {X = List ℕ × ℕ} olds (word_of path e.0, stamp))) (sym begins) refl)
-        (All-nil (IsRestamped stamp (word_of path k) olds))
+      (subst (λ b. MatchBool b (stamp ≡ stamp) (Contains {X = List ℕ × ℕ} olds (word_of path e.0, stamp))) (sym begins) refl)
+      (All-nil (IsRestamped stamp (word_of path k) olds))
 
   -- a bucket with one pair less
   pub removes_pair : (level stamp stamp0 : ℕ) (k : K) (es : List (K × V)) (i : ℕ) (d : K × V) → IsTrie R path level (bucket stamp0 es) → 1 < length es → IsAt R k i es → Writes R path level stamp k None (bucket stamp0 es) (bucket stamp (remove es i))

@@ -17,10 +17,7 @@ use std::cmp::Ordering;
 use std::sync::Arc;
 
 /// The place of the key among pairs.
-fn place_of<K: PathKey, V>(
-    pairs: &[(Arc<K, Global>, Arc<V, Global>)],
-    key: &K,
-) -> Option<usize>
+fn place_of<K: PathKey, V>(pairs: &[(Arc<K, Global>, Arc<V, Global>)], key: &K) -> Option<usize>
     ensures there { IfSome result (λ i. IsAt K.cmp key.now i (map pair_values pairs.now)) }
     ensures absent { IfNone result (find K.cmp key.now (map pair_values pairs.now) ≡ None) }
 {

@@ -1,10 +1,8 @@
-use Rattle.std.proofs.Common.{◌≡◌, ◌+◌, ◌<◌, ◌&&◌, map, length, get_or, ap, sym, ◌∙◌, subst, arith, is_some, Some}
-use Rattle.std.specs.List.{remove}
-use Rattle.std.specs.FinMap.{find}
+use Rattle.std.proofs.Common.{◌+◌, ◌&&◌, map, length, ap, sym, ◌∙◌, subst, arith, is_some}
 use Rattle.std.proofs.lemmas.List.{length-map}
 use Rattle.std.proofs.lemmas.List.Edits.{length-remove}
 use Rattle.trie_node.specs.Tree.{bucket, entries}
-use Rattle.trie_node.specs.View.{tree, pair_values}
+use Rattle.trie_node.specs.View.{pair_values}
 use Rattle.trie_node.specs.Writes.{Writes}
 use Rattle.trie_node.proofs.Taken.{removes_pair, takes_only, value_at_place}
 use Rattle.trie_node.proofs.taking.take_pair.Goals as goal
@@ -33,9 +31,9 @@ returns g c =
     let long = length-map c.args.pairs.now pair_values in
     let made = c.in_ok-rest.ensures in
     λ level before trie.
-      let writes = removes_pair R path g.met.K.Ord.total g.met.K.PathKey.exact level c.args.stamp.0 before c.args.key.now es c.in-Some.at (pair_values c.index-pairs-at.result) trie (omega (arith, long, trie.1, c.if-pairs-eq1.false)) at in
-      record {
-        taken = (value, sym c.holds.ensures ∙ c.if-not-holds.false);
-        writes = subst (Writes R path level c.args.stamp.0 c.args.key.now _ (bucket before es)) (sym made) writes;
-        fewer = ap (λ t. length (entries t) + 1) made ∙ length-remove es c.in-Some.at at.within;
-      }
+    let writes = removes_pair R path g.met.K.Ord.total g.met.K.PathKey.exact level c.args.stamp.0 before c.args.key.now es c.in-Some.at (pair_values c.index-pairs-at.result) trie (omega (arith, long, trie.1, c.if-pairs-eq1.false)) at in
+    record {
+      taken = (value, sym c.holds.ensures ∙ c.if-not-holds.false);
+      writes = subst (Writes R path level c.args.stamp.0 c.args.key.now _ (bucket before es)) (sym made) writes;
+      fewer = ap (λ t. length (entries t) + 1) made ∙ length-remove es c.in-Some.at at.within;
+    }
