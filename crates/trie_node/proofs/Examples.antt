@@ -1,10 +1,10 @@
 -- Worked examples of shapes, names and stamps, on trees made by hand. A key is a path word and a number.
-use Rattle.std.proofs.Common.{◌≡◌, ℕ, ◌<◌, true, false, List, [], ◌∷◌, refl, arith, map}
+use Rattle.std.proofs.Common.{◌≡◌, ℕ, true, false, List, [], ◌∷◌, refl, arith, map}
 use Rattle.std.specs.List.{Contains}
 use Rattle.std.proofs.lemmas.List.Elements.{All-cons, All-nil}
 use Rattle.hash_path.specs.Digits.{spelled}
-use Rattle.trie_node.specs.Tree.{Tree, branch, bucket, Trees, no_trees, more_trees, digits_of}
-use Rattle.trie_node.specs.Shape.{no_node, a_branch, pairs, is_name, spot, spot_at, Nodes, nodes, IsRestamped, Restamps, own_count}
+use Rattle.trie_node.specs.Tree.{Tree, branch, bucket, no_trees, more_trees, digits_of}
+use Rattle.trie_node.specs.Shape.{no_node, a_branch, pairs, is_name, spot, spot_at, nodes, IsRestamped, Restamps, own_count}
 
 abbrev word : ℕ × ℕ → List ℕ
 word k = spelled (k.0)
@@ -129,9 +129,9 @@ text_put =
     let b : Contains (nodes word text_trie) (spelled 3876335077, 1) = (1, omega arith, refl) in
     let c : Contains (nodes word text_trie) (spelled 3859557458, 1) = (3, omega arith, refl) in
     All-cons rule ([], 3) ((spelled 3876335077, 1) ∷ (spelled 3826002220, 3) ∷ (spelled 3859557458, 1) ∷ []) refl
-      (All-cons rule (spelled 3876335077, 1) ((spelled 3826002220, 3) ∷ (spelled 3859557458, 1) ∷ []) b
-        (All-cons rule (spelled 3826002220, 3) ((spelled 3859557458, 1) ∷ []) refl
-          (All-cons rule (spelled 3859557458, 1) [] c (All-nil rule))))
+    (All-cons rule (spelled 3876335077, 1) ((spelled 3826002220, 3) ∷ (spelled 3859557458, 1) ∷ []) b
+    (All-cons rule (spelled 3826002220, 3) ((spelled 3859557458, 1) ∷ []) refl
+    (All-cons rule (spelled 3859557458, 1) [] c (All-nil rule))))
 
 -- how many nodes have a stamp, before the put and after it
 text_own : own_count 1 (nodes word text_trie) ≡ 4

@@ -38,11 +38,11 @@ pub record Below {K V : Type 0} (R : K → K → Ordering) (path : K → ℕ) (l
 module _ {K V : Type 0} (R : K → K → Ordering) (path : K → ℕ) (level : ℕ) where
   fewer_below : (xs : List (Tree K V)) (t : Tree K V) (ys ts : List (Tree K V)) → ts ≡ xs ++ t ∷ ys → length (entries t) ≤ length (entries_of_all (trees ts))
   fewer_below xs t ys ts whole = omega (
-      arith,
-      ap (λ us. length (entries_of_all (trees us))) whole,
-      ap length (entries_append R path xs (t ∷ ys)),
-      length-append (entries_of_all (trees xs)) (entries t ++ entries_of_all (trees ys)),
-      length-append (entries t) (entries_of_all (trees ys)),
+    arith,
+    ap (λ us. length (entries_of_all (trees us))) whole,
+    ap length (entries_append R path xs (t ∷ ys)),
+    length-append (entries_of_all (trees xs)) (entries t ++ entries_of_all (trees ys)),
+    length-append (entries t) (entries_of_all (trees ys)),
   )
 
   pub opened : (node : Node K V) (inner : Inner K V) (stamp : Stamp) (size bitmap : ℕ) (children : Vec (Node K V) Global) → inner ≡ node.inner.value → inner ≡ Branch stamp size bitmap children →

@@ -1,9 +1,9 @@
 -- How the stamp rule goes up through a branch.
-use Rattle.std.proofs.Common.{◌≡◌, ℕ, zero, suc, ◌+◌, ◌<◌, ◌≤◌, ◌≢◌, Bool, true, false, cond, List, [], ◌∷◌, ◌++◌, length, refl, sym, ap, ◌∙◌, subst, arith, append_assoc, nat_eq, get_or}
+use Rattle.std.proofs.Common.{◌≡◌, ℕ, Bool, true, false, List, [], ◌∷◌, ◌++◌, length, refl, sym, ap, ◌∙◌, subst, arith, append_assoc, nat_eq, get_or}
 use Rattle.std.specs.Bool.{MatchBool}
 use Rattle.std.specs.List.{All, Contains, starts_with}
-use Rattle.std.proofs.lemmas.List.Elements.{All-cons, All-nil, All-append, Contains-get_or, Contains-append_left, Contains-append_right}
-use Rattle.trie_node.specs.Tree.{Tree, branch, bucket, Trees, no_trees, more_trees, trees}
+use Rattle.std.proofs.lemmas.List.Elements.{All-cons, All-append, Contains-get_or, Contains-append_left, Contains-append_right}
+use Rattle.trie_node.specs.Tree.{Tree, trees}
 use Rattle.trie_node.specs.Shape.{Nodes, nodes_below, nodes_of_all, IsRestamped, Restamps}
 
 -- a node is restamped also where there were more nodes before
@@ -41,8 +41,8 @@ restamps_between stamp w xs ys old new a b h =
 pub restamps_branch : (stamp before : ℕ) (w p : List ℕ) (old new : Nodes) → starts_with nat_eq w p ≡ true → Restamps stamp w old new → Restamps stamp w ((p, before) ∷ old) ((p, stamp) ∷ new)
 restamps_branch stamp before w p old new on h =
     All-cons (IsRestamped stamp w ((p, before) ∷ old)) (p, stamp) new
-      (subst (λ b. MatchBool b (stamp ≡ stamp) (Contains ((p, before) ∷ old) (p, stamp))) (sym on) refl)
-      (restamps_within stamp w old ((p, before) ∷ old) new (λ n c. Contains-append_right ((p, before) ∷ []) old n c) h)
+    (subst (λ b. MatchBool b (stamp ≡ stamp) (Contains ((p, before) ∷ old) (p, stamp))) (sym on) refl)
+    (restamps_within stamp w old ((p, before) ∷ old) new (λ n c. Contains-append_right ((p, before) ∷ []) old n c) h)
 
 module _ {K V : Type 0} (word : K → List ℕ) where
   pub nodes_append : (p bs ds : List ℕ) (xs ys : List (Tree K V)) → length xs ≡ length bs →

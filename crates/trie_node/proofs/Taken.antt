@@ -75,7 +75,7 @@ module _ {K V : Type 0} (R : K → K → Ordering) (path : K → ℕ) (total : I
   sorted_taken k es i d sorted lt e = subst (λ xs. T (is_sorted R xs)) (where_taken k es i d sorted lt e) (is_sorted-where_key R (is_other R k) es sorted)
 
   -- a leaf or bucket whose pairs all have the key's word has the stamp
-  stamped : (stamp : ℕ) (k : K) (p : List ℕ) (olds : List (List ℕ × ℕ)) (es : List (K × V)) → ((q : K) → is_some (find R q es) ≡ true → path q ≡ path k) → Restamps stamp (word_of path k) olds (nodes_below (word_of path) p (bucket stamp es))
+  pub stamped : (stamp : ℕ) (k : K) (p : List ℕ) (olds : List (List ℕ × ℕ)) (es : List (K × V)) → ((q : K) → is_some (find R q es) ≡ true → path q ≡ path k) → Restamps stamp (word_of path k) olds (nodes_below (word_of path) p (bucket stamp es))
   stamped stamp k p olds [] h = All-nil (IsRestamped stamp (word_of path k) olds)
   stamped stamp k p olds (e ∷ es) h =
       let same : path e.0 ≡ path k = h e.0 (ap is_some (found_first R total exact e es)) in
