@@ -48,7 +48,15 @@ pub(crate) fn with_rest<K: Drop, V: Drop>(
     if level > 0 && old.children.len() == 1 && is_pairs(&child) {
         return Ok(child);
     }
-    with_child(alloc, stamp, old.size - 1, old.bitmap, old.children, at, child)
+    with_child(
+        alloc,
+        stamp,
+        old.size - 1,
+        old.bitmap,
+        old.children,
+        at,
+        child,
+    )
 }
 
 /// A branch without its child of a digit, which stands at a place.

@@ -21,7 +21,7 @@ returns-then-is_pairs g c =
     let long = length-map a.old.now.children.now tree in
     let other = tree (get_or a.old.now.children.now (1 - a.at) c.index-old-at.result) in
     let only = remove_of_two (map tree a.old.now.children.now) a.at other (omega (arith, long, two)) (omega (arith, long, c.requires.at))
-        ∙ ap (λ t. t ∷ []) (get_or-map tree a.old.now.children.now (1 - a.at) c.index-old-at.result other (omega (arith, two, c.requires.at))) in
+    ∙ ap (λ t. t ∷ []) (get_or-map tree a.old.now.children.now (1 - a.at) c.index-old-at.result other (omega (arith, two, c.requires.at))) in
     let drawn = ap (λ ts. drawn_up a.level (branch a.stamp.0 size bitmap (trees ts))) only ∙ drawn_up_only a.level a.stamp.0 size bitmap other (omega (arith, c.if-level-gt0.true)) (sym c.is_pairs.ensures ∙ c.if-is_pairs.true) in
     subst (λ t. IfOk c.try_clone.result (λ n. tree n ≡ t)) (sym drawn) c.try_clone.ensures
 

@@ -49,7 +49,7 @@ without_rest-requires g t c =
       digit = c.digit-digit.ensures.small;
       at = omega (arith, ap length c.as_slice.ensures.value, place_below R path a.level a.node.now b.stamp.0 b.size b.bitmap b.children.items o c.digit-digit.result c.digit-digit.ensures.small (cc) c.place-at.result c.place-at.ensures);
       size = size_below R path g.met.K.Ord.total g.met.K.PathKey.exact a.level a.stamp.0 a.key.now holds a.node.now b.stamp.0 b.size b.bitmap b.children.items o
-        c.digit-digit.result c.digit-digit.ensures.small (cc) (cc) c.place-at.result c.place-at.ensures c.index.result.now c.index.ensures _ gone.0;
+          c.digit-digit.result c.digit-digit.ensures.small (cc) (cc) c.place-at.result c.place-at.ensures c.index.result.now c.index.ensures _ gone.0;
     }
 
 pub with_rest-requires : goal.with_rest-requires
@@ -64,7 +64,7 @@ with_rest-requires g t c =
     record {
       at = omega (arith, ap length c.as_slice.ensures.value, place_below R path a.level a.node.now b.stamp.0 b.size b.bitmap b.children.items o c.digit-digit.result c.digit-digit.ensures.small (cc) c.place-at.result c.place-at.ensures);
       size = size_below R path g.met.K.Ord.total g.met.K.PathKey.exact a.level a.stamp.0 a.key.now holds a.node.now b.stamp.0 b.size b.bitmap b.children.items o
-        c.digit-digit.result c.digit-digit.ensures.small (cc) (cc) c.place-at.result c.place-at.ensures c.index.result.now c.index.ensures _ left.taken;
+          c.digit-digit.result c.digit-digit.ensures.small (cc) (cc) c.place-at.result c.place-at.ensures c.index.result.now c.index.ensures _ left.taken;
     }
 
 pub returns-in-Nothing : goal.returns-in-Nothing
