@@ -1,7 +1,7 @@
 -- The children that a branch shows.
-use Rattle.std.proofs.Common.{◌≡◌, ℕ, zero, suc, ◌<◌, ◌^◌, List, [], ◌∷◌, length, get_or, refl, sym, ap, ◌∙◌, subst, arith}
+use Rattle.std.proofs.Common.{◌≡◌, ℕ, zero, suc, ◌<◌, length, get_or, refl, sym, ap, ◌∙◌, subst, arith}
 use Rattle.std.specs.Int.RustNames.{count_ones}
-use Rattle.trie_node.specs.Tree.{Tree, branch, bucket, Trees, no_trees, more_trees, digits_of}
+use Rattle.trie_node.specs.Tree.{Tree, branch, bucket, Trees, no_trees, more_trees}
 use Rattle.trie_node.specs.Shape.{Fits, AllFit, count_of}
 use Rattle.trie_node.specs.Outline.{children, list_of}
 use Rattle.trie_node.specs.Looks.{Shows}
