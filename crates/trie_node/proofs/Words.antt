@@ -11,7 +11,7 @@ use Rattle.trie_node.specs.Tree.{bucket, KeysHaveWord, IsTrie}
 use Rattle.trie_node.specs.Shape.{nodes_below}
 use Rattle.trie_node.specs.Roots.{word_of}
 use Rattle.trie_node.specs.Writes.{Writes}
-use Rattle.trie_node.proofs.Branches.{tied}
+use Rattle.trie_node.proofs.Finds.{tied}
 use Rattle.trie_node.proofs.Finds.{found_first}
 use Rattle.trie_node.proofs.Taken.{stamped}
 

@@ -24,7 +24,7 @@ mod taking;
 
 pub use basics::{NoMemory, Stamp};
 pub use condition::{Always, Condition, IfAbsent, IfEqual, IfPresent};
-pub use laws::{
+pub use laws::{bitmap_counts_children, 
     map_determines_root, map_names_nodes, root_has_few_nodes, root_is_map, root_walks_in_order,
     writes_keep_stamps_below,
 };
