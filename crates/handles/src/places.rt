@@ -8,8 +8,8 @@ ghost use Rattle.versions.specs.Map.{value_at, with_pair};
 
 use crate::command::Command;
 use crate::reply::Reply;
-use hash_path::PathKey;
 use generation::Source;
+use hash_path::PathKey;
 use std::alloc::Global;
 use versions::{NoMemory, Refusal, Version};
 

@@ -1,10 +1,9 @@
-use Rattle.std.proofs.Common.{◌≡◌, ◌∙◌, ap, sym, unwrap_or, [], Option, ℕ, arith}
+use Rattle.std.proofs.Common.{◌∙◌, ap, sym, arith}
 use Rattle.std.specs.Ordering.{nat_cmp}
 use Rattle.versions.specs.Map.{Map, with_pair}
 use Rattle.versions.specs.Commands as map
 use Rattle.handles.specs.Handles.{live_from, maps_in}
-use Rattle.handles.specs.Views.{command_of, reply_of}
-use Rattle.handles.specs.declared.reply.Reply.{Reply}
+use Rattle.handles.specs.Views.{command_of}
 use Rattle.handles.proofs.Live.{with_version, here_is, all_within_set, within_here, if_ok, on_ok, on_err, same_maps}
 use Rattle.handles.proofs.places.run_at.Goals as goal
 
