@@ -5,6 +5,7 @@ use crate::{Call, CallReply, Command, Limits, Reply, Table};
 use std::alloc::Global;
 use std::sync::Arc;
 use std::test::Fail;
+use test_keys::ChosenKey;
 use versions::Refusal;
 
 // The largest limits.
@@ -13,26 +14,31 @@ const LARGEST: Limits = Limits {
     entries: 1_048_576,
 };
 
+// The key of this path word.
+fn of_path(alloc: Global, path: u32) -> Result<Arc<ChosenKey>, Refusal> {
+    Ok(Arc::new(alloc, ChosenKey { path, id: 0 })?)
+}
+
 // Maps the key to the value on the handle.
 fn put(
     alloc: Global,
-    table: &mut Table<u32, i64>,
+    table: &mut Table<ChosenKey, i64>,
     handle: u32,
     key: u32,
     value: i64,
 ) -> Result<Reply<i64>, Refusal> {
-    let command = Command::Put(Arc::new(alloc, key)?, Arc::new(alloc, value)?);
+    let command = Command::Put(of_path(alloc, key)?, Arc::new(alloc, value)?);
     table.call(alloc, handle, command)
 }
 
 // Asks for the value of the key on the handle.
 fn get(
     alloc: Global,
-    table: &mut Table<u32, i64>,
+    table: &mut Table<ChosenKey, i64>,
     handle: u32,
     key: u32,
 ) -> Result<Reply<i64>, Refusal> {
-    let command = Command::Get(Arc::new(alloc, key)?);
+    let command = Command::Get(of_path(alloc, key)?);
     table.call(alloc, handle, command)
 }
 
@@ -131,7 +137,7 @@ fn a_full_journal_comes_before_every_other_refusal(rt: HostRuntime) -> Result<()
 #[test]
 fn calls_as_values(rt: HostRuntime) -> Result<(), Fail> {
     let alloc = rt.alloc();
-    let mut table = Table::<u32, i64>::new(alloc, LARGEST)?;
+    let mut table = Table::<ChosenKey, i64>::new(alloc, LARGEST)?;
     assert_eq!(rt; table.serve(alloc, Call::Open(1)), Ok(CallReply::Unit));
     assert_eq!(rt;
         table.serve(alloc, Call::Snapshot(1, 2)),

@@ -1,7 +1,13 @@
 //! Laws of the words in which contracts speak of maps. Their functions do nothing: each contract is the law.
-ghost use Rattle.std.specs.Prelude.{◌≡◌, if◌then◌else◌, Some, None};
+ghost use Rattle.std.specs.Prelude.{◌≡◌, ◌↔◌, ℕ, List, Contains, map, true, if◌then◌else◌, Some, None};
 ghost use Rattle.std.specs.Ordering.{eq_by_cmp};
+ghost use Rattle.trie_node.specs.Roots.{word_of};
+ghost use Rattle.trie_node.specs.Shape.{is_name};
 ghost use Rattle.versions.specs.Map.{IsAntisymmetric, IsMap, Map, value_at, with_pair, without};
+
+use crate::version::Version;
+use hash_path::PathKey;
+use trie_node::map_names_nodes;
 
 /// After a put the value at the key is the new one, and at every other key it is the one before.
 pub fn law_of_put<K: Ord, V>()
@@ -19,3 +25,11 @@ pub fn law_of_removal<K: Ord, V>()
 pub fn law_of_equal_maps<K: Ord, V>()
     ensures { IsAntisymmetric K.cmp → (m n : Map K V) → IsMap K.cmp m → IsMap K.cmp n → ((q : K) → value_at K.cmp m q ≡ value_at K.cmp n q) → m ≡ n }
 {}
+
+/// The nodes of a version have the names that the trie of its map has, and no others.
+pub fn law_of_names<K: PathKey + Drop, V: Drop>(version: &Version<K, V>)
+    ensures { (name : List ℕ) → Contains (map (λ node. node.0) version.now.nodes) name ↔ (is_name (word_of K.path_of) version.now.entries name ≡ true) }
+{
+    map_names_nodes::<K, V>();
+    let _ = version.root();
+}

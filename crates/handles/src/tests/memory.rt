@@ -2,7 +2,7 @@
 //!
 //! The test takes the whole address space in blocks that it never touches, so it costs little memory. It needs the
 //! C library's allocator as a test is built with it: an address sanitizer's keeps memory of its own aside.
-use super::{LARGEST, put};
+use super::{LARGEST, of_path, put};
 use crate::{Command, Reply, Table};
 use std::alloc::{AllocError, Global};
 use std::sync::Arc;
@@ -46,7 +46,7 @@ fn a_snapshot_and_a_get_make_no_request(rt: HostRuntime) -> Result<(), Fail> {
     let mut table = Table::new(alloc, LARGEST)?;
     table.open(alloc, 1)?;
     put(alloc, &mut table, 1, 97, 5)?;
-    let key = Arc::new(alloc, 97)?;
+    let key = of_path(alloc, 97)?;
     let again = Arc::try_clone(&key)?;
     let value = Arc::new(alloc, 6)?;
     let five = Ok(Reply::Old(Some(Arc::new(alloc, 5)?)));

@@ -1,0 +1,43 @@
+//! The nodes that carry a stamp.
+
+ghost use Rattle.std.specs.Prelude.{◌≡◌, ◌<◌, ◌^◌, length};
+ghost use Rattle.trie_node.specs.Counts.{node_count};
+ghost use Rattle.trie_node.specs.Shape.{Fits, nodes, own_count};
+ghost use Rattle.trie_node.specs.Roots.{IsRoot, map_of, word_of};
+ghost use Rattle.trie_node.specs.View.{tree};
+ghost use Rattle.generation.specs.Owned.{own_below};
+
+use hash_path::PathKey;
+use trie_node::{
+    Look, Node, Stamp, bitmap_counts_children, child, look, root_has_few_nodes, stamp,
+};
+
+/// How many nodes of a root carry the stamp. It walks over all of them and takes no memory.
+pub fn own_nodes<K: PathKey, V>(root: &Node<K, V>, own: Stamp) -> u64
+    requires root { IsRoot K.cmp K.path_of (tree root.now) }
+    requires few { length (map_of K.cmp (tree root.now)) < 2 ^ 32 }
+    ensures { result ≡ own_count own.0 (nodes (word_of K.path_of) (tree root.now)) }
+{
+    root_has_few_nodes::<K, V>();
+    count_own(root, own)
+}
+
+/// The nodes of a subtrie that carry the stamp.
+fn count_own<K, V>(node: &Node<K, V>, own: Stamp) -> u64
+    requires fits { Fits (tree node.now) }
+    requires few { node_count (tree node.now) < 2 ^ 64 }
+    ensures { result ≡ own_below own.0 (tree node.now) }
+{
+    let here = u64::from(stamp(node).0 == own.0);
+    match look(node) {
+        Look::Pairs(_) => here,
+        Look::Branch(bitmap) => {
+            bitmap_counts_children::<K, V>();
+            let mut count = here;
+            for n in 0..bitmap.count_ones() {
+                count += count_own(child(node, n), own);
+            }
+            count
+        }
+    }
+}

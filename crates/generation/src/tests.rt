@@ -1,0 +1,30 @@
+//! Stamps and the nodes that carry them, by hand.
+use crate::{Source, own_nodes};
+use std::sync::Arc;
+use std::test::Fail;
+use test_keys::ChosenKey;
+use trie_node::{Stamp, empty_root, with_put};
+
+#[test]
+fn stamps_rise_from_one(rt: HostRuntime) {
+    let mut source = Source::new();
+    assert_eq!(rt; source.issued(), 0);
+    assert_eq!(rt; source.next(), Stamp(1));
+    assert_eq!(rt; source.next(), Stamp(2));
+    assert_eq!(rt; source.next(), Stamp(3));
+    assert_eq!(rt; source.issued(), 3);
+}
+
+#[test]
+fn a_put_owns_its_path(rt: HostRuntime) -> Result<(), Fail> {
+    let alloc = rt.alloc();
+    let empty = empty_root::<ChosenKey, i64>(alloc, Stamp(1))?;
+    assert_eq!(rt; own_nodes(&empty, Stamp(1)), 1);
+    assert_eq!(rt; own_nodes(&empty, Stamp(2)), 0);
+    let key = Arc::new(alloc, ChosenKey { path: 5, id: 0 })?;
+    let root = with_put(alloc, &empty, key, Arc::new(alloc, 7)?, Stamp(2))?;
+    assert_eq!(rt; own_nodes(&root, Stamp(1)), 0);
+    assert_eq!(rt; own_nodes(&root, Stamp(2)), 2);
+    assert_eq!(rt; own_nodes(&empty, Stamp(1)), 1);
+    Ok(())
+}
