@@ -1,24 +1,99 @@
 -- Runs that go on: by an event, and by a line.
-use Rattle.std.proofs.Common.{◌≡◌, ℕ, ◌∙◌, false, List, [], ◌∷◌, ◌++◌, Some, Result, Ok, Err, IfOk, refl, sym, ap, subst, append_assoc, append-nil}
+use Rattle.std.proofs.Common.{◌≡◌, ℕ, ◌∙◌, false, List, [], ◌∷◌, ◌++◌, Some, None, Result, Ok, Err, IfOk, refl, sym, ap, subst, append_assoc, append-nil}
 use Rattle.std.specs.Prelude.{ℤ}
 use Rattle.versions.specs.declared.refusal.Refusal.{Refusal}
 use Rattle.handles.specs.declared.call_reply.CallReply.{CallReply}
+use Rattle.versions.specs.Commands.{get, put_if_absent, old, done, count, cleared}
+use Rattle.handles.specs.Machine.{Step, on, made, replied, viewed, frozen, finished, unfinished, refused, worked}
 use Rattle.handles.specs.Views.{IsStep, call_outcome, outcome_of, lacks_memory}
 use Rattle.handles.proofs.Runs.{step_of}
 use Rattle.batch_cli.specs.Replies.{line_text}
-use Rattle.batch_cli.specs.Events.{program, ProgramState, ProgramRequest, Event, request_for, reply_to, Makes, IsRun, MayAnswer}
+use Rattle.batch_cli.specs.Events.{program, ProgramState, ProgramRequest, ProgramOutcome, Event, request_for, reply_to, Ends, Makes, IsRun, MayAnswer, MayReply, MayStore}
 use Rattle.batch_cli.specs.Runs.{LineAnswer, EachMakes, events_of, text_for, Answers}
 use Rattle.batch_cli.specs.declared.command.Command.{Command}
+use Rattle.batch_cli.specs.declared.command.Command.TheVariants.{Open, Snap, Drop, Get, Put, PutIfAbsent, Replace, ReplaceIf, Remove, RemoveIf, GetOrElse, Size, Clear}
 use Rattle.batch_cli.specs.declared.command.CommandLine.{CommandLine}
 use Rattle.batch_cli.specs.declared.reply.LineReply.{LineReply}
+use Rattle.batch_cli.specs.declared.reply.LineReply.TheVariants.{Absent}
 
 -- what the table answered is an event of the machine
-pub answered : {E : Type 0} (s t : ProgramState) (command : Command) (r : ProgramRequest) (answer : Result (CallReply ℤ) Refusal) (result : Result LineReply E)
-    → r ≡ request_for command → IsStep program s r call_outcome answer t → IfOk result (λ reply. reply_to (outcome_of answer) ≡ Some reply) → IfOk result (λ _. lacks_memory answer ≡ false)
-    → IfOk result (λ reply. MayAnswer s command reply t)
-answered s t command r answer (Ok reply) same step shown memory =
-    ((request_for command, outcome_of answer) ∷ [], (outcome_of answer, refl, shown), (t, rw same at (step_of program s r answer t memory step), refl))
-answered s t command r answer (Err e) same step shown memory = tt
+pub answered : {E : Type 0} (s t : ProgramState) (r : ProgramRequest) (answer : Result (CallReply ℤ) Refusal) (result : Result LineReply E)
+    → IsStep program s r call_outcome answer t → IfOk result (λ reply. reply_to (outcome_of answer) ≡ Some reply) → IfOk result (λ _. lacks_memory answer ≡ false)
+    → IfOk result (λ reply. MayReply s r reply t)
+answered s t r answer (Ok reply) step shown memory = (outcome_of answer, step_of program s r answer t memory step, shown)
+answered s t r answer (Err e) step shown memory = tt
+
+-- a reply that something is absent shows that nothing was found
+pub absent : (outcome : ProgramOutcome) → reply_to outcome ≡ Some Absent → outcome ≡ replied (old None)
+absent made e = cc
+absent (replied (old None)) e = refl
+absent (replied (old (Some value))) e = cc
+absent (replied (done b)) e = cc
+absent (replied (count n)) e = cc
+absent (replied cleared) e = cc
+absent (viewed m) e = cc
+absent (frozen j m) e = cc
+absent (finished b) e = cc
+absent unfinished e = cc
+absent (refused refusal) e = cc
+absent worked e = cc
+
+-- a getorelse whose get found something is done
+ends_found : (handle : ℕ) (key : List ℕ) (value : ℤ) (outcome : ProgramOutcome) (reply : LineReply) → (reply ≡ Absent → ⊥) → reply_to outcome ≡ Some reply → Ends (GetOrElse handle key value) outcome [] reply
+ends_found handle key value made reply present shown = (refl, shown)
+ends_found handle key value (replied (old None)) reply present shown = absurd (present (cc))
+ends_found handle key value (replied (old (Some found))) reply present shown = (refl, shown)
+ends_found handle key value (replied (done b)) reply present shown = (refl, shown)
+ends_found handle key value (replied (count n)) reply present shown = (refl, shown)
+ends_found handle key value (replied cleared) reply present shown = (refl, shown)
+ends_found handle key value (viewed m) reply present shown = (refl, shown)
+ends_found handle key value (frozen j m) reply present shown = (refl, shown)
+ends_found handle key value (finished b) reply present shown = (refl, shown)
+ends_found handle key value unfinished reply present shown = (refl, shown)
+ends_found handle key value (refused refusal) reply present shown = (refl, shown)
+ends_found handle key value worked reply present shown = (refl, shown)
+
+-- any other command is done after one event
+ends_other : (command : Command) (outcome : ProgramOutcome) (reply : LineReply) → ((handle : ℕ) (key : List ℕ) (value : ℤ) → command ≡ GetOrElse handle key value → ⊥) → reply_to outcome ≡ Some reply → Ends command outcome [] reply
+ends_other (Open h) outcome reply other shown = (refl, shown)
+ends_other (Snap h t) outcome reply other shown = (refl, shown)
+ends_other (Drop h) outcome reply other shown = (refl, shown)
+ends_other (Get h k) outcome reply other shown = (refl, shown)
+ends_other (Put h k v) outcome reply other shown = (refl, shown)
+ends_other (PutIfAbsent h k v) outcome reply other shown = (refl, shown)
+ends_other (Replace h k v) outcome reply other shown = (refl, shown)
+ends_other (ReplaceIf h k v w) outcome reply other shown = (refl, shown)
+ends_other (Remove h k) outcome reply other shown = (refl, shown)
+ends_other (RemoveIf h k v) outcome reply other shown = (refl, shown)
+ends_other (GetOrElse h k v) outcome reply other shown = absurd (other h k v refl)
+ends_other (Size h) outcome reply other shown = (refl, shown)
+ends_other (Clear h) outcome reply other shown = (refl, shown)
+
+-- a command that is done after one event
+one_event : (s t : ProgramState) (command : Command) (reply : LineReply) → ((outcome : ProgramOutcome) → reply_to outcome ≡ Some reply → Ends command outcome [] reply) → MayReply s (request_for command) reply t → MayAnswer s command reply t
+one_event s t command reply ends (outcome, step, shown) = ((request_for command, outcome) ∷ [], (outcome, [], refl, ends outcome shown), (t, step, refl))
+
+-- the line of a getorelse that found something
+pub found_at_once : (s t : ProgramState) (command : Command) (request : ProgramRequest) (handle : ℕ) (key : List ℕ) (value : ℤ) (reply : LineReply)
+    → command ≡ GetOrElse handle key value → (reply ≡ Absent → ⊥) → request ≡ request_for command → MayReply s request reply t → MayAnswer s command reply t
+found_at_once s t command request handle key value reply is present asked replies =
+    one_event s t command reply (λ outcome shown. rw is (ends_found handle key value outcome reply present shown)) (rw asked at replies)
+
+-- the line of any other command
+pub done_at_once : (s t : ProgramState) (command : Command) (request : ProgramRequest) (reply : LineReply)
+    → ((handle : ℕ) (key : List ℕ) (value : ℤ) → command ≡ GetOrElse handle key value → ⊥) → request ≡ request_for command → MayReply s request reply t → MayAnswer s command reply t
+done_at_once s t command request reply other asked replies =
+    one_event s t command reply (λ outcome shown. ends_other command outcome reply other shown) (rw asked at replies)
+
+-- the line of a getorelse that found nothing
+pub stored_then : {E : Type 0} (s m t : ProgramState) (command : Command) (request : ProgramRequest) (handle : ℕ) (key : List ℕ) (value : ℤ) (reply : LineReply) (result : Result LineReply E)
+    → command ≡ GetOrElse handle key value → reply ≡ Absent → request ≡ request_for command → MayReply s request reply m
+    → IfOk result (λ reply. MayStore m handle key value reply t) → IfOk result (λ reply. MayAnswer s command reply t)
+stored_then s m t command request handle key value reply (Err e) is nothing asked replies stores = tt
+stored_then s m t command request handle key value reply (Ok last) is nothing asked (first, step, shown) (second, later, told) =
+    let none : first ≡ replied (old None) = absent first (shown ∙ ap (λ (r : LineReply). Some r) nothing) in
+    let get_step : Step program s (on handle (get key)) (replied (old None)) m = rw (asked, is, none) at step in
+    rw is ((on handle (get key), replied (old None)) ∷ (on handle (put_if_absent key value), second) ∷ [], (replied (old None), (on handle (put_if_absent key value), second) ∷ [], refl, (second, refl, told)), (m, get_step, (t, later, refl)))
 
 -- one run after another
 run_append : (s t u : ProgramState) (es fs : List Event) → IsRun s es t → IsRun t fs u → IsRun s (es ++ fs) u

@@ -10,12 +10,12 @@ use Rattle.batch_cli.specs.Faults.{Faulty, VerbFault, CommandFault}
 use Rattle.batch_cli.specs.declared.verb.Verb.{Verb}
 use Rattle.batch_cli.specs.declared.verb.Verb.TheVariants as verbs
 use Rattle.batch_cli.specs.declared.command.Command.{Command}
-use Rattle.batch_cli.specs.declared.command.Command.TheVariants.{Open, Snap, Get, Put, Size}
+use Rattle.batch_cli.specs.declared.command.Command.TheVariants.{Open, Snap, Drop, Get, Put, PutIfAbsent, Replace, ReplaceIf, Remove, RemoveIf, GetOrElse, Size, Clear}
 use Rattle.batch_cli.specs.declared.fault.Reason.{Reason}
 use Rattle.batch_cli.proofs.FaultLemmas.{suited}
 
 abbrev every_verb : List Verb
-every_verb = verbs.Open ∷ verbs.Snap ∷ verbs.Get ∷ verbs.Put ∷ verbs.Size ∷ []
+every_verb = verbs.Open ∷ verbs.Snap ∷ verbs.Drop ∷ verbs.Get ∷ verbs.Put ∷ verbs.PutIfAbsent ∷ verbs.Replace ∷ verbs.ReplaceIf ∷ verbs.Remove ∷ verbs.RemoveIf ∷ verbs.GetOrElse ∷ verbs.Size ∷ verbs.Clear ∷ []
 
 -- the verb that has the name
 abbrev verb_with : List ℕ → Option Verb
@@ -24,9 +24,17 @@ verb_with name = find (λ verb. bytes_eq (name_of verb) name) every_verb
 verb_with-name_of : (verb : Verb) → verb_with (name_of verb) ≡ Some verb
 verb_with-name_of verbs.Open = refl
 verb_with-name_of verbs.Snap = refl
+verb_with-name_of verbs.Drop = refl
 verb_with-name_of verbs.Get = refl
 verb_with-name_of verbs.Put = refl
+verb_with-name_of verbs.PutIfAbsent = refl
+verb_with-name_of verbs.Replace = refl
+verb_with-name_of verbs.ReplaceIf = refl
+verb_with-name_of verbs.Remove = refl
+verb_with-name_of verbs.RemoveIf = refl
+verb_with-name_of verbs.GetOrElse = refl
 verb_with-name_of verbs.Size = refl
+verb_with-name_of verbs.Clear = refl
 
 -- a name names one verb
 pub one_verb : (v w : Verb) → name_of v ≡ name_of w → v ≡ w
@@ -36,25 +44,49 @@ one_verb v w e = let same : Some v ≡ Some w = sym (verb_with-name_of v) ∙ ap
 placed : (c : Command) → map place_of (arguments_of c) ≡ places_of (verb_of c)
 placed (Open h) = refl
 placed (Snap h t) = refl
+placed (Drop h) = refl
 placed (Get h k) = refl
 placed (Put h k v) = refl
+placed (PutIfAbsent h k v) = refl
+placed (Replace h k v) = refl
+placed (ReplaceIf h k v w) = refl
+placed (Remove h k) = refl
+placed (RemoveIf h k v) = refl
+placed (GetOrElse h k v) = refl
 placed (Size h) = refl
+placed (Clear h) = refl
 
 -- the command of a verb and arguments
 abbrev command_with : Verb → List Argument → Option Command
 command_with verbs.Open (handle_argument h ∷ []) = Some (Open h)
 command_with verbs.Snap (handle_argument h ∷ handle_argument t ∷ []) = Some (Snap h t)
+command_with verbs.Drop (handle_argument h ∷ []) = Some (Drop h)
 command_with verbs.Get (handle_argument h ∷ key_argument k ∷ []) = Some (Get h k)
 command_with verbs.Put (handle_argument h ∷ key_argument k ∷ value_argument v ∷ []) = Some (Put h k v)
+command_with verbs.PutIfAbsent (handle_argument h ∷ key_argument k ∷ value_argument v ∷ []) = Some (PutIfAbsent h k v)
+command_with verbs.Replace (handle_argument h ∷ key_argument k ∷ value_argument v ∷ []) = Some (Replace h k v)
+command_with verbs.ReplaceIf (handle_argument h ∷ key_argument k ∷ value_argument v ∷ value_argument w ∷ []) = Some (ReplaceIf h k v w)
+command_with verbs.Remove (handle_argument h ∷ key_argument k ∷ []) = Some (Remove h k)
+command_with verbs.RemoveIf (handle_argument h ∷ key_argument k ∷ value_argument v ∷ []) = Some (RemoveIf h k v)
+command_with verbs.GetOrElse (handle_argument h ∷ key_argument k ∷ value_argument v ∷ []) = Some (GetOrElse h k v)
 command_with verbs.Size (handle_argument h ∷ []) = Some (Size h)
+command_with verbs.Clear (handle_argument h ∷ []) = Some (Clear h)
 command_with verb arguments = None
 
 command_with-parts : (c : Command) → command_with (verb_of c) (arguments_of c) ≡ Some c
 command_with-parts (Open h) = refl
 command_with-parts (Snap h t) = refl
+command_with-parts (Drop h) = refl
 command_with-parts (Get h k) = refl
 command_with-parts (Put h k v) = refl
+command_with-parts (PutIfAbsent h k v) = refl
+command_with-parts (Replace h k v) = refl
+command_with-parts (ReplaceIf h k v w) = refl
+command_with-parts (Remove h k) = refl
+command_with-parts (RemoveIf h k v) = refl
+command_with-parts (GetOrElse h k v) = refl
 command_with-parts (Size h) = refl
+command_with-parts (Clear h) = refl
 
 -- in one place a spelling spells one argument
 same_argument : (a b : Argument) → place_of a ≡ place_of b → IsInRange a → IsInRange b → spelling_of a ≡ spelling_of b → a ≡ b

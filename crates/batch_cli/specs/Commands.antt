@@ -7,7 +7,7 @@ use Rattle.batch_cli.specs.Verbs.{Place, handle_place, key_place, value_place, n
 use Rattle.batch_cli.specs.declared.verb.Verb.{Verb}
 use Rattle.batch_cli.specs.declared.verb.Verb.TheVariants as verbs
 use Rattle.batch_cli.specs.declared.command.Command.{Command}
-use Rattle.batch_cli.specs.declared.command.Command.TheVariants.{Open, Snap, Get, Put, Size}
+use Rattle.batch_cli.specs.declared.command.Command.TheVariants.{Open, Snap, Drop, Get, Put, PutIfAbsent, Replace, ReplaceIf, Remove, RemoveIf, GetOrElse, Size, Clear}
 use Rattle.batch_cli.specs.declared.command.CommandLine.{CommandLine}
 
 -- what stands behind a verb
@@ -43,17 +43,33 @@ AreInRange (argument ∷ arguments) = IsInRange argument × AreInRange arguments
 abbrev pub verb_of : Command → Verb
 verb_of (Open handle) = verbs.Open
 verb_of (Snap handle target) = verbs.Snap
+verb_of (Drop handle) = verbs.Drop
 verb_of (Get handle key) = verbs.Get
 verb_of (Put handle key value) = verbs.Put
+verb_of (PutIfAbsent handle key value) = verbs.PutIfAbsent
+verb_of (Replace handle key value) = verbs.Replace
+verb_of (ReplaceIf handle key old new) = verbs.ReplaceIf
+verb_of (Remove handle key) = verbs.Remove
+verb_of (RemoveIf handle key value) = verbs.RemoveIf
+verb_of (GetOrElse handle key value) = verbs.GetOrElse
 verb_of (Size handle) = verbs.Size
+verb_of (Clear handle) = verbs.Clear
 
 -- its arguments, from left to right
 abbrev pub arguments_of : Command → List Argument
 arguments_of (Open handle) = handle_argument handle ∷ []
 arguments_of (Snap handle target) = handle_argument handle ∷ handle_argument target ∷ []
+arguments_of (Drop handle) = handle_argument handle ∷ []
 arguments_of (Get handle key) = handle_argument handle ∷ key_argument key ∷ []
 arguments_of (Put handle key value) = handle_argument handle ∷ key_argument key ∷ value_argument value ∷ []
+arguments_of (PutIfAbsent handle key value) = handle_argument handle ∷ key_argument key ∷ value_argument value ∷ []
+arguments_of (Replace handle key value) = handle_argument handle ∷ key_argument key ∷ value_argument value ∷ []
+arguments_of (ReplaceIf handle key old new) = handle_argument handle ∷ key_argument key ∷ value_argument old ∷ value_argument new ∷ []
+arguments_of (Remove handle key) = handle_argument handle ∷ key_argument key ∷ []
+arguments_of (RemoveIf handle key value) = handle_argument handle ∷ key_argument key ∷ value_argument value ∷ []
+arguments_of (GetOrElse handle key value) = handle_argument handle ∷ key_argument key ∷ value_argument value ∷ []
 arguments_of (Size handle) = handle_argument handle ∷ []
+arguments_of (Clear handle) = handle_argument handle ∷ []
 
 -- what a command spells: its verb and its arguments, a field each
 abbrev pub words_of : Command → List (List ℕ)

@@ -1,12 +1,12 @@
 -- What a command line asks of the machine of handles, and how it is answered.
 use Rattle.std.specs.Prelude.{◌≡◌, ℕ, ℤ, List, [], ◌∷◌, Option, Some, None, map}
 use Rattle.std.specs.Ordering.{int_eq}
-use Rattle.versions.specs.Commands.{get, put, size, old, done, count, cleared}
-use Rattle.handles.specs.Machine.{Kind, State, Request, open_handle, snapshot, on, Outcome, made, replied, refused, Run}
+use Rattle.versions.specs.Commands.{get, put, put_if_absent, replace, replace_if, remove, remove_if, size, clear, old, done, count, cleared}
+use Rattle.handles.specs.Machine.{Kind, State, Request, open_handle, snapshot, drop_handle, on, Outcome, made, replied, refused, Step, Run}
 use Rattle.handles.specs.Views.{without_queries}
 use Rattle.batch_cli.specs.Keys.{bytes_cmp}
 use Rattle.batch_cli.specs.declared.command.Command.{Command}
-use Rattle.batch_cli.specs.declared.command.Command.TheVariants.{Open, Snap, Get, Put, Size}
+use Rattle.batch_cli.specs.declared.command.Command.TheVariants.{Open, Snap, Drop, Get, Put, PutIfAbsent, Replace, ReplaceIf, Remove, RemoveIf, GetOrElse, Size, Clear}
 use Rattle.batch_cli.specs.declared.reply.LineReply.{LineReply}
 use Rattle.batch_cli.specs.declared.reply.LineReply.TheVariants as replies
 
@@ -30,13 +30,21 @@ ProgramOutcome = Outcome (List ℕ) ℤ (Unit {0})
 abbrev pub Event : Type 0
 Event = ProgramRequest × ProgramOutcome
 
--- the request of a command that makes one
+-- the request of a command; of `getorelse`, which may make two, the first
 abbrev pub request_for : Command → ProgramRequest
 request_for (Open handle) = open_handle handle
 request_for (Snap handle target) = snapshot handle target
+request_for (Drop handle) = drop_handle handle
 request_for (Get handle key) = on handle (get key)
 request_for (Put handle key value) = on handle (put key value)
+request_for (PutIfAbsent handle key value) = on handle (put_if_absent key value)
+request_for (Replace handle key value) = on handle (replace key value)
+request_for (ReplaceIf handle key was value) = on handle (replace_if key was value)
+request_for (Remove handle key) = on handle (remove key)
+request_for (RemoveIf handle key value) = on handle (remove_if key value)
+request_for (GetOrElse handle key value) = on handle (get key)
 request_for (Size handle) = on handle size
+request_for (Clear handle) = on handle clear
 
 -- the reply that shows the outcome of a request
 abbrev pub reply_to : ProgramOutcome → Option LineReply
@@ -49,9 +57,20 @@ reply_to (replied cleared) = Some replies.Done
 reply_to (refused refusal) = Some (replies.Refused refusal)
 reply_to _ = None
 
+-- the same where a line's own value stands in for one that was not found
+abbrev pub reply_with : ℤ → ProgramOutcome → Option LineReply
+reply_with value (replied (old None)) = Some (replies.Found value)
+reply_with value outcome = reply_to outcome
+
+-- after a first event with this outcome the command makes these events besides, and its line has this reply:
+-- a `getorelse` whose get found nothing makes a put_if_absent, and any other command is done
+abbrev pub Ends : Command → ProgramOutcome → List Event → LineReply → Type 0
+Ends (GetOrElse handle key value) (replied (old None)) events reply = (outcome : ProgramOutcome) × (events ≡ (on handle (put_if_absent key value), outcome) ∷ []) × (reply_with value outcome ≡ Some reply)
+Ends command outcome events reply = (events ≡ []) × (reply_to outcome ≡ Some reply)
+
 -- the command makes these events, one after another, and its line has this reply
 abbrev pub Makes : Command → List Event → LineReply → Type 0
-Makes command events reply = (outcome : ProgramOutcome) × (events ≡ (request_for command, outcome) ∷ []) × (reply_to outcome ≡ Some reply)
+Makes command events reply = (outcome : ProgramOutcome) × (later : List Event) × (events ≡ (request_for command, outcome) ∷ later) × Ends command outcome later reply
 
 -- the events are a run of the machine from one state to the other
 abbrev pub IsRun : ProgramState → List Event → ProgramState → Type 0
@@ -60,3 +79,11 @@ IsRun s events t = Run program s (map (λ e. e.0) events) (map (λ e. e.1) event
 -- the machine may answer the command so, and is in the second state then
 abbrev pub MayAnswer : ProgramState → Command → LineReply → ProgramState → Type 0
 MayAnswer s command reply t = (events : List Event) × Makes command events reply × IsRun s events t
+
+-- the same of one request
+abbrev pub MayReply : ProgramState → ProgramRequest → LineReply → ProgramState → Type 0
+MayReply s request reply t = (outcome : ProgramOutcome) × Step program s request outcome t × (reply_to outcome ≡ Some reply)
+
+-- the same of a put_if_absent, where the line's own value stands in for one that was not found
+abbrev pub MayStore : ProgramState → ℕ → List ℕ → ℤ → LineReply → ProgramState → Type 0
+MayStore s handle key value reply t = (outcome : ProgramOutcome) × Step program s (on handle (put_if_absent key value)) outcome t × (reply_with value outcome ≡ Some reply)

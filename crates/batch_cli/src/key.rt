@@ -3,6 +3,7 @@
 ghost use Rattle.std.specs.Prelude.{◌≡◌, ◌↔◌, IfOk, IsTrue, SomeIff};
 ghost use Rattle.batch_cli.specs.Keys.{IsKey};
 
+use hash_path::{Path, PathKey};
 use std::alloc::{AllocError, Global};
 use std::cmp::Ordering;
 use std::marker::Model;
@@ -120,5 +121,20 @@ impl Ord for Key {
 
     fn cmp(&self, other: &Key) -> Ordering {
         self.as_slice().cmp(other.as_slice())
+    }
+}
+
+impl PathKey for Key {
+    ghost use Rattle.hash_path.specs.Fnv.{fnv1a, fnv1a-below};
+    ghost use Rattle.std.specs.FinMap.{nat_cmp-IsAntisymmetric, slice_cmp-IsAntisymmetric};
+
+    ghost path_of = { fnv1a };
+
+    ghost exact = { slice_cmp-IsAntisymmetric nat_cmp-IsAntisymmetric };
+
+    ghost small = { fnv1a-below };
+
+    fn path(&self) -> Path {
+        Path::fnv1a(self.as_slice())
     }
 }

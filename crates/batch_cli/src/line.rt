@@ -43,26 +43,77 @@ fn command_with(alloc: Global, verb: Verb, fields: Fields<'_>) -> Result<Command
     ensures err { IfErr result (StopsBy (Faulty (places_of verb) (fields_of fields.entry.0.now))) }
 {
     match verb {
-        Verb::Open => {
+        Verb::Open | Verb::Drop | Verb::Size | Verb::Clear => {
             let handle = one_handle(fields)?;
-            Ok(Command::Open { handle })
+            Ok(command_on(verb, handle))
         }
         Verb::Snap => {
             let (handle, target) = two_handles(fields)?;
             Ok(Command::Snap { handle, target })
         }
-        Verb::Get => {
+        Verb::Get | Verb::Remove => {
             let (handle, key) = handle_key(alloc, fields)?;
-            Ok(Command::Get { handle, key })
+            Ok(command_on_key(verb, handle, key))
         }
-        Verb::Put => {
+        Verb::Put | Verb::PutIfAbsent | Verb::Replace | Verb::RemoveIf | Verb::GetOrElse => {
             let (handle, (key, value)) = handle_key_value(alloc, fields)?;
-            Ok(Command::Put { handle, key, value })
+            Ok(command_on_pair(verb, handle, key, value))
         }
-        Verb::Size => {
-            let handle = one_handle(fields)?;
-            Ok(Command::Size { handle })
+        Verb::ReplaceIf => {
+            let (handle, (key, (old, new))) = handle_key_values(alloc, fields)?;
+            Ok(Command::ReplaceIf {
+                handle,
+                key,
+                old,
+                new,
+            })
         }
+    }
+}
+
+/// The command of a verb that takes a handle alone.
+fn command_on(verb: Verb, handle: u32) -> Command
+    requires { places_of verb ≡ handle_place ∷ [] }
+    ensures lawful { IsLawful result }
+    ensures words { words_of result ≡ name_of verb ∷ decimal handle ∷ [] }
+{
+    match verb {
+        Verb::Open => Command::Open { handle },
+        Verb::Drop => Command::Drop { handle },
+        Verb::Size => Command::Size { handle },
+        Verb::Clear => Command::Clear { handle },
+        _ => unreachable!(),
+    }
+}
+
+/// The command of a verb that takes a handle and a key.
+fn command_on_key(verb: Verb, handle: u32, key: Key) -> Command
+    requires places { places_of verb ≡ handle_place ∷ key_place ∷ [] }
+    requires key { IsKey key }
+    ensures lawful { IsLawful result }
+    ensures words { words_of result ≡ name_of verb ∷ decimal handle ∷ key ∷ [] }
+{
+    match verb {
+        Verb::Get => Command::Get { handle, key },
+        Verb::Remove => Command::Remove { handle, key },
+        _ => unreachable!(),
+    }
+}
+
+/// The command of a verb that takes a handle, a key and a value.
+fn command_on_pair(verb: Verb, handle: u32, key: Key, value: i64) -> Command
+    requires places { places_of verb ≡ handle_place ∷ key_place ∷ value_place ∷ [] }
+    requires key { IsKey key }
+    ensures lawful { IsLawful result }
+    ensures words { words_of result ≡ name_of verb ∷ decimal handle ∷ key ∷ signed_decimal value ∷ [] }
+{
+    match verb {
+        Verb::Put => Command::Put { handle, key, value },
+        Verb::PutIfAbsent => Command::PutIfAbsent { handle, key, value },
+        Verb::Replace => Command::Replace { handle, key, value },
+        Verb::RemoveIf => Command::RemoveIf { handle, key, value },
+        Verb::GetOrElse => Command::GetOrElse { handle, key, value },
+        _ => unreachable!(),
     }
 }
 
@@ -190,4 +241,34 @@ fn handle_key_value(alloc: Global, mut fields: Fields<'_>) -> Result<(u32, (Key,
     let handle = handle_at(&mut fields)?;
     let pair = key_value(alloc, fields)?;
     Ok((handle, pair))
+}
+
+fn two_values(mut fields: Fields<'_>) -> Result<(i64, i64), Stop>
+    ensures ok { IfOk result (λ x. FitsSigned w64 x.0 × FitsSigned w64 x.1 × (fields_of fields.entry.0.now ≡ signed_decimal x.0 ∷ signed_decimal x.1 ∷ [])) }
+    ensures err { IfErr result (StopsBy (Faulty (value_place ∷ value_place ∷ []) (fields_of fields.entry.0.now))) }
+{
+    let old = value_at(&mut fields)?;
+    let new = one_value(fields)?;
+    Ok((old, new))
+}
+
+fn key_values(alloc: Global, mut fields: Fields<'_>) -> Result<(Key, (i64, i64)), Stop>
+    ensures ok { IfOk result (λ x. IsKey x.0 × FitsSigned w64 x.1.0 × FitsSigned w64 x.1.1 × (fields_of fields.entry.0.now ≡ x.0 ∷ signed_decimal x.1.0 ∷ signed_decimal x.1.1 ∷ [])) }
+    ensures err { IfErr result (StopsBy (Faulty (key_place ∷ value_place ∷ value_place ∷ []) (fields_of fields.entry.0.now))) }
+{
+    let key = key_at(alloc, &mut fields)?;
+    let values = two_values(fields)?;
+    Ok((key, values))
+}
+
+fn handle_key_values(
+    alloc: Global,
+    mut fields: Fields<'_>,
+) -> Result<(u32, (Key, (i64, i64))), Stop>
+    ensures ok { IfOk result (λ x. IsKey x.1.0 × FitsSigned w64 x.1.1.0 × FitsSigned w64 x.1.1.1 × (fields_of fields.entry.0.now ≡ decimal x.0 ∷ x.1.0 ∷ signed_decimal x.1.1.0 ∷ signed_decimal x.1.1.1 ∷ [])) }
+    ensures err { IfErr result (StopsBy (Faulty (handle_place ∷ key_place ∷ value_place ∷ value_place ∷ []) (fields_of fields.entry.0.now))) }
+{
+    let handle = handle_at(&mut fields)?;
+    let values = key_values(alloc, fields)?;
+    Ok((handle, values))
 }

@@ -1,5 +1,5 @@
 -- What the places show.
-use Rattle.std.proofs.Common.{◌≡◌, ℕ, ◌+◌, ◌<◌, ◌≤◌, List, [], ◌∷◌, length, Option, Some, None, cond, Bool, true, false, refl, ap, sym, ◌∙◌, suc, zero, arith, option_map, map, subst, ◌++◌, get_or, take, drop}
+use Rattle.std.proofs.Common.{◌≡◌, ℕ, ◌+◌, ◌<◌, ◌≤◌, List, [], ◌∷◌, length, Option, Some, None, cond, true, refl, ap, sym, ◌∙◌, suc, zero, arith, option_map, map, subst, ◌++◌, get_or, take, drop}
 use Rattle.std.proofs.lemmas.Grind.{common_steps}
 use Rattle.std.proofs.lemmas.Option.{slice_get_read}
 use Rattle.std.proofs.lemmas.List.{length-map}
@@ -60,7 +60,7 @@ slice_get-map f [] i = refl
 slice_get-map f (x ∷ xs) zero = refl
 slice_get-map f (x ∷ xs) (suc i) = slice_get-map f xs i
 
-map-slice_set : {A B : Type 0} (f : A → B) (xs : List A) (i : ℕ) (x : A) → map f (slice_set xs i x) ≡ slice_set (map f xs) i (f x)
+pub map-slice_set : {A B : Type 0} (f : A → B) (xs : List A) (i : ℕ) (x : A) → map f (slice_set xs i x) ≡ slice_set (map f xs) i (f x)
 map-slice_set f [] i x = refl
 map-slice_set f (y ∷ xs) zero x = refl
 map-slice_set f (y ∷ xs) (suc i) x = ap (λ (r : List _). f y ∷ r) (map-slice_set f xs i x)
@@ -138,16 +138,6 @@ module _ {K V : Type 0} where
   pub live_here : (k : ℕ) (places : List (Option (Contents K V))) → is_some (value_at nat_cmp (live_from 0 (maps_in places)) k) ≡ true → IsSome (version_in places k)
   live_here k places e = live_place k places (ap is_some (sym (held_at k places)) ∙ e)
 
-  fits_place : (P : ℕ → Map K V → Bool) (n l k : ℕ) (places : List (Option (Contents K V))) → AllWithin n l places
-      → is_some (unwrap_or (option_map map_in (slice_get places k)) None) ≡ true
-      → P n (unwrap_or (unwrap_or (option_map map_in (slice_get places k)) None) []) ≡ false
-      → IsSomeAnd (version_in places k) (λ v. P v.limit v.entries ≡ false)
-  fits_place P n l k [] have e f = absurd (cc)
-  fits_place P n l zero (None ∷ ps) have e f = absurd (cc)
-  fits_place P n l zero (Some v ∷ ps) have e f = ap (λ (m : ℕ). P m v.entries) have.0 ∙ f
-  fits_place P n l (suc k) (None ∷ ps) have e f = fits_place P n l k ps have e f
-  fits_place P n l (suc k) (Some w ∷ ps) have e f = fits_place P n l k ps have.2 e f
-
   issued_place : (n l k : ℕ) (places : List (Option (Contents K V))) → AllWithin n l places
       → is_some (unwrap_or (option_map map_in (slice_get places k)) None) ≡ true
       → IsSomeAnd (version_in places k) (λ v. v.stamp ≤ l)
@@ -162,15 +152,6 @@ module _ {K V : Type 0} where
       → is_some (value_at nat_cmp (live_from 0 (maps_in places)) k) ≡ true
       → IsSomeAnd (version_in places k) (λ v. v.stamp ≤ l)
   issued_here n l k places have e = issued_place n l k places have (ap is_some (sym (held_at k places)) ∙ e)
-
-  -- what the map of a live handle passes under the limit, its version passes
-  pub fits_here : (P : ℕ → Map K V → Bool) (n l k : ℕ) (places : List (Option (Contents K V))) → AllWithin n l places
-      → is_some (value_at nat_cmp (live_from 0 (maps_in places)) k) ≡ true
-      → P n (unwrap_or (value_at nat_cmp (live_from 0 (maps_in places)) k) []) ≡ false
-      → IsSomeAnd (version_in places k) (λ v. P v.limit v.entries ≡ false)
-  fits_here P n l k places have e f =
-      fits_place P n l k places have (ap is_some (sym (held_at k places)) ∙ e)
-      (ap (λ (m : Option (Map K V)). P n (unwrap_or m [])) (sym (held_at k places)) ∙ f)
 
 module _ {T E : Type 0} where
   pub if_ok : (P Q : T → Type 0) → ((x : T) → P x → Q x) → (r : Result T E) → IfOk r P → IfOk r Q

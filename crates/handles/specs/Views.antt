@@ -7,20 +7,26 @@ use Rattle.versions.specs.Commands as commands
 use Rattle.versions.specs.declared.refusal.Refusal.{Refusal}
 use Rattle.versions.specs.declared.refusal.Refusal.TheVariants.{NoMemory}
 use Rattle.handles.specs.declared.command.Command.{Command}
-use Rattle.handles.specs.declared.command.Command.TheVariants.{Get, Put, Size}
+use Rattle.handles.specs.declared.command.Command.TheVariants.{Get, Put, PutIfAbsent, Replace, ReplaceIf, Remove, RemoveIf, Size, Clear}
 use Rattle.handles.specs.declared.reply.Reply.{Reply}
 use Rattle.handles.specs.declared.reply.Reply.TheVariants as replies
 use Rattle.handles.specs.declared.call.Call.{Call}
-use Rattle.handles.specs.declared.call.Call.TheVariants.{Open, Snapshot, On}
+use Rattle.handles.specs.declared.call.Call.TheVariants.{Open, Snapshot, Drop, On}
 use Rattle.handles.specs.declared.call_reply.CallReply.{CallReply}
 use Rattle.handles.specs.declared.call_reply.CallReply.TheVariants as call_replies
-use Rattle.handles.specs.Machine.{Kind, State, Request, open_handle, snapshot, on, takes_no_memory, Outcome, Step, made, replied, refused}
+use Rattle.handles.specs.Machine.{Kind, State, Request, open_handle, snapshot, drop_handle, on, takes_no_memory, Outcome, Step, made, replied, refused}
 
 -- a command, wherever its key and values lie
 abbrev pub command_of : {K V : Type 0} → Command K V → commands.Command K V
 command_of (Get k) = commands.get (arc_value k)
 command_of (Put k v) = commands.put (arc_value k) (arc_value v)
+command_of (PutIfAbsent k v) = commands.put_if_absent (arc_value k) (arc_value v)
+command_of (Replace k v) = commands.replace (arc_value k) (arc_value v)
+command_of (ReplaceIf k was v) = commands.replace_if (arc_value k) (arc_value was) (arc_value v)
+command_of (Remove k) = commands.remove (arc_value k)
+command_of (RemoveIf k v) = commands.remove_if (arc_value k) (arc_value v)
 command_of Size = commands.size
+command_of Clear = commands.clear
 
 -- a reply, wherever its value lies
 abbrev pub reply_of : {V : Type 0} → Reply V → commands.Reply V
@@ -49,7 +55,7 @@ told_itself a = a
 abbrev pub without_queries : {K V : Type 0} → (K → K → Ordering) → (V → V → Bool) → Kind K V (Unit {0}) (Unit {0}) (Unit {0})
 without_queries R E = record { order = R; equal = E; target = no_target; answers = no_answer; map_of = no_map; told = told_itself }
 
--- the outcome of a call that opened a handle
+-- the outcome of a call that opened or closed a handle
 abbrev pub unit_outcome : {K V B : Type 0} → Unit {0} → Outcome K V B
 unit_outcome u = made
 
@@ -61,6 +67,7 @@ reply_outcome y = replied (reply_of y)
 abbrev pub request_of : {K V Q : Type 0} → Call K V → Request K V Q
 request_of (Open h) = open_handle h
 request_of (Snapshot h to) = snapshot h to
+request_of (Drop h) = drop_handle h
 request_of (On h c) = on h (command_of c)
 
 -- the outcome of a call that was answered so
@@ -85,12 +92,6 @@ outcomes_of answers = map outcome_of answers
 abbrev pub lacks_memory : {T : Type 0} → Result T Refusal → Bool
 lacks_memory (Err NoMemory) = true
 lacks_memory _ = false
-
--- a call is refused for want of memory alone, and not where it takes no memory
-abbrev pub RefusedForMemoryAlone : {T : Type 0} → Result T Refusal → Bool → Type 0
-RefusedForMemoryAlone (Ok x) takes_none = Unit {0}
-RefusedForMemoryAlone (Err NoMemory) takes_none = takes_none ≡ false
-RefusedForMemoryAlone (Err e) takes_none = ⊥
 
 module _ {K V Q A B T : Type 0} (kind : Kind K V Q A B) where
   -- a call is a step of the machine, with the outcome that its result shows; but for want of memory it changes nothing

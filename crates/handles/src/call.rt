@@ -8,6 +8,8 @@ pub enum Call<K, V> {
     Open(u32),
     /// Opens the second handle, with the pairs of the first.
     Snapshot(u32, u32),
+    /// Closes the handle.
+    Drop(u32),
     /// Makes the command on the handle.
     On(u32, Command<K, V>),
 }

@@ -2,9 +2,9 @@
 use crate::reply::Reply;
 
 /// What a call is answered where it is not refused.
-#[derive(Debug, Drop, PartialEq, Eq)]
+#[derive(Debug, Drop)]
 pub enum CallReply<V> {
-    /// A handle was opened.
+    /// A handle was opened or closed.
     Unit,
     /// A command was made, and this is its reply.
     Reply(Reply<V>),

@@ -1,10 +1,11 @@
 //! The places of a table, each of which has a version where its handle is live.
-ghost use Rattle.std.specs.Prelude.{◌≡◌, ℕ, ◌<◌, ◌≤◌, ◌+◌, ◌^◌, length, [], IfOk, IsSomeAnd, OnErr, OnOk, false, option_map, unwrap_or};
+ghost use Rattle.std.specs.Prelude.{◌≡◌, ℕ, ◌<◌, ◌≤◌, ◌+◌, ◌^◌, length, [], IfOk, IsSome, IsSomeAnd, OnErr, OnOk, false, true, option_map, unwrap_or};
 ghost use Rattle.std.specs.Ordering.{nat_cmp};
 ghost use Rattle.handles.specs.Handles.{AllWithin, live_from, maps_in, version_in};
-ghost use Rattle.handles.specs.Views.{RefusedForMemoryAlone, command_of, reply_of};
+ghost use Rattle.handles.specs.Views.{command_of, lacks_memory, reply_of};
 ghost use Rattle.versions.specs.Commands.{after, is_full, needs_no_memory, reply};
-ghost use Rattle.versions.specs.Map.{value_at, with_pair};
+ghost use Rattle.versions.specs.Map.{value_at, with_pair, without};
+ghost use Rattle.versions.specs.Puts.{FullExactly};
 
 use crate::command::Command;
 use crate::reply::Reply;
@@ -40,6 +41,15 @@ pub fn put_version<K: PathKey + Drop, V: Drop>(
     places[handle as usize] = Some(version);
 }
 
+/// Takes the version out of the place of the handle.
+pub fn drop_version<K: PathKey + Drop, V: Drop>(places: &mut [Option<Version<K, V>>], handle: u32)
+    requires { handle < length places.old }
+    ensures live { live_from 0 (maps_in places.new) ≡ without nat_cmp (live_from 0 (maps_in places.old)) handle }
+    ensures within { (n s : ℕ) → AllWithin n s places.old → AllWithin n s places.new }
+{
+    places[handle as usize] = None;
+}
+
 /// Makes the command on the version in the place of the handle.
 pub fn run_at<K: PathKey + Drop, V: Eq + Drop>(
     alloc: Global,
@@ -48,11 +58,12 @@ pub fn run_at<K: PathKey + Drop, V: Eq + Drop>(
     command: Command<K, V>,
 ) -> Result<Reply<V>, Refusal>
     requires place { handle < length places.old }
-    requires fits { IsSomeAnd (version_in places.old handle) (λ v. is_full K.cmp v.limit v.entries (command_of command) ≡ false) }
+    requires live { IsSome (version_in places.old handle) }
     ensures reply { IfOk result (λ y. reply_of y ≡ reply K.cmp V.eq (unwrap_or (value_at nat_cmp (live_from 0 (maps_in places.old)) handle) []) (command_of command)) }
     ensures live { OnOk result (live_from 0 (maps_in places.new) ≡ with_pair nat_cmp (live_from 0 (maps_in places.old)) handle (after K.cmp V.eq (unwrap_or (value_at nat_cmp (live_from 0 (maps_in places.old)) handle) []) (command_of command))) }
     ensures within { (n s : ℕ) → AllWithin n s places.old → AllWithin n s places.new }
-    ensures memory { RefusedForMemoryAlone result (needs_no_memory (command_of command)) }
+    ensures full { (n s : ℕ) → AllWithin n s places.old → FullExactly result (is_full K.cmp n (unwrap_or (value_at nat_cmp (live_from 0 (maps_in places.old)) handle) []) (command_of command)) }
+    ensures memory { needs_no_memory (command_of command) ≡ true → lacks_memory result ≡ false }
     ensures err { OnErr result (live_from 0 (maps_in places.new) ≡ live_from 0 (maps_in places.old)) }
 {
     match &mut places[handle as usize] {

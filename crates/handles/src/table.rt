@@ -1,5 +1,6 @@
 //! The table of handles.
-ghost use Rattle.std.specs.Prelude.{◌≡◌, ◌+◌, ◌<◌, ◌≤◌, IfOk, OnErr, if◌then◌else◌, true};
+ghost use Rattle.std.specs.Prelude.{◌≡◌, ◌+◌, ◌<◌, ◌≤◌, IfOk, OnErr, if◌then◌else◌, false, true};
+ghost use Rattle.handles.specs.Machine as Machine;
 ghost use Rattle.handles.specs.Machine.{IsRunOfSome, Run, is_entry, nothing, on, open_handle, snapshot};
 ghost use Rattle.handles.specs.Views.{AnswersWithoutMemory, IsStep, command_of, lacks_memory, unit_outcome, reply_outcome, call_outcome, outcomes_of, request_of, requests_of, without_queries};
 
@@ -7,7 +8,7 @@ use crate::call::Call;
 use crate::call_reply::CallReply;
 use crate::command::Command;
 use crate::limits::{Limits, MOST_ENTRIES};
-use crate::places::{fork_at, put_version, run_at};
+use crate::places::{drop_version, fork_at, put_version, run_at};
 use crate::reply::Reply;
 use generation::Source;
 use hash_path::PathKey;
@@ -112,6 +113,7 @@ impl<K: PathKey + Drop, V: Eq + Drop> Table<K, V> {
     /// Makes the command on the handle. `Get` makes no request for memory, and `Size` is never `NoMemory`.
     ///
     /// It is refused as `JournalFull`, `BadNumber`, `NoHandle`, `Full` or `NoMemory`.
+    #[tactic(auto, using(crate::proofs::Live::live_here))]
     pub fn call(
         &mut self,
         alloc: Global,
@@ -121,15 +123,34 @@ impl<K: PathKey + Drop, V: Eq + Drop> Table<K, V> {
         ensures step { IsStep (without_queries K.cmp V.eq) self.old (on handle (command_of command)) reply_outcome result self.new }
         ensures memory { AnswersWithoutMemory (without_queries K.cmp V.eq) (on handle (command_of command)) result }
     {
-        if let Some(refusal) = self.refusal_of_command(handle, &command) {
+        if let Some(refusal) = self.refusal_of_use(handle) {
             return Err(self.refused(refusal));
         }
-        let reply = run_at(alloc, &mut self.places, handle, command)?;
-        self.entries += 1;
-        Ok(reply)
+        match run_at(alloc, &mut self.places, handle, command) {
+            Ok(reply) => {
+                self.entries += 1;
+                Ok(reply)
+            }
+            Err(refusal) => Err(self.refused(refusal)),
+        }
     }
 
-    /// Makes the call, as `open`, `snapshot` and `call` do.
+    /// Closes the handle: it is not live then. It takes no memory and is never `NoMemory`.
+    ///
+    /// It is refused as `JournalFull`, `BadNumber` or `NoHandle`.
+    pub fn drop_handle(&mut self, handle: u32) -> Result<(), Refusal>
+        ensures step { IsStep (without_queries K.cmp V.eq) self.old (Machine.drop_handle handle) unit_outcome result self.new }
+        ensures memory { lacks_memory result ≡ false }
+    {
+        if let Some(refusal) = self.refusal_of_use(handle) {
+            return Err(self.refused(refusal));
+        }
+        drop_version(&mut self.places, handle);
+        self.entries += 1;
+        Ok(())
+    }
+
+    /// Makes the call, as `open`, `snapshot`, `drop_handle` and `call` do.
     pub fn serve(&mut self, alloc: Global, call: Call<K, V>) -> Result<CallReply<V>, Refusal>
         ensures step { IsStep (without_queries K.cmp V.eq) self.old (request_of call) call_outcome result self.new }
         ensures memory { AnswersWithoutMemory (without_queries K.cmp V.eq) (request_of call) result }
@@ -140,6 +161,10 @@ impl<K: PathKey + Drop, V: Eq + Drop> Table<K, V> {
                 Err(refusal) => Err(refusal),
             },
             Call::Snapshot(handle, to) => match self.snapshot(handle, to) {
+                Ok(()) => Ok(CallReply::Unit),
+                Err(refusal) => Err(refusal),
+            },
+            Call::Drop(handle) => match self.drop_handle(handle) {
                 Ok(()) => Ok(CallReply::Unit),
                 Err(refusal) => Err(refusal),
             },

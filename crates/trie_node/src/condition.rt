@@ -49,6 +49,7 @@ impl<V> Condition<V> for IfPresent {
 }
 
 /// The write takes place where the key is mapped to an equal value.
+#[derive(Drop)]
 pub struct IfEqual<'v, V>(pub &'v V);
 
 impl<'v, V: Eq> Condition<V> for IfEqual<'v, V> {

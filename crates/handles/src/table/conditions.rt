@@ -1,10 +1,9 @@
 //! Why the calls of a table are refused, for want of memory aside.
 ghost use Rattle.std.specs.Prelude.{◌≡◌};
-ghost use Rattle.handles.specs.Machine.{on, open_handle, refusal, snapshot};
-ghost use Rattle.handles.specs.Views.{command_of, without_queries};
+ghost use Rattle.handles.specs.Machine.{drop_handle, open_handle, refusal, snapshot};
+ghost use Rattle.handles.specs.Views.{without_queries};
 
 use super::Table;
-use crate::command::Command;
 use crate::places::version_at;
 use hash_path::PathKey;
 use versions::Refusal;
@@ -51,9 +50,9 @@ impl<K: PathKey + Drop, V: Eq + Drop> Table<K, V> {
         None
     }
 
-    /// Why the command cannot be made on the handle, if it cannot.
-    pub(super) fn refusal_of_command(&self, handle: u32, command: &Command<K, V>) -> Option<Refusal>
-        ensures { result ≡ refusal (without_queries K.cmp V.eq) self.now (on handle (command_of command.now)) }
+    /// Why the handle cannot be used, if it cannot: for a drop, or for a command that has a place for its key.
+    pub(super) fn refusal_of_use(&self, handle: u32) -> Option<Refusal>
+        ensures { result ≡ refusal (without_queries K.cmp V.eq) self.now (drop_handle handle) }
     {
         if self.limits.entries - self.entries < LEAST_ROOM {
             return Some(Refusal::JournalFull);
@@ -61,15 +60,9 @@ impl<K: PathKey + Drop, V: Eq + Drop> Table<K, V> {
         if handle > LAST_HANDLE {
             return Some(Refusal::BadNumber);
         }
-        match version_at(&self.places, handle) {
-            None => Some(Refusal::NoHandle),
-            Some(version) => {
-                if command.is_full_at(version, self.limits.pairs) {
-                    Some(Refusal::Full)
-                } else {
-                    None
-                }
-            }
+        if version_at(&self.places, handle).is_none() {
+            return Some(Refusal::NoHandle);
         }
+        None
     }
 }

@@ -1,7 +1,8 @@
-use Rattle.std.proofs.Common.{◌∙◌, ap, sym, arith}
+use Rattle.std.proofs.Common.{◌∙◌, ap, subst, sym, arith}
 use Rattle.std.specs.Ordering.{nat_cmp}
 use Rattle.versions.specs.Map.{Map, with_pair}
 use Rattle.versions.specs.Commands as map
+use Rattle.versions.specs.Puts.{FullExactly}
 use Rattle.handles.specs.Handles.{live_from, maps_in}
 use Rattle.handles.specs.Views.{command_of}
 use Rattle.handles.proofs.Live.{with_version, here_is, all_within_set, within_here, if_ok, on_ok, on_err, same_maps}
@@ -30,3 +31,13 @@ returns-clause-within g c n s have =
 pub returns-clause-err : goal.returns-clause-err
 returns-clause-err g c =
     on_err _ _ (λ e. ap (live_from 0) (same_maps c.args.handle c.args.places.now c.index-places-handle.result c.in-Some.version c.run_on.new.version c.in-Some.is (ap (λ v. v.entries) e))) c.run_on.result c.run_on.ensures.err
+
+pub returns-clause-full : goal.returns-clause-full
+returns-clause-full g c n s have =
+    let R = g.K.Ord.cmp in
+    let command = command_of c.args.command in
+    let version = c.in-Some.version in
+    let here = here_is c.args.handle c.args.places.now c.index-places-handle.result version c.requires.place c.index-places-handle.is c.in-Some.is in
+    let within = within_here n s c.args.handle c.args.places.now c.index-places-handle.result version have c.requires.place c.in-Some.is in
+    subst (λ (m : Map g.row.K.Denot g.row.V.Denot). FullExactly c.run_on.result (map.is_full R n m command)) (sym here)
+    (subst (λ l. FullExactly c.run_on.result (map.is_full R l version.entries command)) within.limit c.run_on.ensures.full)
