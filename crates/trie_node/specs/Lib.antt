@@ -1,0 +1,10 @@
+pub mod Map
+pub mod Tree
+pub mod Shape
+pub mod View
+pub mod Roots
+pub mod Writes
+pub mod Outline
+pub mod Looks
+pub mod Conditions
+pub mod Changes

@@ -1,0 +1,25 @@
+//! Shared nodes of a hash trie.
+//!
+//! A root is a finite map: `find` reads it, `with_put` and `with_removed` give the root of the
+//! changed map and leave the old one as it was. They copy the nodes of one path and share all
+//! others. Which nodes a root has is a function of its pairs; a write puts its stamp on the nodes
+//! of its key's path and on no other.
+#![tactic(auto)]
+
+mod condition;
+mod node;
+mod put;
+mod reading;
+mod removal;
+mod search;
+mod shown;
+mod stamps;
+
+pub use condition::{Always, Condition, IfAbsent, IfEqual, IfPresent};
+pub use node::{Node, empty_root};
+pub use put::{Written, put_where, with_put};
+pub use reading::{child, look, size, stamp};
+pub use removal::{removed_where, with_removed};
+pub use search::find;
+pub use shown::Look;
+pub use stamps::{NoMemory, Stamp};
