@@ -1,0 +1,3 @@
+pub mod Ones
+pub mod Walk
+pub mod Bound

@@ -1,0 +1,12 @@
+//! Generations of a trie: stamps that are issued once each, and the nodes that carry one.
+//!
+//! A fork gives a version and its copy a fresh stamp each and copies no node. A later write puts
+//! its version's stamp on the nodes that it copies, so the nodes with a version's own stamp are
+//! those that no other version shares.
+#![tactic(auto)]
+
+mod own;
+mod source;
+
+pub use own::own_nodes;
+pub use source::Source;
