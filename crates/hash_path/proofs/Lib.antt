@@ -1,3 +1,4 @@
 pub mod Weights
 pub mod Spelling
 pub mod Positions
+pub mod WordLaws

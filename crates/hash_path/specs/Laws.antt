@@ -1,5 +1,6 @@
 -- What the crates above may use of words, digits and positions.
-use Rattle.std.specs.Prelude.{◌≡◌, ◌↔◌, ℕ, ◌+◌, ◌*◌, ◌^◌, ◌<◌, ◌≤◌, take}
+use Rattle.std.specs.Prelude.{◌≡◌, ◌↔◌, ℕ, ◌+◌, ◌*◌, ◌^◌, ◌<◌, ◌≤◌, List, length, take, true, nat_eq}
+use Rattle.std.specs.List.{starts_with}
 use Rattle.std.specs.Ordering.{nat_cmp}
 use Rattle.std.specs.Cmp.Lexicographic.{slice_cmp}
 use Rattle.hash_path.specs.Digits.{word_bits, word_digits, digit, digits_after, spelled, word_of, breadth, position, lowest}
@@ -37,6 +38,13 @@ DigitInterval =
     (level w v : ℕ) → level ≤ word_digits → IsWord w → IsWord v →
     (digits_after 0 level v ≡ digits_after 0 level w) ↔
     ((lowest (digits_after 0 level w) ≤ position v) × (position v < lowest (digits_after 0 level w) + breadth word_bits level))
+
+-- the same of the words whose digits begin with a prefix, where there is one
+abbrev pub PrefixInterval : Type 0
+PrefixInterval =
+    (prefix : List ℕ) (w v : ℕ) → IsWord w → IsWord v → starts_with nat_eq (spelled w) prefix ≡ true →
+    (starts_with nat_eq (spelled v) prefix ≡ true) ↔
+    ((lowest prefix ≤ position v) × (position v < lowest prefix + breadth word_bits (length prefix)))
 
 -- the interval of one digit more begins as many of its lengths further up as the digit says
 abbrev pub IntervalStep : Type 0

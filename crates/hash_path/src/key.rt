@@ -1,5 +1,6 @@
 ghost use Rattle.std.specs.Prelude.{◌≡◌, ℕ, ◌<◌, ◌^◌};
 ghost use Rattle.std.specs.declared.cmp.Ordering.TheVariants.{Equal};
+ghost use Rattle.hash_path.specs.Digits.{word_bits};
 
 use crate::word::Path;
 
@@ -17,6 +18,6 @@ pub trait PathKey: Ord {
     /// Keys that compare equal are one value.
     ghost exact: { (a b : Self) → Self.Ord.cmp a b ≡ Equal → a ≡ b };
 
-    /// Each path word has 32 bits.
-    ghost small: { (k : Self) → path_of k < 2 ^ 32 };
+    /// Each path word is a number of its bits.
+    ghost small: { (k : Self) → path_of k < 2 ^ word_bits };
 }

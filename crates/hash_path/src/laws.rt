@@ -2,7 +2,7 @@
 
 ghost use Rattle.std.specs.Prelude.{◌≡◌, ℕ, ◌<◌, ◌^◌, List, []};
 ghost use Rattle.hash_path.specs.Digits.{fnv1a};
-ghost use Rattle.hash_path.specs.Laws.{PositionIsBelow, PositionIsInjective, PositionIsOnto, PositionOrder, DigitOrder, DigitInterval, IntervalStep, WordOfSpelled, SpelledIsInjective, SpelledPrefix, SharedDigits};
+ghost use Rattle.hash_path.specs.Laws.{PositionIsBelow, PositionIsInjective, PositionIsOnto, PositionOrder, DigitOrder, DigitInterval, PrefixInterval, IntervalStep, WordOfSpelled, SpelledIsInjective, SpelledPrefix, SharedDigits};
 
 /// Position is a bijection of the numbers of 32 bits.
 pub fn position_is_bijection()
@@ -20,6 +20,7 @@ pub fn positions_follow_digits()
 /// Words that share the digits below a level lie in one interval of positions, and no other words do.
 pub fn shared_digits_are_interval()
     ensures interval { DigitInterval }
+    ensures prefix { PrefixInterval }
     ensures step { IntervalStep }
 {}
 

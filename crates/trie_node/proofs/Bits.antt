@@ -1,9 +1,10 @@
 -- The digits of a bitmap around one digit.
-use Rattle.std.proofs.Common.{◌≡◌, ℕ, zero, suc, ◌+◌, ◌*◌, ◌/◌, ◌%◌, ◌^◌, ◌<◌, ◌≢◌, ◌==◌, Bool, true, false, cond, List, [], ◌∷◌, ◌++◌, length, refl, sym, ap, ◌∙◌, subst, arith}
-use Rattle.std.specs.Int.{bit_at}
-use Rattle.std.specs.Int.RustNames.{count_ones}
-use Rattle.std.proofs.lemmas.Nat.{mod-pow-add, ones_cat}
-use Rattle.std.proofs.lemmas.Nat.Bits.{bit_at-suc, bit_at_lowest, same_from_bits}
+use Rattle.std.proofs.Common.{◌≡◌, ℕ, zero, suc, ◌+◌, ◌*◌, ◌/◌, ◌%◌, ◌^◌, ◌<◌, ◌≢◌, ◌==◌, Bool, true, false, cond, List, [], ◌∷◌, ◌++◌, length, refl, sym, ap, ◌∙◌, subst, arith, ltb}
+use Rattle.std.specs.Int.{bit_at, bit_not, w32}
+use Rattle.std.proofs.lemmas.Bool.{ltb-true, ltb-false}
+use Rattle.std.specs.Int.RustNames.{count_ones, bit_and}
+use Rattle.std.proofs.lemmas.Nat.{mod-pow-add, ones_cat, and_le_l}
+use Rattle.std.proofs.lemmas.Nat.Bits.{bit_at-suc, bit_at_above, bit_at_clear_other, bit_at_lowest, same_from_bits}
 use Rattle.hash_path.specs.Digits.{digit}
 use Rattle.trie_node.specs.Tree.{digits_from, digits_of}
 use Rattle.trie_node.specs.Shape.{Lacks}
@@ -108,6 +109,16 @@ digits_around m d lt =
       now = a.around m (λ i ne. refl) ∙ (λ i. a.before ++ cond (bit_at m d == 1) (e i ∷ a.after) a.after);
       changed = λ n h. a.around n h ∙ (λ i. a.before ++ cond (bit_at n d == 1) (e i ∷ a.after) a.after);
     }
+
+-- a digit cleared leaves every other, also those that no bitmap of 32 bits has
+pub bit_at_clear_others : (m d : ℕ) → m < 2 ^ 32 → d < 32 → (i : ℕ) → i ≢ d → bit_at (bit_and m (bit_not w32 (1 * 2 ^ d % 2 ^ 32))) i ≡ bit_at m i
+bit_at_clear_others m d small below i ne = of_bound (ltb i 32) refl
+  where
+    of_bound : (b : Bool) → ltb i 32 ≡ b → bit_at (bit_and m (bit_not w32 (1 * 2 ^ d % 2 ^ 32))) i ≡ bit_at m i
+    of_bound true e = bit_at_clear_other w32 m d below i (ltb-true i 32 e) ne
+    of_bound false e =
+        bit_at_above (bit_and m (bit_not w32 (1 * 2 ^ d % 2 ^ 32))) 32 i (omega (arith, and_le_l m (bit_not w32 (1 * 2 ^ d % 2 ^ 32)), small)) (ltb-false i 32 e)
+        ∙ sym (bit_at_above m 32 i small (ltb-false i 32 e))
 
 -- words that agree below a level and at it agree below the next
 pub agree_more : (v w l : ℕ) → v % 2 ^ (5 * l) ≡ w % 2 ^ (5 * l) → digit v l ≡ digit w l → v % 2 ^ (5 + 5 * l) ≡ w % 2 ^ (5 + 5 * l)

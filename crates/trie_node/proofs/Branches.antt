@@ -2,31 +2,32 @@
 use Rattle.std.proofs.Common.{◌≡◌, ℕ, ◌+◌, ◌-◌, ◌*◌, ◌<◌, ◌≤◌, Bool, true, false, cond, ◌==◌, ◌&&◌, ◌%◌, ◌^◌, List, [], ◌∷◌, ◌++◌, length, Option, Some, None, is_some, refl, sym, ap, ◌∙◌, subst, arith, length-append, get_or, set, nat_eq}
 use mathlib.Core.Bool.{false≢true}
 use Rattle.std.specs.Bool.{MatchBool}
-use Rattle.std.specs.List.{Contains, insert, starts_with}
+use Rattle.std.specs.List.{Contains, insert, remove, starts_with}
 use Rattle.std.proofs.lemmas.List.Elements.{All-cons, All-nil}
 use Rattle.std.specs.declared.cmp.Ordering.{Ordering}
 use Rattle.std.specs.declared.cmp.Ordering.TheVariants.{Less, Equal, Greater}
 use Rattle.std.specs.Ordering.{eq_by_cmp, is_eq}
 use Rattle.std.specs.Cmp.{IsTotalOrder}
 use Rattle.std.specs.FinMap.{find}
-use Rattle.std.specs.Int.{bit_at, w32}
-use Rattle.std.specs.Int.RustNames.{count_ones, bit_or}
+use Rattle.std.specs.Int.{bit_at, bit_not, w32}
+use Rattle.std.specs.Int.RustNames.{count_ones, bit_and, bit_or}
 use Rattle.std.proofs.lemmas.Bool.{eq-eqb}
-use Rattle.std.proofs.lemmas.Nat.{or_lt}
-use Rattle.std.proofs.lemmas.Nat.Bits.{bit_at_set_same, bit_at_set_other}
+use Rattle.std.proofs.lemmas.Nat.{or_lt, and_le_l}
+use Rattle.std.proofs.lemmas.Nat.Bits.{bit_at_set_same, bit_at_set_other, bit_at_clear_same}
 use Rattle.std.proofs.lemmas.List.{get_or_at, set_at}
-use Rattle.std.proofs.lemmas.List.Edits.{insert-append_right}
+use Rattle.std.proofs.lemmas.List.Edits.{insert-append_right, remove-append_right}
 use Rattle.hash_path.specs.Digits.{digit}
 use Rattle.trie_node.specs.Tree.{Tree, branch, bucket, trees, entries, entries_of_all, KeysHaveDigit, IsTrie, AreTries, digits_of, HasTwoWords}
 use Rattle.trie_node.specs.Shape.{Nodes, Lacks, nodes_below, nodes_of_all, IsRestamped, Restamps}
 use Rattle.trie_node.specs.Roots.{word_of}
 use Rattle.trie_node.specs.Writes.{Writes}
+use Rattle.trie_node.proofs.Bits.{bit_at_clear_others}
 use Rattle.trie_node.proofs.Tries.{or_else, join, entries_append, find_append, find_lacking, at_child, at_gap}
-use Rattle.trie_node.proofs.Stamps.{restamps_between, restamps_branch, nodes_append}
+use Rattle.trie_node.proofs.Restamps.{restamps_between, restamps_branch, nodes_append}
 use Rattle.trie_node.proofs.Spell.{starts_snoc}
 use Rattle.trie_node.proofs.Passing.{passes_none_lacking, begins_itself}
 
-tied : (r : Ordering) → is_eq r ≡ true → r ≡ Equal
+pub tied : (r : Ordering) → is_eq r ≡ true → r ≡ Equal
 tied Less e = absurd (false≢true e)
 tied Equal e = refl
 tied Greater e = absurd (false≢true e)
@@ -55,6 +56,24 @@ restamps_same stamp w olds olds2 news news2 e f h = subst (λ ns. Restamps stamp
 -- how many pairs three lists have together
 pub length-three : {X : Type 0} (xs es ys : List X) → length (xs ++ (es ++ ys)) ≡ length xs + (length es + length ys)
 length-three xs es ys = length-append xs (es ++ ys) ∙ ap (λ n. length xs + n) (length-append es ys)
+
+module _ {K V : Type 0} (R : K → K → Ordering) (path : K → ℕ) where
+  -- a branch that is a trie, but for its having two words
+  abbrev pub IsNearlyTrie : ℕ → Tree K V → Type 0
+  IsNearlyTrie level (branch stamp size bitmap ts) = (level ≤ 6) × (bitmap < 2 ^ 32) × (size ≡ length (entries_of_all ts)) × AreTries R path level (digits_of bitmap) ts
+  IsNearlyTrie level (bucket stamp es) = ⊥
+
+  trie_of_two : (level : ℕ) (t : Tree K V) → IsNearlyTrie level t → (0 < level → HasTwoWords R path (entries t)) → IsTrie R path level t
+  trie_of_two level (branch stamp size bitmap ts) h two = (h.0, h.1, h.2, h.3, two)
+  trie_of_two level (bucket stamp es) h two = absurd h
+
+-- what a write does to a branch whose pairs may have become those of one word
+pub record Changes {K V : Type 0} (R : K → K → Ordering) (path : K → ℕ) (level stamp : ℕ) (k : K) (given : Option V) (old new : Tree K V) : Type 0 where
+  pub near : IsNearlyTrie R path level new
+  pub finds : (q : K) → find R q (entries new) ≡ cond (eq_by_cmp R q k) given (find R q (entries old))
+  pub least : length (entries old) ≤ length (entries new) + 1
+  pub most : length (entries new) ≤ length (entries old) + 1
+  pub stamps : (p : List ℕ) → length p ≡ level → starts_with nat_eq (word_of path k) p ≡ true → Restamps stamp (word_of path k) (nodes_below (word_of path) p old) (nodes_below (word_of path) p new)
 
 module _ {K V : Type 0} (R : K → K → Ordering) (path : K → ℕ) (total : IsTotalOrder R) (exact : (x y : K) → R x y ≡ Equal → x ≡ y) (level stamp : ℕ) (k : K) (given : Option V) where
   -- what is found after the write
@@ -100,21 +119,21 @@ module _ {K V : Type 0} (R : K → K → Ordering) (path : K → ℕ) (total : I
         h)
 
     -- a branch where the pairs and the nodes of one child change as the write says
-    writes_between : level < 7 → (before : ℕ) (old new : Tree K V) (es fs : List (K × V)) (ms ns : List ℕ → Nodes) →
+    changes_between : level < 7 → (before : ℕ) (old new : Tree K V) (es fs : List (K × V)) (ms ns : List ℕ → Nodes) →
         entries old ≡ entries_of_all (trees xs) ++ (es ++ entries_of_all (trees ys)) → entries new ≡ entries_of_all (trees xs) ++ (fs ++ entries_of_all (trees ys)) →
         ((p : List ℕ) → nodes_below (word_of path) p old ≡ (p, before) ∷ (nodes_of_all (word_of path) p bs (trees xs) ++ (ms p ++ nodes_of_all (word_of path) p as_ (trees ys)))) →
         ((p : List ℕ) → nodes_below (word_of path) p new ≡ (p, stamp) ∷ (nodes_of_all (word_of path) p bs (trees xs) ++ (ns p ++ nodes_of_all (word_of path) p as_ (trees ys)))) →
         FindsGiven es fs → length es ≤ length fs + 1 → length fs ≤ length es + 1 →
         ((p : List ℕ) → length p ≡ level → starts_with nat_eq (word_of path k) p ≡ true → Restamps stamp (word_of path k) (ms p) (ns p)) →
-        (FindsGiven (entries old) (entries new) → IsTrie R path level new) → Writes R path level stamp k given old new
-    writes_between lt before old new es fs ms ns old_entries new_entries old_nodes new_nodes finds least most stamps trie =
+        IsNearlyTrie R path level new → Changes R path level stamp k given old new
+    changes_between lt before old new es fs ms ns old_entries new_entries old_nodes new_nodes finds least most stamps near =
         let first = entries_of_all (trees xs) in
         let last = entries_of_all (trees ys) in
         let found : FindsGiven (entries old) (entries new) = λ q. ap (find R q) new_entries ∙ find_changed es fs finds q ∙ ap (λ ps. cond (eq_by_cmp R q k) given (find R q ps)) (sym old_entries) in
         let long_old : length (entries old) ≡ length first + (length es + length last) = ap length old_entries ∙ length-three first es last in
         let long_new : length (entries new) ≡ length first + (length fs + length last) = ap length new_entries ∙ length-three first fs last in
         record {
-          trie = trie found;
+          near = near;
           finds = found;
           least = omega (arith, long_old, long_new, least);
           most = omega (arith, long_old, long_new, most);
@@ -149,11 +168,10 @@ module _ {K V : Type 0} (R : K → K → Ordering) (path : K → ℕ) (total : I
       ap (nodes_below (word_of path) p) is ∙ ap (λ xs0. (p, stamp0) ∷ nodes_of_all (word_of path) p xs0 (trees (xs ++ ys))) digits ∙ ap (λ ns. (p, stamp0) ∷ ns) (nodes_append (word_of path) p bs ds xs ys long)
 
   -- the child of the key's digit is replaced by the one with the write
-  pub writes_replaced : (d : ℕ) → digit (path k) level ≡ d → d < 32 → (before size bitmap : ℕ) (ts : List (Tree K V)) (old : Tree K V) → old ≡ branch before size bitmap (trees ts) → IsTrie R path level old →
+  pub changes_replaced : (d : ℕ) → digit (path k) level ≡ d → d < 32 → (before size bitmap : ℕ) (ts : List (Tree K V)) (old : Tree K V) → old ≡ branch before size bitmap (trees ts) → IsTrie R path level old →
       (bit_at bitmap d == 1) ≡ true → (t u : Tree K V) → t ≡ get_or ts (count_ones (bitmap % 2 ^ d)) t → Writes R path (level + 1) stamp k given t u →
-      (size2 : ℕ) (new : Tree K V) → size2 + length (entries t) ≡ size + length (entries u) → new ≡ branch stamp size2 bitmap (trees (set ts (count_ones (bitmap % 2 ^ d)) u)) →
-      (0 < level → FindsGiven (entries old) (entries new) → HasTwoWords R path (entries new)) → Writes R path level stamp k given old new
-  writes_replaced d here below before size bitmap ts old is trie has t u at writes size2 new sized made two =
+      (size2 : ℕ) (new : Tree K V) → size2 + length (entries t) ≡ size + length (entries u) → new ≡ branch stamp size2 bitmap (trees (set ts (count_ones (bitmap % 2 ^ d)) u)) → Changes R path level stamp k given old new
+  changes_replaced d here below before size bitmap ts old is trie has t u at writes size2 new sized made =
       let ok = subst (IsTrie R path level) is trie in
       let c = at_child R path level bitmap d below ts ok.3 has in
       let a = c.around in
@@ -177,24 +195,22 @@ module _ {K V : Type 0} (R : K → K → Ordering) (path : K → ℕ) (total : I
         ap length new_entries,
         length-three (entries_of_all (trees c.front)) (entries u) (entries_of_all (trees c.back)),
       ) in
-      writes_between d here a.before a.after a.lacks_before a.lacks_after c.front c.back c.long c.front_ok c.back_ok lt before old new (entries c.child) (entries u)
+      changes_between d here a.before a.after a.lacks_before a.lacks_after c.front c.back c.long c.front_ok c.back_ok lt before old new (entries c.child) (entries u)
       (λ p. nodes_below (word_of path) (p ++ d ∷ []) c.child) (λ p. nodes_below (word_of path) (p ++ d ∷ []) u) old_entries new_entries
       (branch_nodes old c.front c.back c.child before size bitmap d a.before a.after old_is c.digits c.long) (branch_nodes new c.front c.back u stamp size2 bitmap d a.before a.after new_is c.digits c.long)
       w.finds w.least w.most (below_child d here lt c.child u w)
-      (λ found. subst (IsTrie R path level) (sym new_is) (
+      (subst (IsNearlyTrie R path level) (sym new_is) (
         ok.0,
         ok.1,
         counted ∙ ap (λ x. length (entries x)) new_is,
         subst (λ ds. AreTries R path level ds (trees (c.front ++ u ∷ c.back))) (sym c.digits) (join R path level a.before (d ∷ a.after) c.front (u ∷ c.back) c.front_ok (digit_kept d (entries c.child) (entries u) here w.finds c.keys, w.trie, c.back_ok)),
-        λ up. subst (λ x. HasTwoWords R path (entries x)) new_is (two up found),
       ))
 
   -- a child of the key's digit is added where there was none
-  pub writes_added : (d : ℕ) → digit (path k) level ≡ d → d < 32 → (before size bitmap : ℕ) (ts : List (Tree K V)) (old : Tree K V) → old ≡ branch before size bitmap (trees ts) → IsTrie R path level old →
+  pub changes_added : (d : ℕ) → digit (path k) level ≡ d → d < 32 → (before size bitmap : ℕ) (ts : List (Tree K V)) (old : Tree K V) → old ≡ branch before size bitmap (trees ts) → IsTrie R path level old →
       (bit_at bitmap d == 1) ≡ false → (stamp0 : ℕ) (u : Tree K V) → Writes R path (level + 1) stamp k given (bucket stamp0 []) u →
-      (size2 : ℕ) (new : Tree K V) → size2 ≡ size + length (entries u) → new ≡ branch stamp size2 (bit_or bitmap (1 * 2 ^ d % 2 ^ 32)) (trees (insert ts (count_ones (bitmap % 2 ^ d)) u)) →
-      (0 < level → FindsGiven (entries old) (entries new) → HasTwoWords R path (entries new)) → Writes R path level stamp k given old new
-  writes_added d here below before size bitmap ts old is trie lacks stamp0 u w size2 new sized made two =
+      (size2 : ℕ) (new : Tree K V) → size2 ≡ size + length (entries u) → new ≡ branch stamp size2 (bit_or bitmap (1 * 2 ^ d % 2 ^ 32)) (trees (insert ts (count_ones (bitmap % 2 ^ d)) u)) → Changes R path level stamp k given old new
+  changes_added d here below before size bitmap ts old is trie lacks stamp0 u w size2 new sized made =
       let ok = subst (IsTrie R path level) is trie in
       let g = at_gap R path level bitmap d below ts ok.3 lacks in
       let a = g.around in
@@ -219,17 +235,50 @@ module _ {K V : Type 0} (R : K → K → Ordering) (path : K → ℕ) (total : I
         ap length new_entries,
         length-three (entries_of_all (trees c.front)) (entries u) (entries_of_all (trees c.back)),
       ) in
-      writes_between d here a.before a.after a.lacks_before a.lacks_after c.front c.back c.long c.front_ok c.back_ok lt before old new [] (entries u)
+      changes_between d here a.before a.after a.lacks_before a.lacks_after c.front c.back c.long c.front_ok c.back_ok lt before old new [] (entries u)
       (λ p. []) (λ p. nodes_below (word_of path) (p ++ d ∷ []) u) old_entries new_entries
       (gap_nodes old c.front c.back before size bitmap a.before a.after old_is g.digits c.long) (branch_nodes new c.front c.back u stamp size2 wider d a.before a.after new_is digits c.long)
       w.finds w.least w.most (below_child d here lt (bucket stamp0 []) u w)
-      (λ found. subst (IsTrie R path level) (sym new_is) (
+      (subst (IsNearlyTrie R path level) (sym new_is) (
         ok.0,
         or_lt 32 bitmap (1 * 2 ^ d % 2 ^ 32) ok.1 (omega arith),
         counted ∙ ap (λ x. length (entries x)) new_is,
         subst (λ ds. AreTries R path level ds (trees (c.front ++ u ∷ c.back))) (sym digits) (join R path level a.before (d ∷ a.after) c.front (u ∷ c.back) c.front_ok (digit_kept d [] (entries u) here w.finds (λ q never. absurd (false≢true never)), w.trie, c.back_ok)),
-        λ up. subst (λ x. HasTwoWords R path (entries x)) new_is (two up found),
       ))
+
+  -- the child of the key's digit, which had no other key, is left out
+  pub changes_dropped : (d : ℕ) → digit (path k) level ≡ d → d < 32 → (before size bitmap : ℕ) (ts : List (Tree K V)) (old : Tree K V) → old ≡ branch before size bitmap (trees ts) → IsTrie R path level old →
+      (bit_at bitmap d == 1) ≡ true → (t : Tree K V) → t ≡ get_or ts (count_ones (bitmap % 2 ^ d)) t → FindsGiven (entries t) [] → length (entries t) ≡ 1 →
+      (size2 : ℕ) (new : Tree K V) → size2 + 1 ≡ size → new ≡ branch stamp size2 (bit_and bitmap (bit_not w32 (1 * 2 ^ d % 2 ^ 32))) (trees (remove ts (count_ones (bitmap % 2 ^ d)))) → Changes R path level stamp k given old new
+  changes_dropped d here below before size bitmap ts old is trie has t at finds one size2 new sized made =
+      let ok = subst (IsTrie R path level) is trie in
+      let c = at_child R path level bitmap d below ts ok.3 has in
+      let a = c.around in
+      let i = count_ones (bitmap % 2 ^ d) in
+      let narrower = bit_and bitmap (bit_not w32 (1 * 2 ^ d % 2 ^ 32)) in
+      let digits : digits_of narrower ≡ a.before ++ a.after =
+          a.changed narrower (bit_at_clear_others bitmap d ok.1 below) ∙ ap (λ n. a.before ++ cond (n == 1) (d ∷ a.after) a.after) (bit_at_clear_same w32 bitmap d below) in
+      let same : t ≡ c.child = at ∙ ap (λ xs. get_or xs i t) c.whole ∙ get_or_at c.front c.child c.back t i (c.long ∙ a.place) in
+      let now : remove ts i ≡ c.front ++ c.back = ap (λ xs. remove xs i) c.whole ∙ remove-append_right c.front (c.child ∷ c.back) i i (c.long ∙ a.place) (omega arith) ∙ ap (λ n. c.front ++ remove (c.child ∷ c.back) n) {x = i - i} {y = 0} (omega arith) in
+      let old_is : old ≡ branch before size bitmap (trees (c.front ++ c.child ∷ c.back)) = is ∙ ap (λ xs. branch before size bitmap (trees xs)) c.whole in
+      let new_is : new ≡ branch stamp size2 narrower (trees (c.front ++ c.back)) = made ∙ ap (λ xs. branch stamp size2 narrower (trees xs)) now in
+      let old_entries = branch_entries old c.front c.back c.child before size bitmap old_is in
+      let new_entries = gap_entries new c.front c.back stamp size2 narrower new_is in
+      let lt : level < 7 = omega (arith, ok.0) in
+      let alone : length (entries c.child) ≡ 1 = ap (λ x. length (entries x)) (sym same) ∙ one in
+      let counted : size2 ≡ length (entries new) = omega (arith, sized, ok.2, ap (λ x. length (entries x)) is, alone,
+          ap length old_entries, length-three (entries_of_all (trees c.front)) (entries c.child) (entries_of_all (trees c.back)), ap length new_entries, length-three (entries_of_all (trees c.front)) [] (entries_of_all (trees c.back))) in
+      changes_between d here a.before a.after a.lacks_before a.lacks_after c.front c.back c.long c.front_ok c.back_ok lt before old new (entries c.child) []
+        (λ p. nodes_below (word_of path) (p ++ d ∷ []) c.child) (λ p. []) old_entries new_entries
+        (branch_nodes old c.front c.back c.child before size bitmap d a.before a.after old_is c.digits c.long) (gap_nodes new c.front c.back stamp size2 narrower a.before a.after new_is digits c.long)
+        (subst (λ x. FindsGiven (entries x) []) same finds) (omega (arith, alone)) (omega arith) (λ p deep on. All-nil (IsRestamped stamp (word_of path k) (nodes_below (word_of path) (p ++ d ∷ []) c.child)))
+        (subst (IsNearlyTrie R path level) (sym new_is) (
+            ok.0, omega (arith, and_le_l bitmap (bit_not w32 (1 * 2 ^ d % 2 ^ 32)), ok.1), counted ∙ ap (λ x. length (entries x)) new_is,
+            subst (λ ds. AreTries R path level ds (trees (c.front ++ c.back))) (sym digits) (join R path level a.before a.after c.front c.back c.front_ok c.back_ok)))
+
+  -- where keys of two words are found, or at the root, the branch is a trie
+  pub writes_of_two : (old new : Tree K V) → Changes R path level stamp k given old new → (0 < level → HasTwoWords R path (entries new)) → Writes R path level stamp k given old new
+  writes_of_two old new c two = record { trie = trie_of_two R path level new c.near two; finds = c.finds; least = c.least; most = c.most; stamps = c.stamps }
 
 module _ {K V : Type 0} (R : K → K → Ordering) (path : K → ℕ) (total : IsTotalOrder R) (exact : (x y : K) → R x y ≡ Equal → x ≡ y) where
   -- a put keeps two words
@@ -267,15 +316,14 @@ module _ {K V : Type 0} (R : K → K → Ordering) (path : K → ℕ) (total : I
       (bit_at bitmap d == 1) ≡ true → (t u : Tree K V) → t ≡ get_or ts (count_ones (bitmap % 2 ^ d)) t → Writes R path (level + 1) stamp k (Some v) t u →
       (size2 : ℕ) (new : Tree K V) → size2 + length (entries t) ≡ size + length (entries u) → new ≡ branch stamp size2 bitmap (trees (set ts (count_ones (bitmap % 2 ^ d)) u)) → Writes R path level stamp k (Some v) old new
   puts_replaced level stamp k v d here below before size bitmap ts old is trie has t u at writes size2 new sized made =
-      writes_replaced R path total exact level stamp k (Some v) d here below before size bitmap ts old is trie has t u at writes size2 new sized made
-      (λ up found. two_kept k v (entries old) (entries new) found (two_words level before size bitmap ts old is trie up))
+      let c = changes_replaced R path total exact level stamp k (Some v) d here below before size bitmap ts old is trie has t u at writes size2 new sized made in
+      writes_of_two R path total exact level stamp k (Some v) old new c (λ up. two_kept k v (entries old) (entries new) c.finds (two_words level before size bitmap ts old is trie up))
 
   -- a put of a leaf where no child has the key's digit
   pub puts_added : (level stamp : ℕ) (k : K) (v : V) (d : ℕ) → digit (path k) level ≡ d → d < 32 → (before size bitmap : ℕ) (ts : List (Tree K V)) (old : Tree K V) → old ≡ branch before size bitmap (trees ts) → IsTrie R path level old →
       (bit_at bitmap d == 1) ≡ false → (u : Tree K V) → u ≡ bucket stamp ((k, v) ∷ []) →
       (new : Tree K V) → new ≡ branch stamp (size + 1) (bit_or bitmap (1 * 2 ^ d % 2 ^ 32)) (trees (insert ts (count_ones (bitmap % 2 ^ d)) u)) → Writes R path level stamp k (Some v) old new
   puts_added level stamp k v d here below before size bitmap ts old is trie lacks u leaf new made =
-      writes_added R path total exact level stamp k (Some v) d here below before size bitmap ts old is trie lacks 0 u
-      (subst (Writes R path (level + 1) stamp k (Some v) (bucket 0 [])) (sym leaf) (puts_leaf (level + 1) stamp 0 k v (omega arith)))
-      (size + 1) new (omega (arith, ap (λ x. length (entries x)) leaf)) made
-      (λ up found. two_kept k v (entries old) (entries new) found (two_words level before size bitmap ts old is trie up))
+      let leaf_put = subst (Writes R path (level + 1) stamp k (Some v) (bucket 0 [])) (sym leaf) (puts_leaf (level + 1) stamp 0 k v (omega arith)) in
+      let c = changes_added R path total exact level stamp k (Some v) d here below before size bitmap ts old is trie lacks 0 u leaf_put (size + 1) new (omega (arith, ap (λ x. length (entries x)) leaf)) made in
+      writes_of_two R path total exact level stamp k (Some v) old new c (λ up. two_kept k v (entries old) (entries new) c.finds (two_words level before size bitmap ts old is trie up))

@@ -1,5 +1,5 @@
 -- A trie divides the pairs of its map by their digits, and a tree that so divides them is a trie.
-use Rattle.std.proofs.Common.{◌≡◌, ℕ, zero, suc, ◌+◌, ◌<◌, ◌≤◌, ◌≢◌, ◌^◌, ◌==◌, ◌⊎◌, Bool, true, false, not, cond, ◌&&◌, ◌||◌, T, List, [], ◌∷◌, ◌++◌, length, Option, Some, None, is_some, refl, sym, ap, ◌∙◌, subst, arith, inl, inr, nat_eq, true≢false, length-append, eq-eqb, eqb-true}
+use Rattle.std.proofs.Common.{◌≡◌, ℕ, suc, ◌+◌, ◌<◌, ◌≤◌, ◌≢◌, ◌^◌, ◌==◌, ◌⊎◌, Bool, true, false, cond, ◌&&◌, T, List, [], ◌∷◌, ◌++◌, length, Option, Some, None, is_some, refl, sym, ap, ◌∙◌, subst, arith, inl, inr, nat_eq, true≢false, length-append, eq-eqb, eqb-true}
 use Rattle.std.specs.declared.cmp.Ordering.{Ordering}
 use Rattle.std.specs.declared.cmp.Ordering.TheVariants.{Equal}
 use Rattle.std.specs.Cmp.{IsTotalOrder}
@@ -8,11 +8,12 @@ use Rattle.std.specs.FinMap.Entries.{same_entries, is_sorted-where_key}
 use Rattle.std.specs.List.{starts_with}
 use Rattle.std.proofs.lemmas.Bool.Decides.{eqb_tells, leb_tells}
 use Rattle.std.proofs.lemmas.Bool.{and_parts}
-use Rattle.hash_path.specs.Digits.{digit}
+use Rattle.hash_path.specs.Digits.{digit, spelled}
 use Rattle.trie_node.specs.Tree.{Tree, branch, bucket, Trees, no_trees, more_trees, digits_of, entries, entries_of_all, IsTrie, AreTries, HasTwoWords, KeysHaveDigit, KeysHaveWord}
-use Rattle.trie_node.specs.Shape.{beginning, has_two_words, is_branch, is_empty, Lacks, Hangs, AllHang, Fits, AllFit, count_of, spelled}
+use Rattle.trie_node.specs.Shape.{beginning, has_two_words, is_branch, is_empty, Lacks, Hangs, AllHang, Fits, AllFit, count_of}
 use Rattle.trie_node.specs.Roots.{word_of}
 use Rattle.trie_node.proofs.Tries.{or_else, find_append, find_other}
+use Rattle.trie_node.proofs.Apart.{find_lacking_all}
 use Rattle.trie_node.proofs.Unique.{Rising, rises, rising_lacks}
 use Rattle.trie_node.proofs.Spell.{starts_snoc, spelled_tells}
 use Rattle.trie_node.proofs.Spoken.{find_beginning}
@@ -91,15 +92,6 @@ module _ {K V : Type 0} (R : K → K → Ordering) (path : K → ℕ) (total : I
   longer p d level e = length-append p (d ∷ []) ∙ ap (λ n. n + 1) e
 
   -- 1. From a trie.
-  find_lacking_all : (level : ℕ) (q : K) (ds : List ℕ) (ts : Trees K V) → Lacks (digit (path q) level) ds → AreTries R path level ds ts → find R q (entries_of_all ts) ≡ None
-  find_lacking_all level q [] no_trees l h = refl
-  find_lacking_all level q [] (more_trees t ts) l h = absurd h
-  find_lacking_all level q (d ∷ ds) no_trees l h = absurd h
-  find_lacking_all level q (d ∷ ds) (more_trees t ts) l h =
-      find_append R path q (entries t) (entries_of_all ts)
-      ∙ ap (λ o. or_else o (find R q (entries_of_all ts))) (find_other R path exact level d q (entries t) (λ e. l.0 (sym e)) h.0)
-      ∙ find_lacking_all level q ds ts l.1 h.2
-
   -- a branch stands at the root, or where two words begin
   branch_stands : (p : List ℕ) (es : List (K × V)) → (0 < length p → HasTwoWords R path es) → Agrees p es → is_branch (word_of path) m p ≡ true
   branch_stands [] es two agree = refl
@@ -118,7 +110,7 @@ module _ {K V : Type 0} (R : K → K → Ordering) (path : K → ℕ) (total : I
     trie_hangs (branch s n b ts) p level long h agree =
         let gap : (d : ℕ) → Lacks d (digits_of b) → (q : K) → find R q (beginning (word_of path) (p ++ d ∷ []) m) ≡ None =
               λ d lacks q. elim (eqb_tells (digit (path q) (length p)) d) as (λ _. find R q (beginning (word_of path) (p ++ d ∷ []) m) ≡ None) [
-                | inl e ↦ same_digit p d q (omega (arith, h.0)) e.1 ∙ sym (agree q) ∙ find_lacking_all level q (digits_of b) ts (subst (λ x. Lacks x (digits_of b)) (sym e.1 ∙ ap (digit (path q)) long) lacks) h.3
+                | inl e ↦ same_digit p d q (omega (arith, h.0)) e.1 ∙ sym (agree q) ∙ find_lacking_all R path exact level q (digits_of b) ts (subst (λ x. Lacks x (digits_of b)) (sym e.1 ∙ ap (digit (path q)) long) lacks) h.3
                 | inr e ↦ other_digit p d q (omega (arith, h.0)) e.1
               ] in
         (
@@ -139,7 +131,7 @@ module _ {K V : Type 0} (R : K → K → Ordering) (path : K → ℕ) (total : I
         let once : Lacks d ds = rising_lacks d (d + 1) ds (omega arith) r.1 in
         let inside : (q : K) → digit (path q) level ≡ d → find R q (entries t) ≡ find R q (beginning (word_of path) p m) =
               λ q e. sym (or_none (find R q (entries t)))
-                ∙ ap (or_else (find R q (entries t))) (sym (find_lacking_all level q ds ts (subst (λ x. Lacks x ds) (sym e) once) h.2))
+                ∙ ap (or_else (find R q (entries t))) (sym (find_lacking_all R path exact level q ds ts (subst (λ x. Lacks x ds) (sym e) once) h.2))
                 ∙ sym (find_append R path q (entries t) (entries_of_all ts))
                 ∙ agree q (λ l. l.0 (sym e)) in
         let agree_below : Agrees (p ++ d ∷ []) (entries t) =

@@ -1,5 +1,5 @@
 -- What find answers in a list of pairs, and what a test of its keys answers.
-use Rattle.std.proofs.Common.{◌≡◌, ℕ, ◌<◌, ◌≢◌, ◌^◌, Bool, true, false, not, cond, ◌&&◌, ◌||◌, T, List, [], ◌∷◌, Option, Some, None, is_some, refl, sym, ap, ◌∙◌, subst, inl, inr, bytes_eq, true≢false, not}
+use Rattle.std.proofs.Common.{◌≡◌, ℕ, ◌<◌, ◌≢◌, ◌^◌, Bool, true, false, not, cond, ◌||◌, List, [], ◌∷◌, Some, None, is_some, refl, sym, ap, ◌∙◌, inl, inr, bytes_eq, true≢false, not}
 use Rattle.std.specs.declared.cmp.Ordering.{Ordering}
 use Rattle.std.specs.declared.cmp.Ordering.TheVariants.{Less, Equal, Greater}
 use Rattle.std.specs.Ordering.{eq_by_cmp, is_eq}
@@ -9,8 +9,9 @@ use Rattle.std.specs.List.{list_any}
 use Rattle.std.proofs.lemmas.Bool.{or_left, or_right, false_from_ne_true}
 use Rattle.std.proofs.lemmas.Bool.Decides.{eqb_tells}
 use Rattle.std.proofs.lemmas.Slice.Eq.{bytes_eq-Decides}
+use Rattle.hash_path.specs.Digits.{spelled}
 use Rattle.trie_node.specs.Tree.{KeysHaveWord, HasTwoWords}
-use Rattle.trie_node.specs.Shape.{has_two_words, spelled}
+use Rattle.trie_node.specs.Shape.{has_two_words}
 use Rattle.trie_node.specs.Roots.{word_of}
 use Rattle.trie_node.proofs.Spell.{spelled_tells}
 

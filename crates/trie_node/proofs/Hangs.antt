@@ -1,14 +1,14 @@
 -- A tree whose branches divide the pairs of a map by their digits has the shape of the map.
-use Rattle.std.proofs.Common.{◌≡◌, ℕ, zero, suc, ◌+◌, ◌<◌, ◌≤◌, ◌≢◌, ◌==◌, Bool, true, false, not, cond, ◌&&◌, ◌||◌, List, [], ◌∷◌, ◌++◌, length, refl, sym, ap, ◌∙◌, subst, arith, append_assoc, nat_eq, get_or, inl, inr}
+use Rattle.std.proofs.Common.{◌≡◌, ℕ, ◌+◌, ◌≤◌, ◌≢◌, ◌==◌, Bool, true, false, not, cond, ◌&&◌, ◌||◌, List, [], ◌∷◌, ◌++◌, length, refl, sym, ap, ◌∙◌, arith, append_assoc, nat_eq, get_or, inl, inr}
 use Rattle.std.specs.List.{filter, list_any, starts_with, All}
 use Rattle.std.proofs.lemmas.List.{append-nil}
 use Rattle.std.proofs.lemmas.List.Elements.{All-filter, All-cons, All-nil}
 use Rattle.std.proofs.lemmas.List.Folds.{list_any_none}
-use Rattle.std.proofs.lemmas.Bool.{eq-eqb}
+use Rattle.std.proofs.lemmas.Bool.{or_parts}
 use Rattle.std.proofs.lemmas.Bool.Decides.{eqb_tells}
 use Rattle.trie_node.specs.Tree.{Tree, branch, bucket, Trees, no_trees, more_trees, digits_of}
 use Rattle.std.specs.Prelude.{bytes_eq}
-use Rattle.trie_node.specs.Shape.{Spot, no_node, a_branch, pairs, spot_at, spot_below, but_last, is_empty, beginning, has_two_words, is_branch, spot, Lacks, Hangs, AllHang, Fits, count_of, AllFit, HasShape}
+use Rattle.trie_node.specs.Shape.{no_node, a_branch, pairs, spot_at, spot_below, but_last, is_empty, beginning, has_two_words, is_branch, spot, Lacks, Hangs, AllHang, Fits, count_of, AllFit, HasShape}
 use Rattle.trie_node.proofs.Unique.{Rising, rises, at_head, at_tail, spot_lacking}
 
 and_false : (a b c : Bool) → (b ≡ false → c ≡ false) → (a && b) ≡ false → (a && c) ≡ false
@@ -45,14 +45,6 @@ empty_longer : (p q : List ℕ) → is_empty p ≡ false → is_empty (p ++ q) �
 empty_longer [] q e = cc
 empty_longer (x ∷ p) q e = refl
 
-or_left : (a b : Bool) → (a || b) ≡ false → a ≡ false
-or_left true b e = e
-or_left false b e = refl
-
-or_right : (a b : Bool) → (a || b) ≡ false → b ≡ false
-or_right true b e = cc
-or_right false b e = e
-
 module _ {K V : Type 0} (word : K → List ℕ) (m : List (K × V)) where
   beginning_longer : (p q : List ℕ) → beginning word (p ++ q) m ≡ filter (λ e. starts_with nat_eq (word e.0) (p ++ q)) (beginning word p m)
   beginning_longer p q = sym (filter_twice (λ e. starts_with nat_eq (word e.0) p) (λ e. starts_with nat_eq (word e.0) (p ++ q)) m (λ e h. starts_longer (word e.0) p q h))
@@ -68,9 +60,9 @@ module _ {K V : Type 0} (word : K → List ℕ) (m : List (K × V)) where
   -- below no branch there is none
   no_branch : (p q : List ℕ) → is_branch word m p ≡ false → is_branch word m (p ++ q) ≡ false
   no_branch p q e =
-      let few = few_filter (λ e. starts_with nat_eq (word e.0) (p ++ q)) (beginning word p m) (or_right (is_empty p) (has_two_words word (beginning word p m)) e) in
+      let few = few_filter (λ e. starts_with nat_eq (word e.0) (p ++ q)) (beginning word p m) ((or_parts (is_empty p) (has_two_words word (beginning word p m)) e).1) in
       let here : has_two_words word (beginning word (p ++ q) m) ≡ false = ap (has_two_words word) (beginning_longer p q) ∙ few in
-      λ i. empty_longer p q (or_left (is_empty p) (has_two_words word (beginning word p m)) e) i || here i
+      λ i. empty_longer p q ((or_parts (is_empty p) (has_two_words word (beginning word p m)) e).0) i || here i
 
   no_spot : (p q : List ℕ) → is_empty p ≡ false → beginning word p m ≡ [] → spot word m (p ++ q) ≡ no_node
   no_spot p q some none =

@@ -1,7 +1,7 @@
 pub mod Views
 pub mod Empty
 pub mod Walks
-pub mod Lists
+pub mod Appended
 pub mod Bits
 pub mod Tries
 pub mod Passing
@@ -9,9 +9,14 @@ pub mod Branches
 pub mod Spell
 pub mod Finds
 pub mod Listings
-pub mod Stamps
+pub mod Restamps
 pub mod Unique
 pub mod Hangs
 pub mod Spoken
-mod Rows
+mod Examples
 pub mod Divides
+pub mod Removals
+pub mod Taken
+pub mod Apart
+pub mod Roots
+pub mod Names

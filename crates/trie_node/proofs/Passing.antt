@@ -8,9 +8,9 @@ use Rattle.std.specs.Cmp.{IsTotalOrder, tied_itself}
 use Rattle.std.specs.FinMap.{find}
 use Rattle.std.proofs.lemmas.Bool.{eqb-true, eq-eqb}
 use Rattle.std.proofs.lemmas.List.Elements.{All-cons, All-nil, All-append}
-use Rattle.hash_path.specs.Digits.{digit}
+use Rattle.hash_path.specs.Digits.{digit, digits_after, spelled}
 use Rattle.trie_node.specs.Tree.{Tree, branch, bucket, Trees, no_trees, more_trees, trees, digits_of, entries, entries_of_all, KeysHaveDigit, AreTries}
-use Rattle.trie_node.specs.Shape.{Nodes, digits_after, spelled, nodes_below, nodes_of_all, Lacks}
+use Rattle.trie_node.specs.Shape.{Nodes, nodes_below, nodes_of_all, Lacks}
 use Rattle.trie_node.specs.Roots.{word_of}
 use Rattle.trie_node.proofs.Spell.{starts_snoc}
 use Rattle.trie_node.proofs.Tries.{or_else, find_append}

@@ -2,9 +2,7 @@
 use Rattle.std.proofs.Common.{◌≡◌, ℕ, zero, suc, ◌+◌, ◌*◌, ◌/◌, ◌%◌, ◌^◌, ◌<◌, Bool, true, false, ◌&&◌, List, [], ◌∷◌, ◌++◌, length, refl, sym, ap, ◌∙◌, subst, arith, nat_eq, pow-add}
 use Rattle.std.proofs.Math.Nat.{div-div-eq-div-mul}
 use Rattle.std.specs.List.{starts_with}
-use Rattle.hash_path.specs.Digits.{digit}
-use Rattle.trie_node.specs.Shape.{digits_after, spelled}
-
+use Rattle.hash_path.specs.Digits.{digit, digits_after, spelled}
 and_true : (b : Bool) → b ≡ (b && true)
 and_true true = refl
 and_true false = refl

@@ -1,14 +1,13 @@
 -- The shape in the words of its rule.
-use Rattle.std.proofs.Common.{◌≡◌, ℕ, Bool, true, false, not, cond, ◌&&◌, List, [], ◌∷◌, ◌++◌, refl, sym, ap, ◌∙◌, nat_eq, get_or, length}
+use Rattle.std.proofs.Common.{◌≡◌, ℕ, Bool, true, false, not, cond, ◌&&◌, List, [], ◌∷◌, refl, sym, ap, ◌∙◌, nat_eq}
 use Rattle.std.specs.Prelude.{◌↔◌, None}
-use Rattle.std.specs.Cmp.{IsTotalOrder}
 use Rattle.std.specs.declared.cmp.Ordering.{Ordering}
 use Rattle.std.specs.declared.cmp.Ordering.TheVariants.{Equal}
 use Rattle.std.specs.FinMap.{find}
-use Rattle.std.specs.FinMap.Entries.{where_key, find-where_key}
+use Rattle.std.specs.FinMap.Entries.{find-where_key}
 use Rattle.std.specs.List.{starts_with}
 use Rattle.trie_node.specs.Tree.{Tree}
-use Rattle.trie_node.specs.Shape.{Spot, no_node, a_branch, pairs, spot_at, but_last, is_empty, beginning, is_branch, spot, HasShape}
+use Rattle.trie_node.specs.Shape.{no_node, a_branch, pairs, spot_at, but_last, is_empty, beginning, is_branch, HasShape}
 
 module _ {K V : Type 0} (word : K → List ℕ) (m : List (K × V)) where
   only_branch : (b c : Bool) (es : List (K × V)) → cond b a_branch (cond (c && not (is_empty es)) (pairs es) no_node) ≡ a_branch → b ≡ true

@@ -1,9 +1,9 @@
 -- Trees of one shape are one tree, stamps aside.
-use Rattle.std.proofs.Common.{◌≡◌, ℕ, zero, suc, ◌+◌, ◌*◌, ◌/◌, ◌%◌, ◌^◌, ◌<◌, ◌≤◌, ◌≢◌, ◌==◌, eqb, Bool, true, false, cond, List, [], ◌∷◌, ◌++◌, length, refl, sym, ap, ◌∙◌, subst, arith, inl, inr}
+use Rattle.std.proofs.Common.{◌≡◌, ℕ, zero, suc, ◌+◌, ◌/◌, ◌%◌, ◌^◌, ◌<◌, ◌≤◌, ◌≢◌, ◌==◌, Bool, true, false, cond, List, [], ◌∷◌, ◌++◌, length, refl, sym, ap, ◌∙◌, subst, arith, inl, inr}
 use Rattle.std.proofs.lemmas.Bool.{eq-eqb, eqb-true}
 use Rattle.std.proofs.lemmas.Bool.Decides.{eqb_tells}
 use Rattle.trie_node.specs.Tree.{Tree, branch, bucket, Trees, no_trees, more_trees, entries, entries_of_all, digits_from, digits_of}
-use Rattle.trie_node.specs.Shape.{Spot, no_node, a_branch, pairs, spot_at, spot_below, count_of, Fits, AllFit, HasShape, plain, all_plain, Lacks}
+use Rattle.trie_node.specs.Shape.{no_node, spot_at, spot_below, count_of, Fits, AllFit, HasShape, plain, all_plain, Lacks}
 
 -- digits in strictly rising order, from low on
 abbrev pub Rising : ℕ → List ℕ → Type 0

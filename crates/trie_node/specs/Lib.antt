@@ -8,3 +8,4 @@ pub mod Outline
 pub mod Looks
 pub mod Conditions
 pub mod Changes
+pub mod Removals

@@ -2,9 +2,10 @@
 use Rattle.std.specs.Prelude.{◌≡◌, ℕ, List}
 use Rattle.std.specs.declared.cmp.Ordering.{Ordering}
 use Rattle.std.specs.FinMap as std
+use Rattle.hash_path.specs.Digits.{spelled}
 use Rattle.trie_node.specs.Map.{Map}
 use Rattle.trie_node.specs.Tree.{Tree, entries}
-use Rattle.trie_node.specs.Shape.{HasShape, spelled}
+use Rattle.trie_node.specs.Shape.{HasShape}
 
 -- pairs in the order of their keys
 unfoldable pub listed : {K V : Type 0} → (K → K → Ordering) → List (K × V) → Map K V

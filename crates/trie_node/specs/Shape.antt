@@ -2,17 +2,7 @@
 -- A word is the list of its digits, in full; a prefix is a list of digits.
 use Rattle.std.specs.Prelude.{◌≡◌, ◌≢◌, ℕ, zero, suc, ◌+◌, ◌<◌, ◌≤◌, ◌^◌, Bool, true, false, not, ◌||◌, ◌&&◌, if◌then◌else◌, ◌==◌, nat_eq, List, [], ◌∷◌, ◌++◌, length, map, filter, MatchBool, All, Contains, count_by, bytes_eq}
 use Rattle.std.specs.List.{list_any, starts_with}
-use Rattle.hash_path.specs.Digits.{digit}
 use Rattle.trie_node.specs.Tree.{Tree, branch, bucket, Trees, no_trees, more_trees, digits_of, entries_of_all}
-
--- the digits of a word from a level on, as many as are told
-abbrev pub digits_after : ℕ → ℕ → ℕ → List ℕ
-digits_after level zero w = []
-digits_after level (suc count) w = digit w level ∷ digits_after (level + 1) count w
-
--- a path word by its digits
-abbrev pub spelled : ℕ → List ℕ
-spelled w = digits_after 0 7 w
 
 -- what stands where a list of digits leads from the root: no node, a branch, or a leaf or bucket with these pairs
 pub data Spot (K V : Type 0) : Type 0 where

@@ -6,20 +6,25 @@
 //! of its key's path and on no other.
 #![tactic(auto)]
 
+mod bitmap;
+mod basics;
 mod condition;
+mod laws;
+mod copies;
 mod node;
+mod pairs;
 mod put;
 mod reading;
 mod removal;
 mod search;
 mod shown;
-mod stamps;
 
 pub use condition::{Always, Condition, IfAbsent, IfEqual, IfPresent};
+pub use laws::{map_determines_root, map_names_nodes, root_is_map, writes_keep_stamps_below};
 pub use node::{Node, empty_root};
 pub use put::{Written, put_where, with_put};
 pub use reading::{child, look, size, stamp};
 pub use removal::{removed_where, with_removed};
 pub use search::find;
 pub use shown::Look;
-pub use stamps::{NoMemory, Stamp};
+pub use basics::{NoMemory, Stamp};

@@ -6,7 +6,7 @@ ghost use Rattle.trie_node.specs.View.{tree, pair_values};
 ghost use Rattle.trie_node.specs.Shape.{nodes};
 ghost use Rattle.trie_node.specs.Roots.{IsRoot, map_of, word_of};
 
-use crate::stamps::{NoMemory, Stamp};
+use crate::basics::{NoMemory, Stamp};
 use hash_path::PathKey;
 use std::alloc::Global;
 use std::sync::Arc;

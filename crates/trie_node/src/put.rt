@@ -8,7 +8,7 @@ ghost use Rattle.trie_node.specs.Changes.{IsPut};
 
 use crate::condition::{Always, Condition};
 use crate::node::Node;
-use crate::stamps::{NoMemory, Stamp};
+use crate::basics::{NoMemory, Stamp};
 use hash_path::PathKey;
 use std::alloc::Global;
 use std::sync::Arc;

@@ -9,7 +9,7 @@ ghost use Rattle.trie_node.specs.Looks.{Shows};
 
 use crate::node::{Inner, Node};
 use crate::shown::Look;
-use crate::stamps::Stamp;
+use crate::basics::Stamp;
 use std::slice;
 
 /// The number of pairs below a node. It takes no walk: each branch keeps its number.

@@ -9,7 +9,7 @@ ghost use Rattle.trie_node.specs.Changes.{IsRemoval};
 use crate::condition::{Always, Condition};
 use crate::node::Node;
 use crate::put::Written;
-use crate::stamps::{NoMemory, Stamp};
+use crate::basics::{NoMemory, Stamp};
 use hash_path::PathKey;
 use std::alloc::Global;
 

@@ -8,25 +8,11 @@ ghost use Rattle.trie_node.specs.View.{tree, pair_values};
 ghost use Rattle.trie_node.specs.Roots.{IsRoot, map_of};
 
 use crate::node::{Inner, Node};
+use crate::pairs::find_pair;
 use hash_path::PathKey;
 use std::alloc::Global;
 use std::cmp::Ordering;
 use std::sync::Arc;
-
-/// The value of the key among pairs.
-pub(crate) fn find_pair<'a, K: PathKey, V>(
-    pairs: &'a [(Arc<K, Global>, Arc<V, Global>)],
-    key: &K,
-) -> Option<&'a Arc<V, Global>>
-    ensures { option_map (λ v. v.now.value) result ≡ first_of K.cmp key.now (map pair_values pairs.now) }
-{
-    for (k, v) in pairs {
-        if key.cmp(k) == Ordering::Equal {
-            return Some(v);
-        }
-    }
-    None
-}
 
 /// The value of the key in a leaf's pair.
 pub(crate) fn find_leaf<'a, K: PathKey, V>(

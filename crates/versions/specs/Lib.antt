@@ -1,5 +1,5 @@
-pub mod Map
+pub use Rattle.trie_node.specs.Map
 pub mod Commands
 pub mod Contents
-pub mod Pairs
 pub mod Puts
+pub mod Changes

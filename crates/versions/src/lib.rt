@@ -1,16 +1,17 @@
 //! Finite maps with a limit on their pairs, as versions: a fork of a version is another map from then on.
 //!
-//! Contracts see a version as the list of its pairs in strictly rising order of keys, beside its limit. Keys and
-//! values are shared: an `Arc` goes in, and the same `Arc` comes out of this version and of each of its forks.
+//! Contracts see a version as the list of its pairs in strictly rising order of keys, beside its limit, its stamp and
+//! the names and stamps of the nodes of its trie. Keys and values are shared: an `Arc` goes in, and the same `Arc`
+//! comes out of this version and of each of its forks. A fork shares every node of its source, and a later write
+//! copies the nodes of one path and puts its version's stamp on them.
 #![tactic(auto)]
 
-mod no_memory;
-mod pairs;
+mod change;
 mod refusal;
-#[cfg(test)]
-mod tests;
+mod room;
 mod version;
 
-pub use no_memory::NoMemory;
+pub use change::Change;
 pub use refusal::Refusal;
+pub use trie_node::NoMemory;
 pub use version::{MOST_PAIRS, Version};

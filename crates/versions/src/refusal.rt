@@ -1,6 +1,6 @@
 //! Why a call is refused, with one enum for every layer.
 
-use crate::no_memory::NoMemory;
+use trie_node::NoMemory;
 use std::alloc::{AllocError, AllocFailed};
 
 /// Why a call was refused. All that the call was made on is then as it was before.

@@ -1,54 +1,66 @@
 //! A finite map with a limit on its pairs.
-ghost use Rattle.std.specs.Prelude.{◌≡◌, ◌≤◌, length, [], option_map, IfOk, OnOk, OnErr};
+ghost use Rattle.std.specs.Prelude.{◌≡◌, ◌≤◌, ◌<◌, ◌+◌, ◌^◌, ◌&&◌, ◌∷◌, length, [], is_some, if◌then◌else◌, None, option_map, IfOk, OnOk, OnErr};
 ghost use Rattle.std.specs.Arc.{arc_value};
+ghost use Rattle.trie_node.specs.Roots.{IsRoot, map_of, word_of};
+ghost use Rattle.trie_node.specs.Shape.{NoneAbove, Restamps, nodes, own_count};
+ghost use Rattle.trie_node.specs.View.{tree};
+ghost use Rattle.versions.specs.Changes.{RestampsIf};
 ghost use Rattle.versions.specs.Commands.{is_full_for};
-ghost use Rattle.versions.specs.Map.{IsMap, value_at, with_pair};
+ghost use Rattle.versions.specs.Map.{IsMap, value_at, with_pair, without};
 ghost use Rattle.versions.specs.Puts.{FullExactly};
 
-use crate::no_memory::NoMemory;
-use crate::pairs::{Pair, find_pair, put_pair};
+use crate::change::Change;
 use crate::refusal::Refusal;
+use crate::room::WithinRoom;
+use generation::Source;
+use hash_path::PathKey;
 use std::alloc::Global;
 use std::marker::Model;
 use std::sync::Arc;
+use trie_node::{Always, Condition, NoMemory, Node, Stamp, Written, root_is_map, writes_keep_stamps_below};
 
 /// The most pairs that a map may be limited to.
 pub const MOST_PAIRS: u64 = 16_777_216;
 
-/// A finite map from `K` to `V` with a limit on its pairs, as one shared list in order of keys.
+/// A finite map from `K` to `V` with a limit on its pairs, as a root of shared trie nodes.
 ///
-/// A write makes a new list, so a fork keeps the list that it shared.
+/// A write copies the nodes of one path, so a fork keeps the nodes that it shared.
 #[derive(Drop)]
-pub struct Version<K: Ord, V> {
-    pairs: Arc<Vec<Pair<K, V>>>,
+pub struct Version<K: PathKey, V> {
+    root: Node<K, V>,
     limit: u64,
+    stamp: Stamp,
 }
 
-impl<K: Ord, V> Model for Version<K, V> {
-    ghost use Rattle.std.specs.Prelude.{◌≤◌, map, length};
+impl<K: PathKey, V> Model for Version<K, V> {
+    ghost use Rattle.std.specs.Prelude.{◌≤◌, length};
+    ghost use Rattle.trie_node.specs.Roots.{IsRoot, map_of, word_of};
+    ghost use Rattle.trie_node.specs.Shape.{NoneAbove, nodes};
+    ghost use Rattle.trie_node.specs.View.{tree};
     ghost use Rattle.versions.specs.Contents.{Contents};
-    ghost use Rattle.versions.specs.Map.{IsMap};
-    ghost use Rattle.versions.specs.Pairs.{pair_values};
     ghost use Rattle.versions.specs.declared.version.TheConstants.{MOST_PAIRS};
 
     ghost Value = { Contents K V };
 
-    ghost view = { λ a. record { entries = map pair_values a.pairs.value.items; limit = a.limit } };
+    ghost view = { λ a. record { entries = map_of K.cmp (tree a.root); limit = a.limit; stamp = a.stamp.0; nodes = nodes (word_of K.path_of) (tree a.root) } };
 
-    ghost invariant = { λ a. IsMap K.cmp (map pair_values a.pairs.value.items) × (length (map pair_values a.pairs.value.items) ≤ a.limit) × (1 ≤ a.limit) × (a.limit ≤ MOST_PAIRS) };
+    ghost invariant = { λ a. IsRoot K.cmp K.path_of (tree a.root) × (length (map_of K.cmp (tree a.root)) ≤ a.limit) × (1 ≤ a.limit) × (a.limit ≤ MOST_PAIRS) × NoneAbove a.stamp.0 (nodes (word_of K.path_of) (tree a.root)) };
 }
 
-impl<K: Ord + Drop, V: Drop> Version<K, V> {
-    /// A map with no pairs, which may hold up to `limit` of them.
-    pub fn empty(alloc: Global, limit: u64) -> Result<Version<K, V>, NoMemory>
+impl<K: PathKey + Drop, V: Drop> Version<K, V> {
+    /// A map with no pairs, which may hold up to `limit` of them. Its one node has the stamp.
+    pub fn empty(alloc: Global, limit: u64, stamp: Stamp) -> Result<Version<K, V>, NoMemory>
         requires least { 1 ≤ limit }
         requires most { limit ≤ MOST_PAIRS }
         ensures entries { IfOk result (λ version. version.entries ≡ []) }
         ensures limit { IfOk result (λ version. version.limit ≡ limit) }
+        ensures stamp { IfOk result (λ version. version.stamp ≡ stamp.0) }
+        ensures nodes { IfOk result (λ version. version.nodes ≡ ([], stamp.0) ∷ []) }
     {
         Ok(Version {
-            pairs: Arc::new(alloc, Vec::new(alloc))?,
+            root: trie_node::empty_root(alloc, stamp)?,
             limit,
+            stamp,
         })
     }
 
@@ -56,7 +68,7 @@ impl<K: Ord + Drop, V: Drop> Version<K, V> {
     pub fn get(&self, key: &K) -> Option<&Arc<V>>
         ensures { option_map (λ value. value.now.value) result ≡ value_at K.cmp self.now.entries key.now }
     {
-        find_pair(self.pairs.as_slice(), key)
+        trie_node::find(&self.root, key)
     }
 
     /// How many pairs there are. It takes no memory.
@@ -65,7 +77,8 @@ impl<K: Ord + Drop, V: Drop> Version<K, V> {
         ensures within { length self.now.entries ≤ self.now.limit }
         ensures sorted { IsMap K.cmp self.now.entries }
     {
-        self.pairs.len() as u64
+        root_is_map::<K, V>();
+        trie_node::size(&self.root)
     }
 
     /// How many pairs there may be. It takes no memory.
@@ -77,16 +90,28 @@ impl<K: Ord + Drop, V: Drop> Version<K, V> {
         self.limit
     }
 
-    // The value that a put at the key replaces, or why the put is refused.
-    fn value_before(&self, key: &K) -> Result<Option<Arc<V>>, Refusal>
-        ensures before { IfOk result (λ before. option_map arc_value before ≡ value_at K.cmp self.now.entries key.now) }
-        ensures full { FullExactly result (is_full_for K.cmp self.now.limit self.now.entries key.now) }
+    /// The stamp that this version's writes put on nodes. No node has a greater one. It takes no memory.
+    pub fn stamp(&self) -> Stamp
+        ensures stamp { result.0 ≡ self.now.stamp }
+        ensures newest { NoneAbove self.now.stamp self.now.nodes }
     {
-        match self.get(key) {
-            Some(value) => Ok(Some(Arc::try_clone(value)?)),
-            None if self.len() == self.limit => Err(Refusal::Full),
-            None => Ok(None),
-        }
+        self.stamp
+    }
+
+    /// The root of the version's trie. It takes no memory.
+    pub fn root(&self) -> &Node<K, V>
+        ensures root { IsRoot K.cmp K.path_of (tree result.now) }
+        ensures entries { map_of K.cmp (tree result.now) ≡ self.now.entries }
+        ensures nodes { nodes (word_of K.path_of) (tree result.now) ≡ self.now.nodes }
+    {
+        &self.root
+    }
+
+    /// How many nodes have the version's own stamp: those that no other version shares. It takes no memory.
+    pub fn own_nodes(&self) -> u64
+        ensures { result ≡ own_count self.now.stamp self.now.nodes }
+    {
+        generation::own_nodes(&self.root, self.stamp)
     }
 
     /// Maps the key to the value, and answers the value before, or none.
@@ -102,28 +127,173 @@ impl<K: Ord + Drop, V: Drop> Version<K, V> {
         ensures before { IfOk result (λ before. option_map arc_value before ≡ value_at K.cmp self.old.entries key.value) }
         ensures entries { OnOk result (self.new.entries ≡ with_pair K.cmp self.old.entries key.value value.value) }
         ensures limit { self.new.limit ≡ self.old.limit }
+        ensures stamp { self.new.stamp ≡ self.old.stamp }
+        ensures nodes { OnOk result (Restamps self.old.stamp (word_of K.path_of key.value) self.old.nodes self.new.nodes) }
         ensures full { FullExactly result (is_full_for K.cmp self.old.limit self.old.entries key.value) }
         ensures err { OnErr result (self.new ≡ self.old) }
     {
-        let before = self.value_before(&key)?;
-        let pairs = put_pair(alloc, self.pairs.as_slice(), &key, &value)?;
-        self.pairs = Arc::new(alloc, pairs)?;
-        Ok(before)
+        Ok(self.put_where(alloc, key, value, &Always)?.previous)
     }
 
-    /// Another map with the same pairs and limit, which shares them. It makes no request for memory.
+    /// Maps the key to the value where the condition holds of the value that the key has, and answers that value and
+    /// whether the map was written. It walks down the trie once. Where the map is not written no node is copied.
     ///
-    /// A later write to one of the two leaves the other.
-    pub fn fork(&mut self) -> Result<Version<K, V>, NoMemory>
-        ensures entries { IfOk result (λ fork. fork.entries ≡ self.old.entries) }
-        ensures limit { IfOk result (λ fork. fork.limit ≡ self.old.limit) }
-        ensures kept_entries { self.new.entries ≡ self.old.entries }
-        ensures kept_limit { self.new.limit ≡ self.old.limit }
+    /// It is refused as `Full` where the condition holds, the key is new and there are as many pairs as there may be,
+    /// and as `NoMemory` for want of memory. The map is then as before.
+    pub fn put_where<C: Condition<V>>(
+        &mut self,
+        alloc: Global,
+        key: Arc<K>,
+        value: Arc<V>,
+        condition: &C,
+    ) -> Result<Change<V>, Refusal>
+        ensures before { IfOk result (λ change. option_map arc_value change.previous ≡ value_at K.cmp self.old.entries key.value) }
+        ensures done { IfOk result (λ change. change.done ≡ C.holds condition.now (value_at K.cmp self.old.entries key.value)) }
+        ensures entries { IfOk result (λ change. self.new.entries ≡ (if change.done then with_pair K.cmp self.old.entries key.value value.value else self.old.entries)) }
+        ensures limit { self.new.limit ≡ self.old.limit }
+        ensures stamp { self.new.stamp ≡ self.old.stamp }
+        ensures nodes { IfOk result (λ change. RestampsIf change.done self.old.stamp (word_of K.path_of key.value) self.old.nodes self.new.nodes) }
+        ensures full { FullExactly result (C.holds condition.now None && is_full_for K.cmp self.old.limit self.old.entries key.value) }
         ensures err { OnErr result (self.new ≡ self.old) }
     {
+        writes_keep_stamps_below();
+        let full = self.len() == self.limit;
+        let room = WithinRoom { condition, full };
+        let Written {
+            root,
+            previous: found,
+        } = trie_node::put_where(alloc, &self.root, key, value, self.stamp, &room)?;
+        let previous = shared(found)?;
+        match root {
+            Some(root) => {
+                self.root = root;
+                Ok(Change {
+                    previous,
+                    done: true,
+                })
+            }
+            None if full && found.is_none() && condition.holds(found) => Err(Refusal::Full),
+            None => Ok(Change {
+                previous,
+                done: false,
+            }),
+        }
+    }
+
+    /// Removes the key, and answers the value before, or none. It is refused for want of memory alone, and the map
+    /// is then as before. Where the key is absent no node is copied.
+    pub fn remove(&mut self, alloc: Global, key: &K) -> Result<Option<Arc<V>>, NoMemory>
+        ensures before { IfOk result (λ before. option_map arc_value before ≡ value_at K.cmp self.old.entries key.now) }
+        ensures entries { OnOk result (self.new.entries ≡ without K.cmp self.old.entries key.now) }
+        ensures limit { self.new.limit ≡ self.old.limit }
+        ensures stamp { self.new.stamp ≡ self.old.stamp }
+        ensures nodes { OnOk result (RestampsIf (is_some (value_at K.cmp self.old.entries key.now)) self.old.stamp (word_of K.path_of key.now) self.old.nodes self.new.nodes) }
+        ensures err { OnErr result (self.new ≡ self.old) }
+    {
+        Ok(self.remove_where(alloc, key, &Always)?.previous)
+    }
+
+    /// Removes the key where it is there and the condition holds of its value, and answers the value that it had and
+    /// whether the map was written. It walks down the trie once. Where the map is not written no node is copied.
+    ///
+    /// It is refused for want of memory alone, and the map is then as before.
+    pub fn remove_where<C: Condition<V>>(
+        &mut self,
+        alloc: Global,
+        key: &K,
+        condition: &C,
+    ) -> Result<Change<V>, NoMemory>
+        ensures before { IfOk result (λ change. option_map arc_value change.previous ≡ value_at K.cmp self.old.entries key.now) }
+        ensures done { IfOk result (λ change. change.done ≡ (is_some (value_at K.cmp self.old.entries key.now) && C.holds condition.now (value_at K.cmp self.old.entries key.now))) }
+        ensures entries { IfOk result (λ change. self.new.entries ≡ (if change.done then without K.cmp self.old.entries key.now else self.old.entries)) }
+        ensures limit { self.new.limit ≡ self.old.limit }
+        ensures stamp { self.new.stamp ≡ self.old.stamp }
+        ensures nodes { IfOk result (λ change. RestampsIf change.done self.old.stamp (word_of K.path_of key.now) self.old.nodes self.new.nodes) }
+        ensures err { OnErr result (self.new ≡ self.old) }
+    {
+        root_is_map::<K, V>();
+        writes_keep_stamps_below();
+        let Written {
+            root,
+            previous: found,
+        } = trie_node::removed_where(alloc, &self.root, key, self.stamp, condition)?;
+        let previous = shared(found)?;
+        match root {
+            Some(root) => {
+                self.root = root;
+                Ok(Change {
+                    previous,
+                    done: true,
+                })
+            }
+            None => Ok(Change {
+                previous,
+                done: false,
+            }),
+        }
+    }
+
+    /// Removes all pairs, which leaves one node, with the version's stamp. It is refused for want of memory alone,
+    /// and the map is then as before.
+    pub fn clear(&mut self, alloc: Global) -> Result<(), NoMemory>
+        ensures entries { OnOk result (self.new.entries ≡ []) }
+        ensures limit { self.new.limit ≡ self.old.limit }
+        ensures stamp { self.new.stamp ≡ self.old.stamp }
+        ensures nodes { OnOk result (self.new.nodes ≡ ([], self.old.stamp) ∷ []) }
+        ensures err { OnErr result (self.new ≡ self.old) }
+    {
+        self.root = trie_node::empty_root(alloc, self.stamp)?;
+        Ok(())
+    }
+
+    /// Another map with the same pairs and limit, which shares every node. It makes no request for memory. Both maps
+    /// get a stamp that the source had not issued, so that neither has a node of its own.
+    ///
+    /// A later write to one of the two leaves the other. After `NoMemory` the map and the source are as before.
+    pub fn fork(&mut self, source: &mut Source) -> Result<Version<K, V>, NoMemory>
+        requires issued { self.old.stamp ≤ source.old }
+        requires room { source.old + 2 ≤ 2 ^ 63 }
+        ensures entries { IfOk result (λ fork. fork.entries ≡ self.old.entries) }
+        ensures limit { IfOk result (λ fork. fork.limit ≡ self.old.limit) }
+        ensures stamp { IfOk result (λ fork. fork.stamp ≡ source.old + 2) }
+        ensures nodes { IfOk result (λ fork. fork.nodes ≡ self.old.nodes) }
+        ensures kept_entries { self.new.entries ≡ self.old.entries }
+        ensures kept_limit { self.new.limit ≡ self.old.limit }
+        ensures kept_nodes { self.new.nodes ≡ self.old.nodes }
+        ensures fresh { OnOk result (self.new.stamp ≡ source.old + 1) }
+        ensures issued { OnOk result (source.new ≡ source.old + 2) }
+        ensures err { OnErr result (self.new ≡ self.old) }
+        ensures source_err { OnErr result (source.new ≡ source.old) }
+    {
+        let root = self.root.try_clone()?;
+        self.stamp = source.next();
         Ok(Version {
-            pairs: Arc::try_clone(&self.pairs)?,
+            root,
             limit: self.limit,
+            stamp: source.next(),
         })
+    }
+
+    /// Gives the map a stamp that the source had not issued. It takes no memory and copies no node.
+    pub fn restamp(&mut self, source: &mut Source)
+        requires issued { self.old.stamp ≤ source.old }
+        requires room { source.old < 2 ^ 63 }
+        ensures entries { self.new.entries ≡ self.old.entries }
+        ensures limit { self.new.limit ≡ self.old.limit }
+        ensures stamp { self.new.stamp ≡ source.old + 1 }
+        ensures nodes { self.new.nodes ≡ self.old.nodes }
+        ensures issued { source.new ≡ source.old + 1 }
+    {
+        self.stamp = source.next();
+    }
+}
+
+// Another handle on the value, where there is one.
+fn shared<V>(value: Option<&Arc<V>>) -> Result<Option<Arc<V>>, NoMemory>
+    ensures { IfOk result (λ shared. option_map arc_value shared ≡ option_map (λ v. v.now.value) value.entry) }
+{
+    match value {
+        Some(value) => Ok(Some(Arc::try_clone(value)?)),
+        None => Ok(None),
     }
 }

@@ -1,4 +1,4 @@
-use Rattle.hash_path.proofs.Positions.{spelled-prefix, shared-digits, word_of-spelled, spelled-injective}
+use Rattle.hash_path.proofs.WordLaws.{spelled-prefix, shared-digits, word_of-spelled, spelled-injective}
 use Rattle.hash_path.proofs.laws.digits_determine_word.Goals as goal
 
 pub returns-clause-prefix : goal.returns-clause-prefix

@@ -1,4 +1,4 @@
-use Rattle.hash_path.proofs.Positions.{position-below, position-injective, position-onto}
+use Rattle.hash_path.proofs.WordLaws.{position-below, position-injective, position-onto}
 use Rattle.hash_path.proofs.laws.position_is_bijection.Goals as goal
 
 pub returns-clause-below : goal.returns-clause-below

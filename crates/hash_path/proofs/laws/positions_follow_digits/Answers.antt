@@ -1,4 +1,4 @@
-use Rattle.hash_path.proofs.Positions.{position-order, position-digit_order}
+use Rattle.hash_path.proofs.WordLaws.{position-order, position-digit_order}
 use Rattle.hash_path.proofs.laws.positions_follow_digits.Goals as goal
 
 pub returns-clause-whole : goal.returns-clause-whole

@@ -1,7 +1,7 @@
 use Rattle.std.proofs.Common.{◌∙◌, sym}
 use Rattle.trie_node.specs.Tree.{entries}
 use Rattle.trie_node.specs.View.{tree}
-use Rattle.trie_node.proofs.Lists.{find_listed}
+use Rattle.trie_node.proofs.Listings.{find_listed}
 use Rattle.trie_node.proofs.search.find.Goals as goal
 
 pub returns : goal.returns

@@ -1,0 +1,101 @@
+-- What is left of a trie by a removal is a trie.
+use Rattle.std.proofs.Common.{◌≡◌, ℕ, zero, suc, ◌+◌, ◌<◌, ◌≤◌, ◌≢◌, Bool, true, false, cond, List, [], ◌∷◌, ◌++◌, length, Option, Some, None, is_some, refl, sym, ap, ◌∙◌, subst, arith, length-append}
+use mathlib.Core.Bool.{false≢true}
+use Rattle.std.proofs.lemmas.List.{append-nil}
+use Rattle.std.proofs.lemmas.List.Elements.{All-tail}
+use Rattle.std.specs.declared.cmp.Ordering.{Ordering}
+use Rattle.std.specs.declared.cmp.Ordering.TheVariants.{Equal}
+use Rattle.std.specs.Ordering.{eq_by_cmp}
+use Rattle.std.specs.Cmp.{IsTotalOrder}
+use Rattle.std.specs.FinMap.{find}
+use Rattle.hash_path.specs.Digits.{digit}
+use Rattle.trie_node.specs.Tree.{Tree, branch, bucket, Trees, no_trees, more_trees, entries, entries_of_all, IsTrie, AreTries, digits_of, HasTwoWords}
+use Rattle.trie_node.specs.Shape.{nodes_below, nodes_of_all, IsRestamped, Restamps}
+use Rattle.trie_node.specs.Roots.{word_of}
+use Rattle.trie_node.specs.Writes.{Writes}
+use Rattle.trie_node.specs.Removals.{drawn_up}
+use Rattle.trie_node.proofs.Bits.{IsOnceEach, once_each}
+use Rattle.trie_node.proofs.Finds.{found_first}
+use Rattle.trie_node.proofs.Passing.{found_before, found_after}
+use Rattle.trie_node.proofs.Branches.{Changes, tied, writes_of_two}
+
+module _ {K V : Type 0} (R : K → K → Ordering) (path : K → ℕ) (total : IsTotalOrder R) (exact : (x y : K) → R x y ≡ Equal → x ≡ y) where
+  -- in a trie below the root a key is found
+  some_found : (level : ℕ) (t : Tree K V) → IsTrie R path level t → 0 < level → (q : K) × (is_some (find R q (entries t)) ≡ true)
+  some_found level (branch stamp size bitmap ts) h up = let two = h.4 up in (two.0, two.1.1.0)
+  some_found level (bucket stamp []) h up = absurd (omega (arith, h.1))
+  some_found level (bucket stamp (e ∷ es)) h up = (e.0, ap is_some (found_first R total exact e es))
+
+  -- below two children keys of two words are found
+  two_children : (level : ℕ) (ds : List ℕ) (t u : Tree K V) (ts : Trees K V) → IsOnceEach ds → AreTries R path level ds (more_trees t (more_trees u ts)) → HasTwoWords R path (entries_of_all (more_trees t (more_trees u ts)))
+  two_children level [] t u ts once h = absurd h
+  two_children level (d ∷ []) t u ts once h = absurd h.2
+  two_children level (d ∷ e ∷ ds) t u ts once h =
+      let q = some_found (level + 1) t h.1 (omega arith) in
+      let r = some_found (level + 1) u h.2.1 (omega arith) in
+      (q.0, (r.0, (
+        found_before R path total q.0 (entries t) (entries_of_all (more_trees u ts)) q.1,
+        found_after R path total r.0 (entries t) (entries_of_all (more_trees u ts)) (found_before R path total r.0 (entries u) (entries_of_all ts) r.1),
+        λ same. once.0.0 (sym (h.2.0 r.0 r.1) ∙ ap (λ w. digit w level) (sym same) ∙ h.0 q.0 q.1),
+      )))
+
+  -- and below an only child that is a branch
+  only_branch : (level : ℕ) (ds : List ℕ) (stamp size bitmap : ℕ) (ts : Trees K V) → AreTries R path level ds (more_trees (branch stamp size bitmap ts) no_trees) → HasTwoWords R path (entries_of_all (more_trees (branch stamp size bitmap ts) no_trees))
+  only_branch level [] stamp size bitmap ts h = absurd h
+  only_branch level (d ∷ ds) stamp size bitmap ts h = subst (HasTwoWords R path) (sym (append-nil (entries_of_all ts))) (h.1.4 (omega arith))
+
+  -- of two words one is left
+  one_left : (k : K) (old new : List (K × V)) → HasTwoWords R path old → ((q : K) → find R q new ≡ cond (eq_by_cmp R q k) None (find R q old)) → (q : K) × (is_some (find R q new) ≡ true)
+  one_left k old new h finds = of_first (eq_by_cmp R h.0 k) refl
+    where
+      other : (q : K) → is_some (find R q old) ≡ true → eq_by_cmp R q k ≡ false → is_some (find R q new) ≡ true
+      other q found e = ap is_some (finds q) ∙ ap (λ b. is_some (cond b None (find R q old))) e ∙ found
+
+      of_second : (b : Bool) → eq_by_cmp R h.0 k ≡ true → eq_by_cmp R h.1.0 k ≡ b → (q : K) × (is_some (find R q new) ≡ true)
+      of_second true e f = absurd (h.1.1.2 (ap path (exact h.0 k (tied (R h.0 k) e) ∙ sym (exact h.1.0 k (tied (R h.1.0 k) f)))))
+      of_second false e f = (h.1.0, other h.1.0 h.1.1.1 f)
+
+      of_first : (b : Bool) → eq_by_cmp R h.0 k ≡ b → (q : K) × (is_some (find R q new) ≡ true)
+      of_first true e = of_second (eq_by_cmp R h.1.0 k) e refl
+      of_first false e = (h.0, other h.0 h.1.1.0 e)
+
+  -- a leaf or bucket has one name wherever it stands
+  only_nodes : (level : ℕ) (p ds : List ℕ) (stamp : ℕ) (es : List (K × V)) → AreTries R path level ds (more_trees (bucket stamp es) no_trees) →
+      nodes_of_all (word_of path) p ds (more_trees (bucket stamp es) no_trees) ≡ nodes_below (word_of path) p (bucket stamp es)
+  only_nodes level p [] stamp es h = absurd h
+  only_nodes level p (d ∷ []) stamp [] h = refl
+  only_nodes level p (d ∷ []) stamp (e ∷ es) h = refl
+  only_nodes level p (d ∷ x ∷ ds) stamp es h = absurd h.2
+
+  only_trie : (level : ℕ) (ds : List ℕ) (t : Tree K V) → AreTries R path level ds (more_trees t no_trees) → IsTrie R path (level + 1) t
+  only_trie level [] t h = absurd h
+  only_trie level (d ∷ ds) t h = h.1
+
+  -- the only child of a branch takes its place
+  draws_up : (level stamp : ℕ) (k : K) (given : Option V) (old : Tree K V) (stamp1 size bitmap stamp2 : ℕ) (es : List (K × V)) → 0 < level →
+      Changes R path level stamp k given old (branch stamp1 size bitmap (more_trees (bucket stamp2 es) no_trees)) → Writes R path level stamp k given old (bucket stamp2 es)
+  draws_up level stamp k given old stamp1 size bitmap stamp2 es up c =
+      let trie = only_trie level (digits_of bitmap) (bucket stamp2 es) c.near.3 in
+      record {
+        trie = (up, trie.1, trie.2, trie.3);
+        finds = λ q. ap (find R q) (sym (append-nil es)) ∙ c.finds q;
+        least = omega (arith, c.least, length-append es []);
+        most = omega (arith, c.most, length-append es []);
+        stamps = λ p deep on. subst (Restamps stamp (word_of path k) (nodes_below (word_of path) p old)) (only_nodes level p (digits_of bitmap) stamp2 es c.near.3)
+            (All-tail (IsRestamped stamp (word_of path k) (nodes_below (word_of path) p old)) (p, stamp1) (nodes_of_all (word_of path) p (digits_of bitmap) (more_trees (bucket stamp2 es) no_trees)) (c.stamps p deep on));
+      }
+
+  -- a branch without a key, drawn up where that is needed
+  pub removes_drawn_up : (level stamp : ℕ) (k : K) (old new : Tree K V) → (0 < level → HasTwoWords R path (entries old)) → Changes R path level stamp k None old new → Writes R path level stamp k None old (drawn_up level new)
+  removes_drawn_up zero stamp k old new two c = writes_of_two R path total exact zero stamp k None old new c (λ up. absurd (omega arith))
+  removes_drawn_up (suc level) stamp k old (bucket stamp1 es) two c = absurd c.near
+  removes_drawn_up (suc level) stamp k old (branch stamp1 size bitmap no_trees) two c =
+      let left = one_left k (entries old) [] (two (omega arith)) c.finds in
+      absurd (false≢true left.1)
+  removes_drawn_up (suc level) stamp k old (branch stamp1 size bitmap (more_trees (bucket stamp2 es) no_trees)) two c = draws_up (suc level) stamp k None old stamp1 size bitmap stamp2 es (omega arith) c
+  removes_drawn_up (suc level) stamp k old (branch stamp1 size bitmap (more_trees (branch stamp2 size2 bitmap2 us) no_trees)) two c =
+      writes_of_two R path total exact (suc level) stamp k None old _ c (λ up. only_branch (suc level) (digits_of bitmap) stamp2 size2 bitmap2 us c.near.3)
+  removes_drawn_up (suc level) stamp k old (branch stamp1 size bitmap (more_trees (bucket stamp2 es) (more_trees u ts))) two c =
+      writes_of_two R path total exact (suc level) stamp k None old _ c (λ up. two_children (suc level) (digits_of bitmap) (bucket stamp2 es) u ts (once_each bitmap) c.near.3)
+  removes_drawn_up (suc level) stamp k old (branch stamp1 size bitmap (more_trees (branch stamp2 size2 bitmap2 us) (more_trees u ts))) two c =
+      writes_of_two R path total exact (suc level) stamp k None old _ c (λ up. two_children (suc level) (digits_of bitmap) (branch stamp2 size2 bitmap2 us) u ts (once_each bitmap) c.near.3)

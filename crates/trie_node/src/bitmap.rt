@@ -1,0 +1,21 @@
+//! Which digits a bitmap has, and where their children stand.
+
+ghost use Rattle.std.specs.Prelude.{◌≡◌, ◌<◌, ◌%◌, ◌^◌, ◌==◌};
+ghost use Rattle.std.specs.Int.{bit_at};
+ghost use Rattle.std.specs.Int.RustNames.{count_ones};
+
+/// Whether a bitmap has a digit.
+pub(crate) fn has_digit(bitmap: u32, digit: u32) -> bool
+    requires { digit < 32 }
+    ensures { result ≡ (bit_at bitmap digit == 1) }
+{
+    (bitmap >> digit) & 1 == 1
+}
+
+/// The number of a bitmap's digits below one.
+pub(crate) fn place(bitmap: u32, digit: u32) -> usize
+    requires { digit < 32 }
+    ensures { result ≡ count_ones (bitmap % 2 ^ digit) }
+{
+    (bitmap & ((1 << digit) - 1)).count_ones() as usize
+}
