@@ -11,7 +11,7 @@ use Rattle.std.specs.Ordering.{nat_cmp, is_eq}
 use Rattle.std.specs.Cmp.{nat_cmp_is}
 use Rattle.std.specs.FinMap.Entries.{by_order}
 use Rattle.versions.specs.Map.{Map, value_at, with_pair}
-use Rattle.handles.specs.Handles.{live_from, maps_in, map_in, AllLimitedTo, version_in}
+use Rattle.handles.specs.Handles.{live_from, maps_in, map_in, AllWithin, version_in}
 
 module _ {M : Type 0} where
   -- nothing stands before the first number
@@ -84,17 +84,23 @@ module _ {K V : Type 0} where
   none_more n (None ∷ ps) = none_more (n + 1) ps
   none_more n (Some v ∷ ps) = ap (λ (r : Map ℕ (Map K V)). (n, v.entries) ∷ r) (none_more (n + 1) ps)
 
-  pub all_limited_more : (n : ℕ) (places : List (Option (Contents K V))) → AllLimitedTo n places → AllLimitedTo n (places ++ None ∷ [])
-  all_limited_more n [] h = tt
-  all_limited_more n (None ∷ ps) h = all_limited_more n ps h
-  all_limited_more n (Some v ∷ ps) h = (h.0, all_limited_more n ps h.1)
+  pub all_within_more : (n l : ℕ) (places : List (Option (Contents K V))) → AllWithin n l places → AllWithin n l (places ++ None ∷ [])
+  all_within_more n l [] h = tt
+  all_within_more n l (None ∷ ps) h = all_within_more n l ps h
+  all_within_more n l (Some v ∷ ps) h = (h.0, h.1, all_within_more n l ps h.2)
 
-  pub all_limited_set : (n k : ℕ) (v : Contents K V) (places : List (Option (Contents K V))) → AllLimitedTo n places → v.limit ≡ n → AllLimitedTo n (slice_set places k (Some v))
-  all_limited_set n k v [] h e = tt
-  all_limited_set n zero v (None ∷ ps) h e = (e, h)
-  all_limited_set n zero v (Some w ∷ ps) h e = (e, h.1)
-  all_limited_set n (suc k) v (None ∷ ps) h e = all_limited_set n k v ps h e
-  all_limited_set n (suc k) v (Some w ∷ ps) h e = (h.0, all_limited_set n k v ps h.1 e)
+  pub all_within_set : (n l k : ℕ) (v : Contents K V) (places : List (Option (Contents K V))) → AllWithin n l places → v.limit ≡ n → v.stamp ≤ l → AllWithin n l (slice_set places k (Some v))
+  all_within_set n l k v [] h e f = tt
+  all_within_set n l zero v (None ∷ ps) h e f = (e, f, h)
+  all_within_set n l zero v (Some w ∷ ps) h e f = (e, f, h.2)
+  all_within_set n l (suc k) v (None ∷ ps) h e f = all_within_set n l k v ps h e f
+  all_within_set n l (suc k) v (Some w ∷ ps) h e f = (h.0, h.1, all_within_set n l k v ps h.2 e f)
+
+  -- more stamps may have been issued
+  pub all_within_later : (n l m : ℕ) (places : List (Option (Contents K V))) → l ≤ m → AllWithin n l places → AllWithin n m places
+  all_within_later n l m [] le h = tt
+  all_within_later n l m (None ∷ ps) le h = all_within_later n l m ps le h
+  all_within_later n l m (Some v ∷ ps) le h = (h.0, omega (arith, h.1), all_within_later n l m ps le h.2)
 
   -- a version that was read has the map under its number
   pub here_is : (k : ℕ) (places : List (Option (Contents K V))) (o : Option (Contents K V)) (v : Contents K V) → k < length places → o ≡ get_or places k o → get_or places k o ≡ Some v → unwrap_or (value_at nat_cmp (live_from 0 (maps_in places)) k) [] ≡ v.entries
@@ -108,15 +114,19 @@ module _ {K V : Type 0} where
       ap (λ (m : Option (Map K V)). m ∷ maps_in ps) (ap (λ (es : Map K V). Some es) same ∙ sym (ap map_in e))
   same_maps (suc k) (p ∷ ps) d v w e same = ap (λ (ms : List (Option (Map K V))). map_in p ∷ ms) (same_maps k ps d v w e same)
 
-  abbrev held_limit : Contents K V → ℕ
-  held_limit v = v.limit
+  -- what a version that was read keeps to
+  pub record IsWithin (n l : ℕ) (v : Contents K V) : Type 0 where
+    pub limit : v.limit ≡ n
+    pub stamp : v.stamp ≤ l
 
-  pub limit_here : (n k : ℕ) (places : List (Option (Contents K V))) (d : Option (Contents K V)) (v : Contents K V) → AllLimitedTo n places → k < length places → get_or places k d ≡ Some v → v.limit ≡ n
-  limit_here n k [] d v have h e = absurd (omega arith)
-  limit_here n zero (None ∷ ps) d v have h e = absurd (cc)
-  limit_here n zero (Some w ∷ ps) d v have h e = sym (ap (λ (o : Option (Contents K V)). unwrap_or (option_map held_limit o) 0) e) ∙ have.0
-  limit_here n (suc k) (None ∷ ps) d v have h e = limit_here n k ps d v have (omega arith) e
-  limit_here n (suc k) (Some w ∷ ps) d v have h e = limit_here n k ps d v have.1 (omega arith) e
+  pub within_here : (n l k : ℕ) (places : List (Option (Contents K V))) (d : Option (Contents K V)) (v : Contents K V) → AllWithin n l places → k < length places → get_or places k d ≡ Some v → IsWithin n l v
+  within_here n l k [] d v have h e = absurd (omega arith)
+  within_here n l zero (None ∷ ps) d v have h e = absurd (cc)
+  within_here n l zero (Some w ∷ ps) d v have h e =
+      let same : w ≡ v = cc in
+      subst (IsWithin n l) same (record { limit = have.0; stamp = have.1 })
+  within_here n l (suc k) (None ∷ ps) d v have h e = within_here n l k ps d v have (omega arith) e
+  within_here n l (suc k) (Some w ∷ ps) d v have h e = within_here n l k ps d v have.2 (omega arith) e
 
   live_place : (k : ℕ) (places : List (Option (Contents K V))) → is_some (unwrap_or (option_map map_in (slice_get places k)) None) ≡ true → IsSome (version_in places k)
   live_place k [] e = absurd (cc)
@@ -128,23 +138,38 @@ module _ {K V : Type 0} where
   pub live_here : (k : ℕ) (places : List (Option (Contents K V))) → is_some (value_at nat_cmp (live_from 0 (maps_in places)) k) ≡ true → IsSome (version_in places k)
   live_here k places e = live_place k places (ap is_some (sym (held_at k places)) ∙ e)
 
-  fits_place : (P : ℕ → Map K V → Bool) (n k : ℕ) (places : List (Option (Contents K V))) → AllLimitedTo n places
+  fits_place : (P : ℕ → Map K V → Bool) (n l k : ℕ) (places : List (Option (Contents K V))) → AllWithin n l places
       → is_some (unwrap_or (option_map map_in (slice_get places k)) None) ≡ true
       → P n (unwrap_or (unwrap_or (option_map map_in (slice_get places k)) None) []) ≡ false
       → IsSomeAnd (version_in places k) (λ v. P v.limit v.entries ≡ false)
-  fits_place P n k [] have e f = absurd (cc)
-  fits_place P n zero (None ∷ ps) have e f = absurd (cc)
-  fits_place P n zero (Some v ∷ ps) have e f = ap (λ (l : ℕ). P l v.entries) have.0 ∙ f
-  fits_place P n (suc k) (None ∷ ps) have e f = fits_place P n k ps have e f
-  fits_place P n (suc k) (Some w ∷ ps) have e f = fits_place P n k ps have.1 e f
+  fits_place P n l k [] have e f = absurd (cc)
+  fits_place P n l zero (None ∷ ps) have e f = absurd (cc)
+  fits_place P n l zero (Some v ∷ ps) have e f = ap (λ (m : ℕ). P m v.entries) have.0 ∙ f
+  fits_place P n l (suc k) (None ∷ ps) have e f = fits_place P n l k ps have e f
+  fits_place P n l (suc k) (Some w ∷ ps) have e f = fits_place P n l k ps have.2 e f
+
+  issued_place : (n l k : ℕ) (places : List (Option (Contents K V))) → AllWithin n l places
+      → is_some (unwrap_or (option_map map_in (slice_get places k)) None) ≡ true
+      → IsSomeAnd (version_in places k) (λ v. v.stamp ≤ l)
+  issued_place n l k [] have e = absurd (cc)
+  issued_place n l zero (None ∷ ps) have e = absurd (cc)
+  issued_place n l zero (Some v ∷ ps) have e = have.1
+  issued_place n l (suc k) (None ∷ ps) have e = issued_place n l k ps have e
+  issued_place n l (suc k) (Some w ∷ ps) have e = issued_place n l k ps have.2 e
+
+  -- the stamp of a live handle's version was issued
+  pub issued_here : (n l k : ℕ) (places : List (Option (Contents K V))) → AllWithin n l places
+      → is_some (value_at nat_cmp (live_from 0 (maps_in places)) k) ≡ true
+      → IsSomeAnd (version_in places k) (λ v. v.stamp ≤ l)
+  issued_here n l k places have e = issued_place n l k places have (ap is_some (sym (held_at k places)) ∙ e)
 
   -- what the map of a live handle passes under the limit, its version passes
-  pub fits_here : (P : ℕ → Map K V → Bool) (n k : ℕ) (places : List (Option (Contents K V))) → AllLimitedTo n places
+  pub fits_here : (P : ℕ → Map K V → Bool) (n l k : ℕ) (places : List (Option (Contents K V))) → AllWithin n l places
       → is_some (value_at nat_cmp (live_from 0 (maps_in places)) k) ≡ true
       → P n (unwrap_or (value_at nat_cmp (live_from 0 (maps_in places)) k) []) ≡ false
       → IsSomeAnd (version_in places k) (λ v. P v.limit v.entries ≡ false)
-  fits_here P n k places have e f =
-      fits_place P n k places have (ap is_some (sym (held_at k places)) ∙ e)
+  fits_here P n l k places have e f =
+      fits_place P n l k places have (ap is_some (sym (held_at k places)) ∙ e)
       (ap (λ (m : Option (Map K V)). P n (unwrap_or m [])) (sym (held_at k places)) ∙ f)
 
 module _ {T E : Type 0} where
@@ -160,10 +185,20 @@ module _ {T E : Type 0} where
   on_err P Q f (Ok x) p = tt
   on_err P Q f (Err e) p = f p
 
+module _ {K V : Type 0} where
+  -- a fork leaves its source with a stamp that was issued
+  pub record IsIssued (s t : ℕ) (v : Contents K V) : Type 0 where
+    pub stamp : v.stamp ≤ t
+    pub later : s ≤ t
+
+  pub fork_issued : {T E : Type 0} (r : Result T E) (s t : ℕ) (v w : Contents K V) → OnOk r (w.stamp ≡ s + 1) → OnOk r (t ≡ s + 2) → OnErr r (w ≡ v) → OnErr r (t ≡ s) → v.stamp ≤ s → IsIssued s t w
+  fork_issued (Ok x) s t v w fresh issued same kept le = record { stamp = omega arith; later = omega arith }
+  fork_issued (Err e) s t v w fresh issued same kept le = record { stamp = omega (arith, ap (λ (c : Contents K V). c.stamp) same, kept, le); later = omega (arith, kept) }
+
 -- what is written back over a whole slice of a vector
 pub written : {A : Type 0} (n : ℕ) (xs before : List A) → length xs ≡ n → take n (xs ++ drop (length xs) before) ≡ xs
 written n xs before e = grind (arith, common_steps)
 
 module _ {K V : Type 0} where
-  pub written_have : (limit n : ℕ) (xs before : List (Option (Contents K V))) → length xs ≡ n → AllLimitedTo limit xs → AllLimitedTo limit (take n (xs ++ drop (length xs) before))
-  written_have limit n xs before e have = subst (AllLimitedTo limit) (sym (written n xs before e)) have
+  pub written_have : (limit issued n : ℕ) (xs before : List (Option (Contents K V))) → length xs ≡ n → AllWithin limit issued xs → AllWithin limit issued (take n (xs ++ drop (length xs) before))
+  written_have limit issued n xs before e have = subst (AllWithin limit issued) (sym (written n xs before e)) have

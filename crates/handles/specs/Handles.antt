@@ -1,5 +1,5 @@
 -- The live handles, as they stand in the places of a table.
-use Rattle.std.specs.Prelude.{◌≡◌, ℕ, ◌+◌, List, [], ◌∷◌, Option, Some, None, option_map, map, unwrap_or, slice_get}
+use Rattle.std.specs.Prelude.{◌≡◌, ◌≤◌, ℕ, ◌+◌, List, [], ◌∷◌, Option, Some, None, option_map, map, unwrap_or, slice_get}
 use Rattle.versions.specs.Map.{Map}
 use Rattle.versions.specs.Contents.{Contents}
 
@@ -25,8 +25,8 @@ maps_in places = map map_in places
 abbrev pub version_in : {K V : Type 0} → List (Option (Contents K V)) → ℕ → Option (Contents K V)
 version_in places h = unwrap_or (slice_get places h) None
 
--- each version in the places has this limit
-abbrev pub AllLimitedTo : {K V : Type 0} → ℕ → List (Option (Contents K V)) → Type 0
-AllLimitedTo n [] = Unit {0}
-AllLimitedTo n (None ∷ places) = AllLimitedTo n places
-AllLimitedTo n (Some v ∷ places) = (v.limit ≡ n) × AllLimitedTo n places
+-- each version in the places has this limit, and a stamp that was issued
+abbrev pub AllWithin : {K V : Type 0} → ℕ → ℕ → List (Option (Contents K V)) → Type 0
+AllWithin limit issued [] = Unit {0}
+AllWithin limit issued (None ∷ places) = AllWithin limit issued places
+AllWithin limit issued (Some v ∷ places) = (v.limit ≡ limit) × (v.stamp ≤ issued) × AllWithin limit issued places

@@ -4,6 +4,7 @@ ghost use Rattle.handles.specs.Views.{RefusedForMemoryAlone, command_of, reply_o
 ghost use Rattle.versions.specs.Commands.{after, is_full, needs_no_memory, reply};
 
 use crate::reply::Reply;
+use hash_path::PathKey;
 use std::alloc::Global;
 use std::sync::Arc;
 use versions::{Refusal, Version};
@@ -19,13 +20,14 @@ pub enum Command<K, V> {
     Size,
 }
 
-impl<K: Ord + Drop, V: Eq + Drop> Command<K, V> {
+impl<K: PathKey + Drop, V: Eq + Drop> Command<K, V> {
     /// Makes the command on a map where it is not refused as `Full`.
     pub fn run_on(self, alloc: Global, version: &mut Version<K, V>) -> Result<Reply<V>, Refusal>
         requires { is_full K.cmp version.old.limit version.old.entries (command_of self) ≡ false }
         ensures reply { IfOk result (λ y. reply_of y ≡ reply K.cmp V.eq version.old.entries (command_of self)) }
         ensures map { OnOk result (version.new.entries ≡ after K.cmp V.eq version.old.entries (command_of self)) }
         ensures limit { version.new.limit ≡ version.old.limit }
+        ensures stamp { version.new.stamp ≡ version.old.stamp }
         ensures memory { RefusedForMemoryAlone result (needs_no_memory (command_of self)) }
         ensures err { OnErr result (version.new ≡ version.old) }
     {

@@ -7,16 +7,16 @@
 mod call;
 mod call_reply;
 mod command;
+mod laws;
 mod limits;
 mod places;
 mod reply;
 mod table;
-#[cfg(test)]
-mod tests;
 
 pub use call::Call;
 pub use call_reply::CallReply;
 pub use command::Command;
+pub use laws::{law_of_other_handles, law_of_refusals};
 pub use limits::{Limits, MOST_ENTRIES};
 pub use reply::Reply;
 pub use table::Table;

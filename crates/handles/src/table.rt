@@ -9,8 +9,11 @@ use crate::command::Command;
 use crate::limits::{Limits, MOST_ENTRIES};
 use crate::places::{fork_at, put_version, run_at};
 use crate::reply::Reply;
+use hash_path::PathKey;
+use generation::Source;
 use std::alloc::Global;
 use std::marker::Model;
+use trie_node::Stamp;
 use versions::{MOST_PAIRS, NoMemory, Refusal, Version};
 
 mod conditions;
@@ -24,15 +27,16 @@ const HANDLES: usize = 1024;
 /// the answer: `JournalFull`, `BadNumber`, `NoHandle`, `Taken`, `Full`. After any refusal all handles are as
 /// before. Each call is one entry of the journal, unless it is refused as `JournalFull` or `NoMemory`.
 #[derive(Drop)]
-pub struct Table<K: Ord, V> {
+pub struct Table<K: PathKey, V> {
     limits: Limits,
     places: Vec<Option<Version<K, V>>>,
     entries: u32,
+    source: Source,
 }
 
-impl<K: Ord, V> Model for Table<K, V> {
-    ghost use Rattle.std.specs.Prelude.{◌≡◌, ◌≤◌, length, []};
-    ghost use Rattle.handles.specs.Handles.{AllLimitedTo, live_from, maps_in};
+impl<K: PathKey, V> Model for Table<K, V> {
+    ghost use Rattle.std.specs.Prelude.{◌≡◌, ◌≤◌, ◌*◌, length, []};
+    ghost use Rattle.handles.specs.Handles.{AllWithin, live_from, maps_in};
     ghost use Rattle.handles.specs.Machine.{State};
     ghost use Rattle.versions.specs.declared.version.TheConstants.{MOST_PAIRS};
 
@@ -40,12 +44,12 @@ impl<K: Ord, V> Model for Table<K, V> {
 
     ghost view = { λ t. record { limits = t.limits; live = live_from 0 (maps_in t.places.items); jobs = []; next = 0; entries = t.entries } };
 
-    ghost invariant = { λ t. (length t.places.items ≡ 1024) × (t.entries ≤ t.limits.entries) × AllLimitedTo t.limits.pairs t.places.items × (1 ≤ t.limits.pairs) × (t.limits.pairs ≤ MOST_PAIRS) };
+    ghost invariant = { λ t. (length t.places.items ≡ 1024) × (t.entries ≤ t.limits.entries) × AllWithin t.limits.pairs t.source t.places.items × (1 ≤ t.limits.pairs) × (t.limits.pairs ≤ MOST_PAIRS) × (t.source ≤ 2 * t.entries) };
 }
 
-impl<K: Ord + Drop, V: Eq + Drop> Table<K, V> {
+impl<K: PathKey + Drop, V: Eq + Drop> Table<K, V> {
     /// A table with no handles and no entries.
-    #[tactic(auto, using(crate::proofs::Live::none_more, crate::proofs::Live::all_limited_more))]
+    #[tactic(auto, using(crate::proofs::Live::none_more, crate::proofs::Live::all_within_more))]
     pub fn new(alloc: Global, limits: Limits) -> Result<Table<K, V>, NoMemory>
         requires least_pairs { 1 ≤ limits.pairs }
         requires most_pairs { limits.pairs ≤ MOST_PAIRS }
@@ -61,6 +65,7 @@ impl<K: Ord + Drop, V: Eq + Drop> Table<K, V> {
             limits,
             places,
             entries: 0,
+            source: Source::new(),
         })
     }
 
@@ -80,7 +85,9 @@ impl<K: Ord + Drop, V: Eq + Drop> Table<K, V> {
         if let Some(refusal) = self.refusal_of_open(handle) {
             return Err(self.refused(refusal));
         }
-        let version = Version::empty(alloc, self.limits.pairs)?;
+        let stamp = Stamp(self.source.issued() + 1);
+        let version = Version::empty(alloc, self.limits.pairs, stamp)?;
+        self.source.next();
         put_version(&mut self.places, handle, version);
         self.entries += 1;
         Ok(())
@@ -96,7 +103,7 @@ impl<K: Ord + Drop, V: Eq + Drop> Table<K, V> {
         if let Some(refusal) = self.refusal_of_snapshot(handle, to) {
             return Err(self.refused(refusal));
         }
-        let version = fork_at(&mut self.places, handle)?;
+        let version = fork_at(&mut self.places, handle, &mut self.source)?;
         put_version(&mut self.places, to, version);
         self.entries += 1;
         Ok(())

@@ -167,12 +167,17 @@ module _ {K V : Type 0} (R : K → K → Ordering) (path : K → ℕ) (total : I
   gap_nodes t xs ys stamp0 size bitmap bs ds is digits long p =
       ap (nodes_below (word_of path) p) is ∙ ap (λ xs0. (p, stamp0) ∷ nodes_of_all (word_of path) p xs0 (trees (xs ++ ys))) digits ∙ ap (λ ns. (p, stamp0) ∷ ns) (nodes_append (word_of path) p bs ds xs ys long)
 
+  near_of_trie : (before size bitmap : ℕ) (ts : List (Tree K V)) (old : Tree K V) → old ≡ branch before size bitmap (trees ts) → IsTrie R path level old → IsNearlyTrie R path level old
+  near_of_trie before size bitmap ts old is trie =
+      let ok = subst (IsTrie R path level) is trie in
+      subst (IsNearlyTrie R path level) (sym is) (ok.0, ok.1, ok.2, ok.3)
+
   -- the child of the key's digit is replaced by the one with the write
-  pub changes_replaced : (d : ℕ) → digit (path k) level ≡ d → d < 32 → (before size bitmap : ℕ) (ts : List (Tree K V)) (old : Tree K V) → old ≡ branch before size bitmap (trees ts) → IsTrie R path level old →
+  pub nearly_replaced : (d : ℕ) → digit (path k) level ≡ d → d < 32 → (before size bitmap : ℕ) (ts : List (Tree K V)) (old : Tree K V) → old ≡ branch before size bitmap (trees ts) → IsNearlyTrie R path level old →
       (bit_at bitmap d == 1) ≡ true → (t u : Tree K V) → t ≡ get_or ts (count_ones (bitmap % 2 ^ d)) t → Writes R path (level + 1) stamp k given t u →
       (size2 : ℕ) (new : Tree K V) → size2 + length (entries t) ≡ size + length (entries u) → new ≡ branch stamp size2 bitmap (trees (set ts (count_ones (bitmap % 2 ^ d)) u)) → Changes R path level stamp k given old new
-  changes_replaced d here below before size bitmap ts old is trie has t u at writes size2 new sized made =
-      let ok = subst (IsTrie R path level) is trie in
+  nearly_replaced d here below before size bitmap ts old is trie has t u at writes size2 new sized made =
+      let ok = subst (IsNearlyTrie R path level) is trie in
       let c = at_child R path level bitmap d below ts ok.3 has in
       let a = c.around in
       let i = count_ones (bitmap % 2 ^ d) in
@@ -206,12 +211,18 @@ module _ {K V : Type 0} (R : K → K → Ordering) (path : K → ℕ) (total : I
         subst (λ ds. AreTries R path level ds (trees (c.front ++ u ∷ c.back))) (sym c.digits) (join R path level a.before (d ∷ a.after) c.front (u ∷ c.back) c.front_ok (digit_kept d (entries c.child) (entries u) here w.finds c.keys, w.trie, c.back_ok)),
       ))
 
+  pub changes_replaced : (d : ℕ) → digit (path k) level ≡ d → d < 32 → (before size bitmap : ℕ) (ts : List (Tree K V)) (old : Tree K V) → old ≡ branch before size bitmap (trees ts) → IsTrie R path level old →
+      (bit_at bitmap d == 1) ≡ true → (t u : Tree K V) → t ≡ get_or ts (count_ones (bitmap % 2 ^ d)) t → Writes R path (level + 1) stamp k given t u →
+      (size2 : ℕ) (new : Tree K V) → size2 + length (entries t) ≡ size + length (entries u) → new ≡ branch stamp size2 bitmap (trees (set ts (count_ones (bitmap % 2 ^ d)) u)) → Changes R path level stamp k given old new
+  changes_replaced d here below before size bitmap ts old is trie has t u at writes size2 new sized made =
+      nearly_replaced d here below before size bitmap ts old is (near_of_trie before size bitmap ts old is trie) has t u at writes size2 new sized made
+
   -- a child of the key's digit is added where there was none
-  pub changes_added : (d : ℕ) → digit (path k) level ≡ d → d < 32 → (before size bitmap : ℕ) (ts : List (Tree K V)) (old : Tree K V) → old ≡ branch before size bitmap (trees ts) → IsTrie R path level old →
+  pub nearly_added : (d : ℕ) → digit (path k) level ≡ d → d < 32 → (before size bitmap : ℕ) (ts : List (Tree K V)) (old : Tree K V) → old ≡ branch before size bitmap (trees ts) → IsNearlyTrie R path level old →
       (bit_at bitmap d == 1) ≡ false → (stamp0 : ℕ) (u : Tree K V) → Writes R path (level + 1) stamp k given (bucket stamp0 []) u →
       (size2 : ℕ) (new : Tree K V) → size2 ≡ size + length (entries u) → new ≡ branch stamp size2 (bit_or bitmap (1 * 2 ^ d % 2 ^ 32)) (trees (insert ts (count_ones (bitmap % 2 ^ d)) u)) → Changes R path level stamp k given old new
-  changes_added d here below before size bitmap ts old is trie lacks stamp0 u w size2 new sized made =
-      let ok = subst (IsTrie R path level) is trie in
+  nearly_added d here below before size bitmap ts old is trie lacks stamp0 u w size2 new sized made =
+      let ok = subst (IsNearlyTrie R path level) is trie in
       let g = at_gap R path level bitmap d below ts ok.3 lacks in
       let a = g.around in
       let c = g.parts in
@@ -246,6 +257,12 @@ module _ {K V : Type 0} (R : K → K → Ordering) (path : K → ℕ) (total : I
         subst (λ ds. AreTries R path level ds (trees (c.front ++ u ∷ c.back))) (sym digits) (join R path level a.before (d ∷ a.after) c.front (u ∷ c.back) c.front_ok (digit_kept d [] (entries u) here w.finds (λ q never. absurd (false≢true never)), w.trie, c.back_ok)),
       ))
 
+  pub changes_added : (d : ℕ) → digit (path k) level ≡ d → d < 32 → (before size bitmap : ℕ) (ts : List (Tree K V)) (old : Tree K V) → old ≡ branch before size bitmap (trees ts) → IsTrie R path level old →
+      (bit_at bitmap d == 1) ≡ false → (stamp0 : ℕ) (u : Tree K V) → Writes R path (level + 1) stamp k given (bucket stamp0 []) u →
+      (size2 : ℕ) (new : Tree K V) → size2 ≡ size + length (entries u) → new ≡ branch stamp size2 (bit_or bitmap (1 * 2 ^ d % 2 ^ 32)) (trees (insert ts (count_ones (bitmap % 2 ^ d)) u)) → Changes R path level stamp k given old new
+  changes_added d here below before size bitmap ts old is trie lacks stamp0 u w size2 new sized made =
+      nearly_added d here below before size bitmap ts old is (near_of_trie before size bitmap ts old is trie) lacks stamp0 u w size2 new sized made
+
   -- the child of the key's digit, which had no other key, is left out
   pub changes_dropped : (d : ℕ) → digit (path k) level ≡ d → d < 32 → (before size bitmap : ℕ) (ts : List (Tree K V)) (old : Tree K V) → old ≡ branch before size bitmap (trees ts) → IsTrie R path level old →
       (bit_at bitmap d == 1) ≡ true → (t : Tree K V) → t ≡ get_or ts (count_ones (bitmap % 2 ^ d)) t → FindsGiven (entries t) [] → length (entries t) ≡ 1 →
@@ -257,7 +274,7 @@ module _ {K V : Type 0} (R : K → K → Ordering) (path : K → ℕ) (total : I
       let i = count_ones (bitmap % 2 ^ d) in
       let narrower = bit_and bitmap (bit_not w32 (1 * 2 ^ d % 2 ^ 32)) in
       let digits : digits_of narrower ≡ a.before ++ a.after =
-          a.changed narrower (bit_at_clear_others bitmap d ok.1 below) ∙ ap (λ n. a.before ++ cond (n == 1) (d ∷ a.after) a.after) (bit_at_clear_same w32 bitmap d below) in
+      a.changed narrower (bit_at_clear_others bitmap d ok.1 below) ∙ ap (λ n. a.before ++ cond (n == 1) (d ∷ a.after) a.after) (bit_at_clear_same w32 bitmap d below) in
       let same : t ≡ c.child = at ∙ ap (λ xs. get_or xs i t) c.whole ∙ get_or_at c.front c.child c.back t i (c.long ∙ a.place) in
       let now : remove ts i ≡ c.front ++ c.back = ap (λ xs. remove xs i) c.whole ∙ remove-append_right c.front (c.child ∷ c.back) i i (c.long ∙ a.place) (omega arith) ∙ ap (λ n. c.front ++ remove (c.child ∷ c.back) n) {x = i - i} {y = 0} (omega arith) in
       let old_is : old ≡ branch before size bitmap (trees (c.front ++ c.child ∷ c.back)) = is ∙ ap (λ xs. branch before size bitmap (trees xs)) c.whole in
@@ -266,15 +283,27 @@ module _ {K V : Type 0} (R : K → K → Ordering) (path : K → ℕ) (total : I
       let new_entries = gap_entries new c.front c.back stamp size2 narrower new_is in
       let lt : level < 7 = omega (arith, ok.0) in
       let alone : length (entries c.child) ≡ 1 = ap (λ x. length (entries x)) (sym same) ∙ one in
-      let counted : size2 ≡ length (entries new) = omega (arith, sized, ok.2, ap (λ x. length (entries x)) is, alone,
-          ap length old_entries, length-three (entries_of_all (trees c.front)) (entries c.child) (entries_of_all (trees c.back)), ap length new_entries, length-three (entries_of_all (trees c.front)) [] (entries_of_all (trees c.back))) in
+      let counted : size2 ≡ length (entries new) = omega (
+        arith,
+        sized,
+        ok.2,
+        ap (λ x. length (entries x)) is,
+        alone,
+        ap length old_entries,
+        length-three (entries_of_all (trees c.front)) (entries c.child) (entries_of_all (trees c.back)),
+        ap length new_entries,
+        length-three (entries_of_all (trees c.front)) [] (entries_of_all (trees c.back)),
+      ) in
       changes_between d here a.before a.after a.lacks_before a.lacks_after c.front c.back c.long c.front_ok c.back_ok lt before old new (entries c.child) []
-        (λ p. nodes_below (word_of path) (p ++ d ∷ []) c.child) (λ p. []) old_entries new_entries
-        (branch_nodes old c.front c.back c.child before size bitmap d a.before a.after old_is c.digits c.long) (gap_nodes new c.front c.back stamp size2 narrower a.before a.after new_is digits c.long)
-        (subst (λ x. FindsGiven (entries x) []) same finds) (omega (arith, alone)) (omega arith) (λ p deep on. All-nil (IsRestamped stamp (word_of path k) (nodes_below (word_of path) (p ++ d ∷ []) c.child)))
-        (subst (IsNearlyTrie R path level) (sym new_is) (
-            ok.0, omega (arith, and_le_l bitmap (bit_not w32 (1 * 2 ^ d % 2 ^ 32)), ok.1), counted ∙ ap (λ x. length (entries x)) new_is,
-            subst (λ ds. AreTries R path level ds (trees (c.front ++ c.back))) (sym digits) (join R path level a.before a.after c.front c.back c.front_ok c.back_ok)))
+      (λ p. nodes_below (word_of path) (p ++ d ∷ []) c.child) (λ p. []) old_entries new_entries
+      (branch_nodes old c.front c.back c.child before size bitmap d a.before a.after old_is c.digits c.long) (gap_nodes new c.front c.back stamp size2 narrower a.before a.after new_is digits c.long)
+      (subst (λ x. FindsGiven (entries x) []) same finds) (omega (arith, alone)) (omega arith) (λ p deep on. All-nil (IsRestamped stamp (word_of path k) (nodes_below (word_of path) (p ++ d ∷ []) c.child)))
+      (subst (IsNearlyTrie R path level) (sym new_is) (
+        ok.0,
+        omega (arith, and_le_l bitmap (bit_not w32 (1 * 2 ^ d % 2 ^ 32)), ok.1),
+        counted ∙ ap (λ x. length (entries x)) new_is,
+        subst (λ ds. AreTries R path level ds (trees (c.front ++ c.back))) (sym digits) (join R path level a.before a.after c.front c.back c.front_ok c.back_ok),
+      ))
 
   -- where keys of two words are found, or at the root, the branch is a trie
   pub writes_of_two : (old new : Tree K V) → Changes R path level stamp k given old new → (0 < level → HasTwoWords R path (entries new)) → Writes R path level stamp k given old new

@@ -109,11 +109,10 @@ module _ {K V : Type 0} (R : K → K → Ordering) (path : K → ℕ) (total : I
     pub trie_hangs : (t : Tree K V) (p : List ℕ) (level : ℕ) → length p ≡ level → IsTrie R path level t → Agrees p (entries t) → Hangs (word_of path) m p t
     trie_hangs (branch s n b ts) p level long h agree =
         let gap : (d : ℕ) → Lacks d (digits_of b) → (q : K) → find R q (beginning (word_of path) (p ++ d ∷ []) m) ≡ None =
-              λ d lacks q. elim (eqb_tells (digit (path q) (length p)) d) as (λ _. find R q (beginning (word_of path) (p ++ d ∷ []) m) ≡ None) [
-                | inl e ↦ same_digit p d q (omega (arith, h.0)) e.1 ∙ sym (agree q) ∙ find_lacking_all R path exact level q (digits_of b) ts (subst (λ x. Lacks x (digits_of b)) (sym e.1 ∙ ap (digit (path q)) long) lacks) h.3
-                | inr e ↦ other_digit p d q (omega (arith, h.0)) e.1
-              ] in
-        (
+        λ d lacks q. elim (eqb_tells (digit (path q) (length p)) d) as (λ _. find R q (beginning (word_of path) (p ++ d ∷ []) m) ≡ None) [
+          | inl e ↦ same_digit p d q (omega (arith, h.0)) e.1 ∙ sym (agree q) ∙ find_lacking_all R path exact level q (digits_of b) ts (subst (λ x. Lacks x (digits_of b)) (sym e.1 ∙ ap (digit (path q)) long) lacks) h.3
+          | inr e ↦ other_digit p d q (omega (arith, h.0)) e.1
+        ] in (
           branch_stands p (entries_of_all ts) (λ lt. h.4 (omega arith)) agree,
           tries_hang ts p level long h.0 (digits_of b) 0 (rises b) h.3 (λ q has. agree q),
           λ d lacks. none_found R total exact (beginning (word_of path) (p ++ d ∷ []) m) (gap d lacks),
@@ -130,21 +129,21 @@ module _ {K V : Type 0} (R : K → K → Ordering) (path : K → ℕ) (total : I
     tries_hang (more_trees t ts) p level long le (d ∷ ds) low r h agree =
         let once : Lacks d ds = rising_lacks d (d + 1) ds (omega arith) r.1 in
         let inside : (q : K) → digit (path q) level ≡ d → find R q (entries t) ≡ find R q (beginning (word_of path) p m) =
-              λ q e. sym (or_none (find R q (entries t)))
-                ∙ ap (or_else (find R q (entries t))) (sym (find_lacking_all R path exact level q ds ts (subst (λ x. Lacks x ds) (sym e) once) h.2))
-                ∙ sym (find_append R path q (entries t) (entries_of_all ts))
-                ∙ agree q (λ l. l.0 (sym e)) in
+        λ q e. sym (or_none (find R q (entries t)))
+        ∙ ap (or_else (find R q (entries t))) (sym (find_lacking_all R path exact level q ds ts (subst (λ x. Lacks x ds) (sym e) once) h.2))
+        ∙ sym (find_append R path q (entries t) (entries_of_all ts))
+        ∙ agree q (λ l. l.0 (sym e)) in
         let agree_below : Agrees (p ++ d ∷ []) (entries t) =
-              λ q. elim (eqb_tells (digit (path q) level) d) as (λ _. find R q (entries t) ≡ find R q (beginning (word_of path) (p ++ d ∷ []) m)) [
-                | inl e ↦ inside q e.1 ∙ sym (same_digit p d q (omega arith) (ap (digit (path q)) long ∙ e.1))
-                | inr e ↦ find_other R path exact level d q (entries t) e.1 h.0 ∙ sym (other_digit p d q (omega arith) (λ f. e.1 (sym (ap (digit (path q)) long) ∙ f)))
-              ] in
+        λ q. elim (eqb_tells (digit (path q) level) d) as (λ _. find R q (entries t) ≡ find R q (beginning (word_of path) (p ++ d ∷ []) m)) [
+          | inl e ↦ inside q e.1 ∙ sym (same_digit p d q (omega arith) (ap (digit (path q)) long ∙ e.1))
+          | inr e ↦ find_other R path exact level d q (entries t) e.1 h.0 ∙ sym (other_digit p d q (omega arith) (λ f. e.1 (sym (ap (digit (path q)) long) ∙ f)))
+        ] in
         let agree_after : (q : K) → (Lacks (digit (path q) level) ds → ⊥) → find R q (entries_of_all ts) ≡ find R q (beginning (word_of path) p m) =
-              λ q has.
-              let apart : digit (path q) level ≢ d = λ e. has (subst (λ x. Lacks x ds) (sym e) once) in
-              ap (λ o. or_else o (find R q (entries_of_all ts))) (sym (find_other R path exact level d q (entries t) apart h.0))
-              ∙ sym (find_append R path q (entries t) (entries_of_all ts))
-              ∙ agree q (λ l. has l.1) in
+        λ q has.
+        let apart : digit (path q) level ≢ d = λ e. has (subst (λ x. Lacks x ds) (sym e) once) in
+        ap (λ o. or_else o (find R q (entries_of_all ts))) (sym (find_other R path exact level d q (entries t) apart h.0))
+        ∙ sym (find_append R path q (entries t) (entries_of_all ts))
+        ∙ agree q (λ l. has l.1) in
         (trie_hangs t (p ++ d ∷ []) (level + 1) (longer p d level long) h.1 agree_below, tries_hang ts p level long le ds (d + 1) r.1 h.2 agree_after)
 
   -- 2. To a trie.
@@ -167,7 +166,7 @@ module _ {K V : Type 0} (R : K → K → Ordering) (path : K → ℕ) (total : I
       two : 7 ≤ length (x ∷ p) → HasTwoWords R path (beginning (word_of path) (x ∷ p) m) → ⊥
       two le (q, (r, (q_in, r_in, ne))) =
           ne (spelled_tells (path q) (path r) (small q) (small r)
-            (starts_self (word_of path q) (x ∷ p) (found_starts (x ∷ p) q q_in) le ∙ sym (starts_self (word_of path r) (x ∷ p) (found_starts (x ∷ p) r r_in) le)))
+          (starts_self (word_of path q) (x ∷ p) (found_starts (x ∷ p) q q_in) le ∙ sym (starts_self (word_of path r) (x ∷ p) (found_starts (x ∷ p) r r_in) le)))
 
   mutual
     pub hangs_finds : (t : Tree K V) (p : List ℕ) → Fits t → Hangs (word_of path) m p t → Agrees p (entries t)
@@ -219,8 +218,7 @@ module _ {K V : Type 0} (R : K → K → Ordering) (path : K → ℕ) (total : I
   mutual
     pub hangs_trie : (t : Tree K V) (p : List ℕ) (level : ℕ) → length p ≡ level → Fits t → Hangs (word_of path) m p t → IsTrie R path level t
     hangs_trie (branch s n b ts) p level long f h =
-        let short = branch_short p h.0 in
-        (
+        let short = branch_short p h.0 in (
           omega arith,
           f.0,
           f.2,
@@ -238,8 +236,8 @@ module _ {K V : Type 0} (R : K → K → Ordering) (path : K → ℕ) (total : I
     hang_tries (more_trees t ts) p level long short [] e f h = absurd (omega arith)
     hang_tries (more_trees t ts) p level long short (d ∷ ds) e f h =
         let digits : KeysHaveDigit R path level d (entries t) = λ q found.
-              elim (eqb_tells (digit (path q) level) d) as (λ _. digit (path q) level ≡ d) [
-                | inl g ↦ g.1
-                | inr g ↦ absurd (true≢false (sym found ∙ ap is_some (hangs_finds t (p ++ d ∷ []) f.0 h.0 q ∙ other_digit p d q short (λ g2. g.1 (sym (ap (digit (path q)) long) ∙ g2)))))
-              ] in
+        elim (eqb_tells (digit (path q) level) d) as (λ _. digit (path q) level ≡ d) [
+          | inl g ↦ g.1
+          | inr g ↦ absurd (true≢false (sym found ∙ ap is_some (hangs_finds t (p ++ d ∷ []) f.0 h.0 q ∙ other_digit p d q short (λ g2. g.1 (sym (ap (digit (path q)) long) ∙ g2)))))
+        ] in
         (digits, hangs_trie t (p ++ d ∷ []) (level + 1) (longer p d level long) f.0 h.0, hang_tries ts p level long short ds (omega arith) f.1 h.1)

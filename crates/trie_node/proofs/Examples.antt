@@ -129,9 +129,9 @@ text_put =
     let b : Contains (nodes word text_trie) (spelled 3876335077, 1) = (1, omega arith, refl) in
     let c : Contains (nodes word text_trie) (spelled 3859557458, 1) = (3, omega arith, refl) in
     All-cons rule ([], 3) ((spelled 3876335077, 1) ∷ (spelled 3826002220, 3) ∷ (spelled 3859557458, 1) ∷ []) refl
-      (All-cons rule (spelled 3876335077, 1) ((spelled 3826002220, 3) ∷ (spelled 3859557458, 1) ∷ []) b
-        (All-cons rule (spelled 3826002220, 3) ((spelled 3859557458, 1) ∷ []) refl
-          (All-cons rule (spelled 3859557458, 1) [] c (All-nil rule))))
+    (All-cons rule (spelled 3876335077, 1) ((spelled 3826002220, 3) ∷ (spelled 3859557458, 1) ∷ []) b
+    (All-cons rule (spelled 3826002220, 3) ((spelled 3859557458, 1) ∷ []) refl
+    (All-cons rule (spelled 3859557458, 1) [] c (All-nil rule))))
 
 -- how many nodes have a stamp, before the put and after it
 text_own : own_count 1 (nodes word text_trie) ≡ 4

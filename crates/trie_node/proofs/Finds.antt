@@ -41,7 +41,7 @@ module _ {K V : Type 0} (R : K → K → Ordering) (total : IsTotalOrder R) (exa
   pub found_first : (e : K × V) (es : List (K × V)) → find R e.0 (e ∷ es) ≡ Some e.1
   found_first e es = ap (λ r. cond (is_eq r) (Some e.1) (find R e.0 es)) (tied_itself total e.0)
 
-  found_later : (q : K) (e : K × V) (es : List (K × V)) → is_some (find R q es) ≡ true → is_some (find R q (e ∷ es)) ≡ true
+  pub found_later : (q : K) (e : K × V) (es : List (K × V)) → is_some (find R q es) ≡ true → is_some (find R q (e ∷ es)) ≡ true
   found_later q e es found = elim (eq_by_cmp R q e.0) as (λ b. is_some (cond b (Some e.1) (find R q es)) ≡ true) [ true ↦ refl | false ↦ found ]
 
   -- where a key passes the test, there is one that is found
@@ -63,7 +63,7 @@ module _ {K V : Type 0} (R : K → K → Ordering) (total : IsTotalOrder R) (exa
     pub tells_two_words : ((k : K) → path k < 2 ^ 32) → (es : List (K × V)) → HasTwoWords R path es → has_two_words (word_of path) es ≡ true
     tells_two_words small es (q, (r, (q_in, r_in, ne))) =
         found_passes (λ a. list_any (λ b. not (bytes_eq (word_of path a) (word_of path b.0))) es) es q q_in
-          (found_passes (λ b. not (bytes_eq (word_of path q) (word_of path b))) es r r_in (other_words path small q r ne))
+        (found_passes (λ b. not (bytes_eq (word_of path q) (word_of path b))) es r r_in (other_words path small q r ne))
 
     pub two_words_told : (es : List (K × V)) → has_two_words (word_of path) es ≡ true → HasTwoWords R path es
     two_words_told es any =

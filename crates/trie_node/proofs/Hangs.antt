@@ -53,9 +53,9 @@ module _ {K V : Type 0} (word : K → List ℕ) (m : List (K × V)) where
   few_filter f es e =
       let all = any_all (λ a. list_any (λ b. not (bytes_eq (word a.0) (word b.0))) es) es e in
       let fewer : (a : K × V) → list_any (λ b. not (bytes_eq (word a.0) (word b.0))) es ≡ false → list_any (λ b. not (bytes_eq (word a.0) (word b.0))) (filter f es) ≡ false =
-            λ a h. list_any_none (λ b. not (bytes_eq (word a.0) (word b.0))) (filter f es) (All-filter f (λ b. not (bytes_eq (word a.0) (word b.0)) ≡ false) es (any_all (λ b. not (bytes_eq (word a.0) (word b.0))) es h)) in
+      λ a h. list_any_none (λ b. not (bytes_eq (word a.0) (word b.0))) (filter f es) (All-filter f (λ b. not (bytes_eq (word a.0) (word b.0)) ≡ false) es (any_all (λ b. not (bytes_eq (word a.0) (word b.0))) es h)) in
       list_any_none (λ a. list_any (λ b. not (bytes_eq (word a.0) (word b.0))) (filter f es)) (filter f es)
-        (All-filter f (λ a. list_any (λ b. not (bytes_eq (word a.0) (word b.0))) (filter f es) ≡ false) es (λ k d lt. fewer (get_or es k d) (all k d lt)))
+      (All-filter f (λ a. list_any (λ b. not (bytes_eq (word a.0) (word b.0))) (filter f es) ≡ false) es (λ k d lt. fewer (get_or es k d) (all k d lt)))
 
   -- below no branch there is none
   no_branch : (p q : List ℕ) → is_branch word m p ≡ false → is_branch word m (p ++ q) ≡ false
@@ -96,7 +96,7 @@ module _ {K V : Type 0} (word : K → List ℕ) (m : List (K × V)) where
     hangs_spots (bucket s es) p h up [] = sym (pairs_spot (is_branch word m p) (is_branch word m (but_last p)) es (beginning word p m) h.0 up h.1 h.2) ∙ ap (spot word m) (sym (append-nil p))
     hangs_spots (bucket s es) p h up (d ∷ q) =
         sym (no_spot_of (is_branch word m (p ++ d ∷ q)) (is_branch word m (but_last (p ++ d ∷ q))) (beginning word (p ++ d ∷ q) m) (no_branch p (d ∷ q) h.0)
-          (ap (is_branch word m) (but_last_longer p d q) ∙ no_branch p (but_last (d ∷ q)) h.0))
+        (ap (is_branch word m) (but_last_longer p d q) ∙ no_branch p (but_last (d ∷ q)) h.0))
 
     all_hang_spots : (ts : Trees K V) (p xs : List ℕ) → is_branch word m p ≡ true → AllHang word m p xs ts → (d : ℕ) (q : List ℕ) → (Lacks d xs → beginning word (p ++ d ∷ []) m ≡ []) →
         spot_below xs ts d q ≡ spot word m (p ++ d ∷ q)
@@ -124,7 +124,7 @@ module _ {K V : Type 0} (word : K → List ℕ) (m : List (K × V)) where
       (refl, same, ap is_empty (sym same))
   pairs_told false false fs es e = cc
 
-  branch_told : (b c : Bool) (fs : List (K × V)) → cond b a_branch (cond (c && not (is_empty fs)) (pairs fs) no_node) ≡ a_branch → b ≡ true
+  pub branch_told : (b c : Bool) (fs : List (K × V)) → cond b a_branch (cond (c && not (is_empty fs)) (pairs fs) no_node) ≡ a_branch → b ≡ true
   branch_told true c fs e = refl
   branch_told false true [] e = cc
   branch_told false true (x ∷ fs) e = cc
@@ -139,12 +139,11 @@ module _ {K V : Type 0} (word : K → List ℕ) (m : List (K × V)) where
   mutual
     pub spots_hang : (t : Tree K V) (p : List ℕ) → Fits t → ((q : List ℕ) → spot_at t q ≡ spot word m (p ++ q)) → Hangs word m p t
     spots_hang (branch s n b ts) p f h =
-        let up = branch_told (is_branch word m p) (is_branch word m (but_last p)) (beginning word p m) (sym (h [] ∙ ap (spot word m) (append-nil p))) in
-        (
+        let up = branch_told (is_branch word m p) (is_branch word m (but_last p)) (beginning word p m) (sym (h [] ∙ ap (spot word m) (append-nil p))) in (
           up,
           all_spots_hang ts p (digits_of b) 0 (rises b) f.1 f.3 (λ d q le. h (d ∷ q)),
           λ d lacks. none_told (is_branch word m (p ++ d ∷ [])) (is_branch word m (but_last (p ++ d ∷ []))) (beginning word (p ++ d ∷ []) m) (ap (is_branch word m) (but_last_snoc p d) ∙ up)
-            (sym (sym (spot_lacking d [] (digits_of b) ts lacks) ∙ h (d ∷ []))),
+              (sym (sym (spot_lacking d [] (digits_of b) ts lacks) ∙ h (d ∷ []))),
         )
     spots_hang (bucket s es) p f h = pairs_told (is_branch word m p) (is_branch word m (but_last p)) (beginning word p m) es (sym (h [] ∙ ap (spot word m) (append-nil p)))
 
@@ -153,8 +152,8 @@ module _ {K V : Type 0} (word : K → List ℕ) (m : List (K × V)) where
     all_spots_hang (more_trees t ts) p [] low r e f h = tt
     all_spots_hang no_trees p (d ∷ ds) low r e f h = absurd (omega arith)
     all_spots_hang (more_trees t ts) p (d ∷ ds) low r e f h = (
-        spots_hang t (p ++ d ∷ []) f.0 (λ q. sym (at_head d q ds t ts) ∙ h d q r.0 ∙ ap (spot word m) (sym (append_assoc p (d ∷ []) q))),
-        all_spots_hang ts p ds (d + 1) r.1 (omega arith) f.1 (λ x q le. sym (at_tail d x q ds t ts (omega arith)) ∙ h x q (omega (arith, r.0))),
+      spots_hang t (p ++ d ∷ []) f.0 (λ q. sym (at_head d q ds t ts) ∙ h d q r.0 ∙ ap (spot word m) (sym (append_assoc p (d ∷ []) q))),
+      all_spots_hang ts p ds (d + 1) r.1 (omega arith) f.1 (λ x q le. sym (at_tail d x q ds t ts (omega arith)) ∙ h x q (omega (arith, r.0))),
     )
 
   -- the shape divides the pairs so

@@ -1,11 +1,12 @@
 pub mod Views
 pub mod Empty
-pub mod Walks
 pub mod Appended
 pub mod Bits
 pub mod Tries
 pub mod Passing
 pub mod Branches
+pub mod Opened
+pub mod Answered
 pub mod Spell
 pub mod Finds
 pub mod Listings
@@ -17,6 +18,13 @@ mod Examples
 pub mod Divides
 pub mod Removals
 pub mod Taken
+pub mod Words
+pub mod Splits
 pub mod Apart
 pub mod Roots
 pub mod Names
+pub mod InOrder
+pub mod Ordered
+pub mod Counts
+pub mod Shortened
+pub mod Removing

@@ -46,7 +46,7 @@ module _ {K V : Type 0} (R : K → K → Ordering) (total : IsTotalOrder R) wher
     pub put_listed : (old new : List (K × V)) (k : K) (v : V) → ((q : K) → find R q new ≡ cond (eq_by_cmp R q k) (Some v) (find R q old)) → listed R new ≡ with_pair R (listed R old) k v
     put_listed old new k v finds =
         listed_as new (with_pair R (listed R old) k v) (is_sorted-put R total k v (listed R old) (listed_sorted old))
-          (λ q. finds q ∙ ap (cond (eq_by_cmp R q k) (Some v)) (sym (find_listed old q)) ∙ sym (find-put R total q k v (listed R old)))
+        (λ q. finds q ∙ ap (cond (eq_by_cmp R q k) (Some v)) (sym (find_listed old q)) ∙ sym (find-put R total q k v (listed R old)))
 
     pub find_without : (m : List (K × V)) (k q : K) → find R q (without R m k) ≡ cond (eq_by_cmp R q k) None (find R q m)
     find_without m k q =
@@ -57,4 +57,4 @@ module _ {K V : Type 0} (R : K → K → Ordering) (total : IsTotalOrder R) wher
     pub without_listed : (old new : List (K × V)) (k : K) → ((q : K) → find R q new ≡ cond (eq_by_cmp R q k) None (find R q old)) → listed R new ≡ without R (listed R old) k
     without_listed old new k finds =
         listed_as new (without R (listed R old) k) (is_sorted-where_key R (is_other R k) (listed R old) (listed_sorted old))
-          (λ q. finds q ∙ ap (cond (eq_by_cmp R q k) None) (sym (find_listed old q)) ∙ sym (find_without (listed R old) k q))
+        (λ q. finds q ∙ ap (cond (eq_by_cmp R q k) None) (sym (find_listed old q)) ∙ sym (find_without (listed R old) k q))

@@ -1,22 +1,28 @@
 -- The names of a root's nodes are those that its map's trie has.
-use Rattle.std.proofs.Common.{◌≡◌, ◌⊎◌, ℕ, ◌+◌, ◌<◌, ◌^◌, Bool, true, false, cond, ◌||◌, ◌↔◌, List, [], ◌∷◌, ◌++◌, map, Contains, Option, Some, None, is_some, refl, sym, ap, ◌∙◌, subst, inl, inr, append_assoc, append-nil, bytes_eq, nat_eq, arith}
+use Rattle.std.proofs.Common.{◌≡◌, ◌⊎◌, ℕ, ◌+◌, ◌<◌, ◌^◌, Bool, true, false, cond, ◌||◌, ◌↔◌, List, [], ◌∷◌, ◌++◌, map, Contains, Option, Some, None, is_some, refl, sym, ap, ◌∙◌, subst, inl, inr, append_assoc, append-nil, bytes_eq, nat_eq, nat_cmp, T, ◌≤◌, arith}
 use Rattle.std.specs.declared.cmp.Ordering.{Ordering}
-use Rattle.std.specs.declared.cmp.Ordering.TheVariants.{Equal}
+use Rattle.std.specs.declared.cmp.Ordering.TheVariants.{Less, Equal}
 use Rattle.std.specs.Cmp.{IsTotalOrder}
-use Rattle.std.specs.FinMap.{find}
+use Rattle.std.specs.FinMap.{find, is_sorted}
+use Rattle.std.specs.FinMap.Entries.{below_all}
+use Rattle.std.specs.Cmp.Lexicographic.{slice_cmp}
 use Rattle.std.specs.List.{All, list_any, starts_with}
 use Rattle.std.proofs.lemmas.Bool.{or_left, or_right, cases_Bool}
 use Rattle.std.proofs.lemmas.Bool.Decides.{eqb_tells}
-use Rattle.std.proofs.lemmas.List.Elements.{All-cons, All-nil, All-append, All-map, All-contains, Contains-append_left, Contains-append_right}
+use Rattle.std.proofs.lemmas.List.Elements.{All-cons, All-nil, All-head, All-weaker, filter_passes, All-append, All-map, All-contains, Contains-append_left, Contains-append_right}
 use Rattle.std.proofs.lemmas.Slice.Eq.{bytes_eq-Decides}
 use Rattle.hash_path.specs.Digits.{spelled}
+use Rattle.trie_node.specs.Map.{IsMap}
 use Rattle.trie_node.specs.Tree.{Tree, branch, bucket, Trees, no_trees, more_trees, digits_of, entries, entries_of_all, IsTrie, AreTries}
 use Rattle.trie_node.specs.Shape.{Nodes, nodes, nodes_below, nodes_of_all, a_branch, spot_at, spot_below, is_branch, is_name, beginning, Hangs, AllHang}
 use Rattle.trie_node.specs.Roots.{IsRoot, map_of, word_of}
+use Rattle.trie_node.proofs.InOrder.{starts_shorter, digits_less, prefix_less, both, below_those, sorted_append}
+use Rattle.trie_node.proofs.Passing.{begins_itself}
+use Rattle.trie_node.proofs.Unique.{Rising, rises, rising_more}
 use Rattle.trie_node.proofs.Tries.{or_else, find_append}
 use Rattle.trie_node.proofs.Finds.{found_first, found_passes, passes_found}
 use Rattle.trie_node.proofs.Hangs.{shape_hangs}
-use Rattle.trie_node.proofs.Roots.{find_entries, root_is_trie}
+use Rattle.trie_node.proofs.Roots.{holds, find_entries, root_is_trie}
 use Rattle.trie_node.proofs.Spoken.{branches, find_beginning}
 
 -- the names of nodes, in the order of a walk
@@ -102,8 +108,8 @@ module _ {K V : Type 0} (R : K → K → Ordering) (path : K → ℕ) (total : I
       nodes_named (bucket s (e ∷ es)) p h =
           let found = found_beginning p e.0 (ap (λ xs. is_some (find R e.0 xs)) h.1 ∙ ap is_some (found_first R total exact e es)) in
           All-cons Named (word_of path e.0, s) []
-            (or_right (is_branch (word_of path) m (word_of path e.0)) _ (found_passes R total exact (λ k. bytes_eq (word_of path k) (word_of path e.0)) m e.0 found ((bytes_eq-Decides (word_of path e.0) (word_of path e.0)).1 refl)))
-            (All-nil Named)
+          (or_right (is_branch (word_of path) m (word_of path e.0)) _ (found_passes R total exact (λ k. bytes_eq (word_of path k) (word_of path e.0)) m e.0 found ((bytes_eq-Decides (word_of path e.0) (word_of path e.0)).1 refl)))
+          (All-nil Named)
 
       all_nodes_named : (ts : Trees K V) (p ds : List ℕ) → AllHang (word_of path) m p ds ts → All Named (nodes_of_all (word_of path) p ds ts)
       all_nodes_named ts p [] h = All-nil Named
@@ -115,15 +121,71 @@ module _ {K V : Type 0} (R : K → K → Ordering) (path : K → ℕ) (total : I
     named_word n any =
         let found = passes_found R total exact (λ k. bytes_eq (word_of path k) n) (map_of R t) any in
         subst (Contains (names (nodes (word_of path) t))) ((bytes_eq-Decides (word_of path found.0) n).0 found.2)
-          (word_named t [] 0 (root_is_trie R path total exact small t root) found.0 (ap is_some (find_entries R path total t found.0) ∙ found.1))
+        (word_named t [] 0 (root_is_trie R path total exact small t root) found.0 (ap is_some (find_entries R path total t found.0) ∙ found.1))
 
     -- a name stands among a root's nodes exactly where the map's trie has it
     pub names_are : (n : List ℕ) → Contains (names (nodes (word_of path) t)) n ↔ (is_name (word_of path) (map_of R t) n ≡ true)
     names_are n = (
-        λ c. All-contains (λ x. is_name (word_of path) (map_of R t) x ≡ true) (names (nodes (word_of path) t)) n
+      λ c. All-contains (λ x. is_name (word_of path) (map_of R t) x ≡ true) (names (nodes (word_of path) t)) n
           (All-map (λ x. is_name (word_of path) (map_of R t) x ≡ true) (λ x. x.0) (nodes (word_of path) t) (nodes_named (map_of R t) t [] (shape_hangs (word_of path) (map_of R t) t root))) c,
-        λ e. elim (cases_Bool (is_branch (word_of path) (map_of R t) n)) as (λ _. Contains (names (nodes (word_of path) t)) n) [
-          | inl b ↦ branch_named (word_of path) t [] n ((branches (word_of path) (map_of R t) t root n).1 b)
-          | inr b ↦ named_word n (sym (ap (λ x. x || list_any (λ e. bytes_eq (word_of path e.0) n) (map_of R t)) b) ∙ e)
-        ],
+      λ e. elim (cases_Bool (is_branch (word_of path) (map_of R t) n)) as (λ _. Contains (names (nodes (word_of path) t)) n) [
+        | inl b ↦ branch_named (word_of path) t [] n ((branches (word_of path) (map_of R t) t root n).1 b)
+        | inr b ↦ named_word n (sym (ap (λ x. x || list_any (λ e. bytes_eq (word_of path e.0) n) (map_of R t)) b) ∙ e)
+      ],
     )
+
+-- The names stand in the order of a dictionary, so none stands twice.
+-- the name begins with the prefix
+abbrev NameBegins : List ℕ → List ℕ × ℕ → Type 0
+NameBegins p n = starts_with nat_eq n.0 p ≡ true
+
+-- and goes on with a digit from low on
+abbrev NameFrom : List ℕ → ℕ → List ℕ × ℕ → Type 0
+NameFrom p low n = (d : ℕ) × (low ≤ d) × (starts_with nat_eq n.0 (p ++ d ∷ []) ≡ true)
+
+lesser_name : (p : List ℕ) (d : ℕ) (a b : List ℕ × ℕ) → NameBegins (p ++ d ∷ []) a → NameFrom p (d + 1) b → slice_cmp nat_cmp a.0 b.0 ≡ Less
+lesser_name p d a b first (e, le, second) = digits_less a.0 b.0 p d e first second (omega arith)
+
+module _ {K V : Type 0} (word : K → List ℕ) (m : List (K × V)) where
+  mutual
+    names_begin : (t : Tree K V) (p : List ℕ) → Hangs word m p t → All (NameBegins p) (nodes_below word p t)
+    names_begin (branch s n b ts) p h =
+        All-cons (NameBegins p) (p, s) (nodes_of_all word p (digits_of b) ts) (begins_itself p)
+        (All-weaker (NameFrom p 0) (NameBegins p) (λ n x. starts_shorter n.0 p (x.0 ∷ []) x.2) (nodes_of_all word p (digits_of b) ts) (names_begin_from ts p (digits_of b) 0 (rises b) h.1))
+    names_begin (bucket s []) p h = All-nil (NameBegins p)
+    names_begin (bucket s (e ∷ es)) p h =
+        All-cons (NameBegins p) (word e.0, s) [] (All-head (λ x. starts_with nat_eq (word x.0) p ≡ true) e es (subst (All (λ x. starts_with nat_eq (word x.0) p ≡ true)) h.1 (filter_passes (λ x. starts_with nat_eq (word x.0) p) m)))
+        (All-nil (NameBegins p))
+
+    names_begin_from : (ts : Trees K V) (p ds : List ℕ) (low : ℕ) → Rising low ds → AllHang word m p ds ts → All (NameFrom p low) (nodes_of_all word p ds ts)
+    names_begin_from ts p [] low r h = All-nil (NameFrom p low)
+    names_begin_from no_trees p (d ∷ ds) low r h = All-nil (NameFrom p low)
+    names_begin_from (more_trees t ts) p (d ∷ ds) low r h =
+        All-append (NameFrom p low) (nodes_below word (p ++ d ∷ []) t) (nodes_of_all word p ds ts)
+        (All-weaker (NameBegins (p ++ d ∷ [])) (NameFrom p low) (λ n x. (d, r.0, x)) (nodes_below word (p ++ d ∷ []) t) (names_begin t (p ++ d ∷ []) h.0))
+        (names_begin_from ts p ds low (rising_more low (d + 1) ds (omega (arith, r.0)) r.1) h.1)
+
+  mutual
+    pub names_sorted : (t : Tree K V) (p : List ℕ) → Hangs word m p t → T (is_sorted (slice_cmp nat_cmp) (nodes_below word p t))
+    names_sorted (branch s n b ts) p h =
+        both (below_all (slice_cmp nat_cmp) p (nodes_of_all word p (digits_of b) ts)) (is_sorted (slice_cmp nat_cmp) (nodes_of_all word p (digits_of b) ts))
+        (below_those (slice_cmp nat_cmp) p (nodes_of_all word p (digits_of b) ts)
+        (All-weaker (NameFrom p 0) (λ n. slice_cmp nat_cmp p n.0 ≡ Less) (λ n x. prefix_less n.0 p x.0 x.2) (nodes_of_all word p (digits_of b) ts) (names_begin_from ts p (digits_of b) 0 (rises b) h.1)))
+        (all_names_sorted ts p (digits_of b) 0 (rises b) h.1)
+    names_sorted (bucket s []) p h = tt
+    names_sorted (bucket s (e ∷ es)) p h = tt
+
+    all_names_sorted : (ts : Trees K V) (p ds : List ℕ) (low : ℕ) → Rising low ds → AllHang word m p ds ts → T (is_sorted (slice_cmp nat_cmp) (nodes_of_all word p ds ts))
+    all_names_sorted ts p [] low r h = tt
+    all_names_sorted no_trees p (d ∷ ds) low r h = tt
+    all_names_sorted (more_trees t ts) p (d ∷ ds) low r h =
+        let after = names_begin_from ts p ds (d + 1) r.1 h.1 in
+        let below : (n : List ℕ × ℕ) → NameBegins (p ++ d ∷ []) n → T (below_all (slice_cmp nat_cmp) n.0 (nodes_of_all word p ds ts)) =
+        λ n first. below_those (slice_cmp nat_cmp) n.0 (nodes_of_all word p ds ts) (All-weaker (NameFrom p (d + 1)) (λ x. slice_cmp nat_cmp n.0 x.0 ≡ Less) (λ x second. lesser_name p d n x first second) (nodes_of_all word p ds ts) after) in
+        sorted_append (slice_cmp nat_cmp) (nodes_below word (p ++ d ∷ []) t) (nodes_of_all word p ds ts) (names_sorted t (p ++ d ∷ []) h.0) (all_names_sorted ts p ds (d + 1) r.1 h.1)
+        (All-weaker (NameBegins (p ++ d ∷ [])) (λ n. T (below_all (slice_cmp nat_cmp) n.0 (nodes_of_all word p ds ts))) below (nodes_below word (p ++ d ∷ []) t) (names_begin t (p ++ d ∷ []) h.0))
+
+module _ {K V : Type 0} (R : K → K → Ordering) (path : K → ℕ) where
+  -- the nodes of a root are a map from names to stamps
+  pub nodes_are_map : (t : Tree K V) → IsRoot R path t → IsMap (slice_cmp nat_cmp) (nodes (word_of path) t)
+  nodes_are_map t root = holds (is_sorted (slice_cmp nat_cmp) (nodes (word_of path) t)) (names_sorted (word_of path) (map_of R t) t [] (shape_hangs (word_of path) (map_of R t) t root))

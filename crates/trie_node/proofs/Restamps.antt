@@ -41,8 +41,8 @@ restamps_between stamp w xs ys old new a b h =
 pub restamps_branch : (stamp before : ℕ) (w p : List ℕ) (old new : Nodes) → starts_with nat_eq w p ≡ true → Restamps stamp w old new → Restamps stamp w ((p, before) ∷ old) ((p, stamp) ∷ new)
 restamps_branch stamp before w p old new on h =
     All-cons (IsRestamped stamp w ((p, before) ∷ old)) (p, stamp) new
-      (subst (λ b. MatchBool b (stamp ≡ stamp) (Contains ((p, before) ∷ old) (p, stamp))) (sym on) refl)
-      (restamps_within stamp w old ((p, before) ∷ old) new (λ n c. Contains-append_right ((p, before) ∷ []) old n c) h)
+    (subst (λ b. MatchBool b (stamp ≡ stamp) (Contains ((p, before) ∷ old) (p, stamp))) (sym on) refl)
+    (restamps_within stamp w old ((p, before) ∷ old) new (λ n c. Contains-append_right ((p, before) ∷ []) old n c) h)
 
 module _ {K V : Type 0} (word : K → List ℕ) where
   pub nodes_append : (p bs ds : List ℕ) (xs ys : List (Tree K V)) → length xs ≡ length bs →

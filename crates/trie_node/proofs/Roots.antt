@@ -17,7 +17,7 @@ use Rattle.trie_node.proofs.Listings.{listed_sorted, find_listed, length_listed,
 use Rattle.trie_node.proofs.Spoken.{find_beginning}
 use Rattle.trie_node.proofs.Unique.{shape_is_unique}
 
-holds : (b : Bool) → T b → b ≡ true
+pub holds : (b : Bool) → T b → b ≡ true
 holds true h = refl
 holds false h = absurd h
 
@@ -35,7 +35,7 @@ module _ {K V : Type 0} (R : K → K → Ordering) (path : K → ℕ) (total : I
     trie_is_root t h =
         let m = map_of R t in
         hangs_shape (word_of path) m t (trie_fits R path 0 t h)
-          (trie_hangs R path total exact small m (listed_sorted R total (entries t)) t [] 0 refl h (λ q. find_entries t q ∙ sym (find_beginning (word_of path) m R exact [] q)))
+        (trie_hangs R path total exact small m (listed_sorted R total (entries t)) t [] 0 refl h (λ q. find_entries t q ∙ sym (find_beginning (word_of path) m R exact [] q)))
 
     -- and what has it is a trie
     pub root_is_trie : (t : Tree K V) → IsRoot R path t → IsTrie R path 0 t

@@ -3,6 +3,7 @@ use Rattle.std.proofs.Common.{◌≡◌, ℕ, zero, suc, ◌+◌, ◌*◌, ◌/�
 use Rattle.std.proofs.Math.Nat.{div-div-eq-div-mul}
 use Rattle.std.specs.List.{starts_with}
 use Rattle.hash_path.specs.Digits.{digit, digits_after, spelled}
+
 and_true : (b : Bool) → b ≡ (b && true)
 and_true true = refl
 and_true false = refl

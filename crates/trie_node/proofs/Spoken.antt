@@ -8,18 +8,13 @@ use Rattle.std.specs.FinMap.Entries.{find-where_key}
 use Rattle.std.specs.List.{starts_with}
 use Rattle.trie_node.specs.Tree.{Tree}
 use Rattle.trie_node.specs.Shape.{no_node, a_branch, pairs, spot_at, but_last, is_empty, beginning, is_branch, HasShape}
+use Rattle.trie_node.proofs.Hangs.{branch_told}
 
 module _ {K V : Type 0} (word : K → List ℕ) (m : List (K × V)) where
-  only_branch : (b c : Bool) (es : List (K × V)) → cond b a_branch (cond (c && not (is_empty es)) (pairs es) no_node) ≡ a_branch → b ≡ true
-  only_branch true c es e = refl
-  only_branch false true [] e = cc
-  only_branch false true (x ∷ es) e = cc
-  only_branch false false es e = cc
-
   -- a branch exactly at the prefixes with which two different words begin, and at the root
   pub branches : (t : Tree K V) → HasShape word m t → (p : List ℕ) → (spot_at t p ≡ a_branch) ↔ (is_branch word m p ≡ true)
   branches t h p = (
-    (λ e. only_branch (is_branch word m p) (is_branch word m (but_last p)) (beginning word p m) (sym (h.spots p) ∙ e)),
+    (λ e. branch_told word m (is_branch word m p) (is_branch word m (but_last p)) (beginning word p m) (sym (h.spots p) ∙ e)),
     (λ e. h.spots p ∙ ap (λ b. cond b a_branch (cond (is_branch word m (but_last p) && not (is_empty (beginning word p m))) (pairs (beginning word p m)) no_node)) e),
   )
 

@@ -10,7 +10,7 @@ abbrev pub Rising : ℕ → List ℕ → Type 0
 Rising low [] = Unit {0}
 Rising low (x ∷ xs) = (low ≤ x) × Rising (x + 1) xs
 
-rising_more : (a b : ℕ) (xs : List ℕ) → a ≤ b → Rising b xs → Rising a xs
+pub rising_more : (a b : ℕ) (xs : List ℕ) → a ≤ b → Rising b xs → Rising a xs
 rising_more a b [] le r = tt
 rising_more a b (x ∷ xs) le r = (omega arith, r.1)
 
@@ -134,7 +134,7 @@ module _ {K V : Type 0} where
         let heads : (p : List ℕ) → spot_at t p ≡ spot_at u p = λ p. sym (at_head x p xs t ts) ∙ h x p r.0 ∙ ap (λ d. spot_below (y ∷ ys) (more_trees u us) d p) e ∙ at_head y p ys u us in
         let head = same_tree t u f.0 g.0 heads in
         let tail = same_trees ts us xs ys (x + 1) r.1 (subst (λ k. Rising (k + 1) ys) (sym e) q.1) (omega arith) (omega arith) f.1 g.1
-              (λ d p le. sym (at_tail x d p xs t ts (omega arith)) ∙ h d p (omega (arith, r.0)) ∙ at_tail y d p ys u us (omega arith)) in
+        (λ d p le. sym (at_tail x d p xs t ts (omega arith)) ∙ h d p (omega (arith, r.0)) ∙ at_tail y d p ys u us (omega arith)) in
         ((λ i. e i ∷ tail.0 i), (λ i. more_trees (head i) (tail.1 i)))
 
   -- equal contents have equal shapes

@@ -9,3 +9,5 @@ pub mod Looks
 pub mod Conditions
 pub mod Changes
 pub mod Removals
+pub mod Order
+pub mod Counts

@@ -5,8 +5,8 @@ ghost use Rattle.std.specs.List.{insert};
 ghost use Rattle.trie_node.specs.Tree.{branch, trees};
 ghost use Rattle.trie_node.specs.View.{tree};
 
-use crate::node::{Node, make_branch};
 use crate::basics::{NoMemory, Stamp};
+use crate::node::{Node, make_branch};
 use std::alloc::Global;
 
 /// Appends handles on the same nodes.

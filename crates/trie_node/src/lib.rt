@@ -6,25 +6,31 @@
 //! of its key's path and on no other.
 #![tactic(auto)]
 
-mod bitmap;
 mod basics;
+mod bitmap;
 mod condition;
-mod laws;
 mod copies;
+mod drawing;
+mod laws;
 mod node;
+mod outcome;
 mod pairs;
 mod put;
 mod reading;
 mod removal;
 mod search;
 mod shown;
+mod taking;
 
+pub use basics::{NoMemory, Stamp};
 pub use condition::{Always, Condition, IfAbsent, IfEqual, IfPresent};
-pub use laws::{map_determines_root, map_names_nodes, root_is_map, writes_keep_stamps_below};
+pub use laws::{
+    map_determines_root, map_names_nodes, root_has_few_nodes, root_is_map, root_walks_in_order,
+    writes_keep_stamps_below,
+};
 pub use node::{Node, empty_root};
 pub use put::{Written, put_where, with_put};
 pub use reading::{child, look, size, stamp};
 pub use removal::{removed_where, with_removed};
 pub use search::find;
 pub use shown::Look;
-pub use basics::{NoMemory, Stamp};

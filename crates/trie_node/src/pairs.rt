@@ -38,7 +38,11 @@ pub(crate) fn put_pair<K: PathKey + Drop, V: Drop>(
     let mut all = Vec::with_capacity(alloc, pairs.len().saturating_add(1))?;
     let mut placed = false;
     for (k, v) in pairs {
-        let order = if placed { Ordering::Greater } else { key.cmp(k) };
+        let order = if placed {
+            Ordering::Greater
+        } else {
+            key.cmp(k)
+        };
         if order == Ordering::Less {
             all.push((Arc::try_clone(key)?, Arc::try_clone(value)?))?;
         }

@@ -1,16 +1,28 @@
 //! Roots with a pair put.
 
-ghost use Rattle.std.specs.Prelude.{◌≡◌, ◌<◌, ◌^◌, option_map, length, is_some, IfOk, IfSome};
+ghost use Rattle.std.specs.Prelude.{◌≡◌, ◌<◌, ◌≤◌, ◌+◌, ◌^◌, ◌%◌, ◌*◌, option_map, length, map, is_some, true, ◌≢◌, IfOk, IfSome, Some, bit_or, [], ◌∷◌};
+ghost use Rattle.std.specs.List.{insert};
+ghost use Rattle.std.specs.Int.RustNames.{count_ones};
+ghost use Rattle.std.specs.FinMap.{find as first_of};
+ghost use Rattle.std.specs.FinMap.Entries.{put as put_in_order};
 ghost use Rattle.trie_node.specs.Map.{value_at};
-ghost use Rattle.trie_node.specs.View.{tree};
+ghost use Rattle.trie_node.specs.Tree.{IsTrie, KeysHaveWord, branch, bucket, trees, entries};
+ghost use Rattle.trie_node.specs.View.{tree, pair_values};
+ghost use Rattle.trie_node.specs.Outline.{stamp_of};
 ghost use Rattle.trie_node.specs.Roots.{IsRoot, map_of};
+ghost use Rattle.trie_node.specs.Writes.{Writes, WritesWhere, KeysAgree};
 ghost use Rattle.trie_node.specs.Changes.{IsPut};
 
-use crate::condition::{Always, Condition};
-use crate::node::Node;
 use crate::basics::{NoMemory, Stamp};
-use hash_path::PathKey;
+use crate::bitmap::{has_digit, place};
+use crate::condition::{Always, Condition};
+use crate::copies::{with_child, with_more};
+use crate::node::{Inner, Node, make_bucket, make_leaf};
+use crate::pairs::{find_pair, put_pair};
+use crate::reading::size as count;
+use hash_path::{Path, PathKey};
 use std::alloc::Global;
+use std::slice;
 use std::sync::Arc;
 
 /// What a write under a condition made, and what it found.
@@ -20,6 +32,249 @@ pub struct Written<'a, K, V> {
     pub root: Option<Node<K, V>>,
     /// The value that the key had before.
     pub previous: Option<&'a Arc<V, Global>>,
+}
+
+/// A pair to be put, with the path word of its key and the stamp of the write.
+#[derive(Drop)]
+struct Entry<K, V> {
+    key: Arc<K, Global>,
+    value: Arc<V, Global>,
+    path: Path,
+    stamp: Stamp,
+}
+
+/// A branch with a leaf of the entry, where no child has the digit of its key.
+fn add_leaf<K: Drop, V: Drop>(
+    alloc: Global,
+    size: u64,
+    bitmap: u32,
+    children: &[Node<K, V>],
+    digit: u32,
+    entry: Entry<K, V>,
+) -> Result<Node<K, V>, NoMemory>
+    requires digit { digit < 32 }
+    requires room { size < 2 ^ 63 }
+    requires place { count_ones (bitmap % 2 ^ digit) ≤ length children.now }
+    ensures { IfOk result (λ n. tree n ≡ branch entry.stamp.0 (size + 1) (bit_or bitmap (1 * 2 ^ digit % 2 ^ 32)) (trees (insert (map tree children.now) (count_ones (bitmap % 2 ^ digit)) (bucket entry.stamp.0 ((entry.key.value, entry.value.value) ∷ []))))) }
+{
+    let Entry {
+        key,
+        value,
+        stamp,
+        ..
+    } = entry;
+    let leaf = make_leaf(alloc, stamp, key, value)?;
+    let at = place(bitmap, digit);
+    with_more(
+        alloc,
+        stamp,
+        size + 1,
+        bitmap | (1 << digit),
+        children,
+        at,
+        leaf,
+    )
+}
+
+/// A leaf or bucket of the entry among pairs of its word.
+fn put_in_bucket<K: PathKey + Drop, V: Drop>(
+    alloc: Global,
+    pairs: &[(Arc<K, Global>, Arc<V, Global>)],
+    entry: Entry<K, V>,
+) -> Result<Node<K, V>, NoMemory>
+    ensures { IfOk result (λ n. tree n ≡ bucket entry.stamp.0 (put_in_order K.cmp entry.key.value entry.value.value (map pair_values pairs.now))) }
+{
+    let all = put_pair(alloc, pairs, &entry.key, &entry.value)?;
+    make_bucket(alloc, entry.stamp, all)
+}
+
+/// A leaf or bucket where the key of the entry is among the pairs.
+fn replace_value<K: PathKey + Drop, V: Drop>(
+    alloc: Global,
+    pairs: &[(Arc<K, Global>, Arc<V, Global>)],
+    entry: Entry<K, V>,
+) -> Result<Node<K, V>, NoMemory>
+    requires present { is_some (first_of K.cmp entry.key.value (map pair_values pairs.now)) ≡ true }
+    ensures { IfOk result (λ n. tree n ≡ bucket entry.stamp.0 (put_in_order K.cmp entry.key.value entry.value.value (map pair_values pairs.now))) }
+{
+    if pairs.len() == 1 {
+        make_leaf(alloc, entry.stamp, entry.key, entry.value)
+    } else {
+        put_in_bucket(alloc, pairs, entry)
+    }
+}
+
+/// A branch above a node of pairs and a leaf of the entry, whose words differ from the level on.
+fn split<K: PathKey + Drop, V: Drop>(
+    alloc: Global,
+    old: &Node<K, V>,
+    old_path: Path,
+    size: u64,
+    entry: Entry<K, V>,
+    level: u32,
+) -> Result<Node<K, V>, NoMemory>
+    requires bucket { tree old.now ≡ bucket (stamp_of (tree old.now)) (entries (tree old.now)) }
+    requires trie { IsTrie K.cmp K.path_of level (tree old.now) }
+    requires word { KeysHaveWord K.cmp K.path_of old_path.0 (entries (tree old.now)) }
+    requires path { entry.path.0 ≡ K.path_of entry.key.value }
+    requires apart { old_path.0 ≢ entry.path.0 }
+    requires agree { old_path.0 % 2 ^ (5 * level) ≡ entry.path.0 % 2 ^ (5 * level) }
+    requires size { size ≡ length (entries (tree old.now)) }
+    requires room { size < 2 ^ 63 }
+    ensures { IfOk result (λ n. Writes K.cmp K.path_of level entry.stamp.0 entry.key.value (Some entry.value.value) (tree old.now) (tree n)) }
+{
+    let stamp = entry.stamp;
+    let digit = entry.path.digit(level);
+    let old_digit = old_path.digit(level);
+    if old_digit == digit {
+        let child = split(alloc, old, old_path, size, entry, level + 1)?;
+        let all = count(&child);
+        with_child(
+            alloc,
+            stamp,
+            all,
+            1 << digit,
+            slice::from_ref(old),
+            0,
+            child,
+        )
+    } else {
+        add_leaf(
+            alloc,
+            size,
+            1 << old_digit,
+            slice::from_ref(old),
+            digit,
+            entry,
+        )
+    }
+}
+
+/// A node of pairs with the entry put: a leaf or bucket, or a branch above two words.
+fn put_among<K: PathKey + Drop, V: Drop>(
+    alloc: Global,
+    node: &Node<K, V>,
+    pairs: &[(Arc<K, Global>, Arc<V, Global>)],
+    entry: Entry<K, V>,
+    level: u32,
+    present: bool,
+) -> Result<Node<K, V>, NoMemory>
+    requires pairs { tree node.now ≡ bucket (stamp_of (tree node.now)) (map pair_values pairs.now) }
+    requires trie { IsTrie K.cmp K.path_of level (tree node.now) }
+    requires path { entry.path.0 ≡ K.path_of entry.key.value }
+    requires agree { KeysAgree K.cmp K.path_of level entry.path.0 (entries (tree node.now)) }
+    requires present { present ≡ is_some (first_of K.cmp entry.key.value (map pair_values pairs.now)) }
+    requires room { length pairs.now < 2 ^ 63 }
+    ensures { IfOk result (λ n. Writes K.cmp K.path_of level entry.stamp.0 entry.key.value (Some entry.value.value) (tree node.now) (tree n)) }
+{
+    if present {
+        return replace_value(alloc, pairs, entry);
+    }
+    let old_path = pairs[0].0.path();
+    if old_path == entry.path {
+        put_in_bucket(alloc, pairs, entry)
+    } else {
+        split(alloc, node, old_path, pairs.len() as u64, entry, level)
+    }
+}
+
+/// A put below a leaf or bucket of these pairs.
+fn put_pairs<'a, K: PathKey + Drop, V: Drop, C: Condition<V>>(
+    alloc: Global,
+    node: &Node<K, V>,
+    pairs: &'a [(Arc<K, Global>, Arc<V, Global>)],
+    entry: Entry<K, V>,
+    level: u32,
+    condition: &C,
+) -> Result<Written<'a, K, V>, NoMemory>
+    requires pairs { tree node.now ≡ bucket (stamp_of (tree node.now)) (map pair_values pairs.now) }
+    requires trie { IsTrie K.cmp K.path_of level (tree node.now) }
+    requires path { entry.path.0 ≡ K.path_of entry.key.value }
+    requires agree { KeysAgree K.cmp K.path_of level entry.path.0 (entries (tree node.now)) }
+    requires room { length pairs.now < 2 ^ 63 }
+    ensures { IfOk result (λ w. WritesWhere K.cmp K.path_of level entry.stamp.0 entry.key.value (Some entry.value.value) (C.holds condition.now) (tree node.now) (option_map (λ v. v.now.value) w.previous) (option_map tree w.root)) }
+{
+    let previous = find_pair(pairs, &entry.key);
+    if !condition.holds(previous) {
+        return Ok(Written {
+            root: None,
+            previous,
+        });
+    }
+    let root = put_among(alloc, node, pairs, entry, level, previous.is_some())?;
+    Ok(Written {
+        root: Some(root),
+        previous,
+    })
+}
+
+/// A put below a node that stands at the level. Only the nodes on the key's way are new.
+fn put_at<'a, K: PathKey + Drop, V: Drop, C: Condition<V>>(
+    alloc: Global,
+    node: &'a Node<K, V>,
+    entry: Entry<K, V>,
+    level: u32,
+    condition: &C,
+) -> Result<Written<'a, K, V>, NoMemory>
+    requires trie { IsTrie K.cmp K.path_of level (tree node.now) }
+    requires path { entry.path.0 ≡ K.path_of entry.key.value }
+    requires agree { KeysAgree K.cmp K.path_of level entry.path.0 (entries (tree node.now)) }
+    requires room { length (entries (tree node.now)) < 2 ^ 63 }
+    ensures { IfOk result (λ w. WritesWhere K.cmp K.path_of level entry.stamp.0 entry.key.value (Some entry.value.value) (C.holds condition.now) (tree node.now) (option_map (λ v. v.now.value) w.previous) (option_map tree w.root)) }
+{
+    match &*node.inner {
+        Inner::Branch {
+            bitmap,
+            children,
+            size: old_size,
+            ..
+        } => {
+            let stamp = entry.stamp;
+            let digit = entry.path.digit(level);
+            if !has_digit(*bitmap, digit) {
+                if !condition.holds(None) {
+                    return Ok(Written {
+                        root: None,
+                        previous: None,
+                    });
+                }
+                let root = add_leaf(alloc, *old_size, *bitmap, children.as_slice(), digit, entry)?;
+                return Ok(Written {
+                    root: Some(root),
+                    previous: None,
+                });
+            }
+            let at = place(*bitmap, digit);
+            let old = &children[at];
+            let Written { root, previous } = put_at(alloc, old, entry, level + 1, condition)?;
+            let Some(child) = root else {
+                return Ok(Written {
+                    root: None,
+                    previous,
+                });
+            };
+            let new_size = *old_size + count(&child) - count(old);
+            let root = with_child(
+                alloc,
+                stamp,
+                new_size,
+                *bitmap,
+                children.as_slice(),
+                at,
+                child,
+            )?;
+            Ok(Written {
+                root: Some(root),
+                previous,
+            })
+        }
+        Inner::Leaf { pair, .. } => {
+            put_pairs(alloc, node, slice::from_ref(pair), entry, level, condition)
+        }
+        Inner::Bucket { pairs, .. } => {
+            put_pairs(alloc, node, pairs.as_slice(), entry, level, condition)
+        }
+    }
 }
 
 /// A root with the value put at the key, where the condition holds of the value that the key has.
@@ -38,8 +293,13 @@ pub fn put_where<'a, K: PathKey + Drop, V: Drop, C: Condition<V>>(
     ensures written { IfOk result (λ w. is_some w.root ≡ C.holds condition.now (value_at K.cmp (map_of K.cmp (tree node.now)) key.value)) }
     ensures put { IfOk result (λ w. IfSome w.root (λ n. IsPut K.cmp K.path_of stamp.0 key.value value.value (tree node.now) (tree n))) }
 {
-    let _ = (alloc, node, key, value, stamp, condition);
-    Err(NoMemory)
+    let entry = Entry {
+        path: key.path(),
+        key,
+        value,
+        stamp,
+    };
+    put_at(alloc, node, entry, 0, condition)
 }
 
 /// A root with the value put at the key. The old root is unchanged.

@@ -1,34 +1,113 @@
 //! Roots with a pair removed.
 
-ghost use Rattle.std.specs.Prelude.{◌≡◌, ◌&&◌, ◌<◌, ◌^◌, option_map, length, is_some, IfOk, IfSome, None, true};
-ghost use Rattle.trie_node.specs.Map.{value_at};
+ghost use Rattle.std.specs.Prelude.{◌≡◌, ◌&&◌, option_map, is_some, IfOk, IfSome, None, true};
+ghost use Rattle.trie_node.specs.Map.{value_at, without};
+ghost use Rattle.trie_node.specs.Tree.{IsTrie};
 ghost use Rattle.trie_node.specs.View.{tree};
-ghost use Rattle.trie_node.specs.Roots.{IsRoot, map_of};
+ghost use Rattle.trie_node.specs.Roots.{IsRoot, map_of, word_of};
+ghost use Rattle.trie_node.specs.Shape.{nodes, Restamps};
 ghost use Rattle.trie_node.specs.Changes.{IsRemoval};
+ghost use Rattle.trie_node.specs.Removals.{Removes};
 
-use crate::condition::{Always, Condition};
-use crate::node::Node;
-use crate::put::Written;
 use crate::basics::{NoMemory, Stamp};
-use hash_path::PathKey;
+use crate::bitmap::{has_digit, place};
+use crate::condition::{Always, Condition};
+use crate::drawing::{with_rest, without_rest};
+use crate::node::{Inner, Node};
+use crate::outcome::Removal;
+use crate::put::Written;
+use crate::taking::take_pair;
+use hash_path::{Path, PathKey};
 use std::alloc::Global;
+use std::slice;
+
+/// The removal of the key from a node that stands at the level. Nodes are copied only where a pair
+/// is removed.
+fn remove_at<'a, K: PathKey + Drop, V: Drop, C: Condition<V>>(
+    alloc: Global,
+    node: &'a Node<K, V>,
+    key: &K,
+    path: Path,
+    stamp: Stamp,
+    level: u32,
+    condition: &C,
+) -> Result<Removal<'a, K, V>, NoMemory>
+    requires path { path.0 ≡ K.path_of key.now }
+    requires trie { IsTrie K.cmp K.path_of level (tree node.now) }
+    ensures { IfOk result (λ r. Removes K.cmp K.path_of level stamp.0 key.now (C.holds condition.now) (tree node.now) r) }
+{
+    match &*node.inner {
+        Inner::Branch {
+            size,
+            bitmap,
+            children,
+            ..
+        } => {
+            let digit = path.digit(level);
+            if !has_digit(*bitmap, digit) {
+                return Ok(Removal::Nothing(None));
+            }
+            let at = place(*bitmap, digit);
+            match remove_at(alloc, &children[at], key, path, stamp, level + 1, condition)? {
+                Removal::Nothing(found) => Ok(Removal::Nothing(found)),
+                Removal::Gone(value) => {
+                    let narrower = *bitmap & !(1 << digit);
+                    let rest = without_rest(
+                        alloc,
+                        stamp,
+                        *size - 1,
+                        narrower,
+                        children.as_slice(),
+                        at,
+                        level,
+                    )?;
+                    Ok(Removal::Left(rest, value))
+                }
+                Removal::Left(child, value) => {
+                    let rest = with_rest(
+                        alloc,
+                        stamp,
+                        *size - 1,
+                        *bitmap,
+                        children.as_slice(),
+                        at,
+                        child,
+                        level,
+                    )?;
+                    Ok(Removal::Left(rest, value))
+                }
+            }
+        }
+        Inner::Leaf { pair, .. } => take_pair(alloc, slice::from_ref(pair), key, stamp, condition),
+        Inner::Bucket { pairs, .. } => take_pair(alloc, pairs.as_slice(), key, stamp, condition),
+    }
+}
 
 /// A root without the key, where the key is there and the condition holds of its value.
 /// The old root is unchanged. Where nothing is to be removed, no node is copied.
 pub fn removed_where<'a, K: PathKey + Drop, V: Drop, C: Condition<V>>(
-    _alloc: Global,
-    _node: &'a Node<K, V>,
-    _key: &K,
-    _stamp: Stamp,
-    _condition: &C,
+    alloc: Global,
+    node: &'a Node<K, V>,
+    key: &K,
+    stamp: Stamp,
+    condition: &C,
 ) -> Result<Written<'a, K, V>, NoMemory>
-    requires root { IsRoot K.cmp K.path_of (tree _node.now) }
-    requires room { length (map_of K.cmp (tree _node.now)) < 2 ^ 63 }
-    ensures previous { IfOk result (λ w. option_map (λ v. v.now.value) w.previous ≡ value_at K.cmp (map_of K.cmp (tree _node.now)) _key.now) }
-    ensures written { IfOk result (λ w. is_some w.root ≡ (is_some (value_at K.cmp (map_of K.cmp (tree _node.now)) _key.now) && C.holds _condition.now (value_at K.cmp (map_of K.cmp (tree _node.now)) _key.now))) }
-    ensures removed { IfOk result (λ w. IfSome w.root (λ n. IsRemoval K.cmp K.path_of _stamp.0 _key.now (tree _node.now) (tree n))) }
+    requires root { IsRoot K.cmp K.path_of (tree node.now) }
+    ensures previous { IfOk result (λ w. option_map (λ v. v.now.value) w.previous ≡ value_at K.cmp (map_of K.cmp (tree node.now)) key.now) }
+    ensures written { IfOk result (λ w. is_some w.root ≡ (is_some (value_at K.cmp (map_of K.cmp (tree node.now)) key.now) && C.holds condition.now (value_at K.cmp (map_of K.cmp (tree node.now)) key.now))) }
+    ensures removed { IfOk result (λ w. IfSome w.root (λ n. IsRemoval K.cmp K.path_of stamp.0 key.now (tree node.now) (tree n))) }
 {
-    Err(NoMemory)
+    match remove_at(alloc, node, key, key.path(), stamp, 0, condition)? {
+        Removal::Nothing(previous) => Ok(Written {
+            root: None,
+            previous,
+        }),
+        Removal::Gone(_) => unreachable!(),
+        Removal::Left(root, value) => Ok(Written {
+            root: Some(root),
+            previous: Some(value),
+        }),
+    }
 }
 
 /// A root without the key: another handle on the old root where the key is absent.
@@ -40,8 +119,11 @@ pub fn with_removed<K: PathKey + Drop, V: Drop>(
     stamp: Stamp,
 ) -> Result<Node<K, V>, NoMemory>
     requires root { IsRoot K.cmp K.path_of (tree node.now) }
-    requires room { length (map_of K.cmp (tree node.now)) < 2 ^ 63 }
-    ensures removed { IfOk result (λ n. is_some (value_at K.cmp (map_of K.cmp (tree node.now)) key.now) ≡ true → IsRemoval K.cmp K.path_of stamp.0 key.now (tree node.now) (tree n)) }
+    ensures root { IfOk result (λ n. IsRoot K.cmp K.path_of (tree n)) }
+    ensures map { IfOk result (λ n. map_of K.cmp (tree n) ≡ without K.cmp (map_of K.cmp (tree node.now)) key.now) }
+
+    // The nodes of the key's path get the stamp, where the key is there. Else no node changes.
+    ensures stamps { IfOk result (λ n. is_some (value_at K.cmp (map_of K.cmp (tree node.now)) key.now) ≡ true → Restamps stamp.0 (word_of K.path_of key.now) (nodes (word_of K.path_of) (tree node.now)) (nodes (word_of K.path_of) (tree n))) }
     ensures absent { IfOk result (λ n. value_at K.cmp (map_of K.cmp (tree node.now)) key.now ≡ None → tree n ≡ tree node.now) }
 {
     match removed_where(alloc, node, key, stamp, &Always)?.root {

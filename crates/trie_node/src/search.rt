@@ -1,55 +1,53 @@
 //! Reading a root as a map.
 
-ghost use Rattle.std.specs.Prelude.{◌≡◌, option_map, map, [], ◌∷◌};
+ghost use Rattle.std.specs.Prelude.{◌≡◌, option_map};
 ghost use Rattle.std.specs.FinMap.{find as first_of};
 ghost use Rattle.trie_node.specs.Map.{value_at};
-ghost use Rattle.trie_node.specs.Tree.{entries};
-ghost use Rattle.trie_node.specs.View.{tree, pair_values};
+ghost use Rattle.trie_node.specs.Tree.{IsTrie, entries};
+ghost use Rattle.trie_node.specs.View.{tree};
 ghost use Rattle.trie_node.specs.Roots.{IsRoot, map_of};
 
+use crate::bitmap::{has_digit, place};
 use crate::node::{Inner, Node};
 use crate::pairs::find_pair;
-use hash_path::PathKey;
+use hash_path::{Path, PathKey};
 use std::alloc::Global;
-use std::cmp::Ordering;
+use std::slice;
 use std::sync::Arc;
 
-/// The value of the key in a leaf's pair.
-pub(crate) fn find_leaf<'a, K: PathKey, V>(
-    pair: &'a (Arc<K, Global>, Arc<V, Global>),
+/// The value of the key below a node that stands at the level.
+fn find_at<'a, K: PathKey, V>(
+    node: &'a Node<K, V>,
     key: &K,
+    path: Path,
+    level: u32,
 ) -> Option<&'a Arc<V, Global>>
-    ensures { option_map (λ v. v.now.value) result ≡ first_of K.cmp key.now (map pair_values (pair.now ∷ [])) }
-{
-    if key.cmp(&pair.0) == Ordering::Equal {
-        Some(&pair.1)
-    } else {
-        None
-    }
-}
-
-/// The value of the key below a node, by a walk over all pairs.
-fn walk_find<'a, K: PathKey, V>(node: &'a Node<K, V>, key: &K) -> Option<&'a Arc<V, Global>>
+    requires path { path.0 ≡ K.path_of key.now }
+    requires trie { IsTrie K.cmp K.path_of level (tree node.now) }
     ensures { option_map (λ v. v.now.value) result ≡ first_of K.cmp key.now (entries (tree node.now)) }
 {
     match &*node.inner {
-        Inner::Branch { children, .. } => {
-            for child in children {
-                if let Some(value) = walk_find(child, key) {
-                    return Some(value);
-                }
+        Inner::Branch {
+            bitmap,
+            children,
+            ..
+        } => {
+            let digit = path.digit(level);
+            if !has_digit(*bitmap, digit) {
+                return None;
             }
-            None
+            find_at(&children[place(*bitmap, digit)], key, path, level + 1)
         }
-        Inner::Leaf { pair, .. } => find_leaf(pair, key),
+        Inner::Leaf { pair, .. } => find_pair(slice::from_ref(pair), key),
         Inner::Bucket { pairs, .. } => find_pair(pairs.as_slice(), key),
     }
 }
 
-/// The value of the key, or none. It requests no memory.
+/// The value of the key, or none. It requests no memory, and compares keys only in the leaf or
+/// bucket at the end of the key's way.
 pub fn find<'a, K: PathKey, V>(node: &'a Node<K, V>, key: &K) -> Option<&'a Arc<V, Global>>
     requires root { IsRoot K.cmp K.path_of (tree node.now) }
     ensures { option_map (λ v. v.now.value) result ≡ value_at K.cmp (map_of K.cmp (tree node.now)) key.now }
 {
-    walk_find(node, key)
+    find_at(node, key, key.path(), 0)
 }

@@ -3,11 +3,11 @@ use Rattle.std.proofs.Common.{◌≡◌, ℕ, ◌+◌, ◌≤◌, Bool, true, fa
 use Rattle.std.proofs.lemmas.Bool.Decides.{nat_tests}
 use Rattle.std.specs.declared.cmp.Ordering.{Ordering}
 use Rattle.std.specs.declared.cmp.Ordering.TheVariants.{Less, Equal, Greater}
-use Rattle.std.specs.Ordering.{is_eq}
-use Rattle.std.specs.Cmp.{IsTotalOrder}
+use Rattle.std.specs.Ordering.{eq_by_cmp, is_eq}
+use Rattle.std.specs.Cmp.{IsTotalOrder, alike_right}
 use Rattle.std.specs.FinMap.{is_sorted, find}
-use Rattle.std.specs.FinMap.Entries.{length-put, length_without}
-use Rattle.versions.specs.Map.{Map, IsMap, value_at, with_pair, without}
+use Rattle.std.specs.FinMap.Entries.{is_sorted-put, length-put, length_without, is_sorted-where_key, find-put, find-where_key, same_entries}
+use Rattle.versions.specs.Map.{Map, IsMap, IsAntisymmetric, is_other, value_at, with_pair, without}
 use Rattle.versions.specs.Commands.{is_full_for}
 
 fits_by : (is_there : Bool) (l n : ℕ) → l ≤ n → (not is_there && (l == n)) ≡ false → cond is_there l (l + 1) ≤ n
@@ -26,10 +26,21 @@ none_of : {A : Type 0} (o : Option A) → false ≡ (is_some o && true) → o �
 none_of None e = refl
 none_of (Some x) e = cc
 
+cond_not : {A : Type 0} (b : Bool) (x y : A) → cond (not b) x y ≡ cond b y x
+cond_not true x y = refl
+cond_not false x y = refl
+
+true_of : (b : Bool) → T b → b ≡ true
+true_of true h = refl
+true_of false h = absurd h
+
 module _ {K V : Type 0} (R : K → K → Ordering) where
   -- std's word for a list in strictly rising order
   pub sorted_of : (m : Map K V) → IsMap R m → T (is_sorted R m)
   sorted_of m h = subst T (sym h) tt
+
+  pub with_pair_is_map : IsTotalOrder R → (m : Map K V) (k : K) (v : V) → IsMap R m → IsMap R (with_pair R m k v)
+  with_pair_is_map o m k v h = true_of _ (is_sorted-put R o k v m (sorted_of m h))
 
   -- a put that is not refused as full stays within the limit
   pub with_pair_fits : IsTotalOrder R → (n : ℕ) (m : Map K V) (k : K) (v : V) → IsMap R m → length m ≤ n → is_full_for R n m k ≡ false → length (with_pair R m k v) ≤ n
@@ -54,3 +65,17 @@ module _ {K V : Type 0} (R : K → K → Ordering) where
   pub without_if_there : (m new : Map K V) (k : K) (done : Bool) → done ≡ (is_some (value_at R m k) && true) → new ≡ (if done then without R m k else m) → new ≡ without R m k
   without_if_there m new k true there e = e
   without_if_there m new k false there e = e ∙ sym (without_absent m k (none_of (value_at R m k) there))
+
+  pub without_is_map : (m : Map K V) (k : K) → IsMap R m → IsMap R (without R m k)
+  without_is_map m k h = true_of _ (is_sorted-where_key R (is_other R k) m (sorted_of m h))
+
+  pub value_at-with_pair : IsTotalOrder R → (m : Map K V) (k q : K) (v : V) → value_at R (with_pair R m k v) q ≡ cond (eq_by_cmp R q k) (Some v) (value_at R m q)
+  value_at-with_pair o m k q v = find-put R o q k v m
+
+  pub value_at-without : IsTotalOrder R → (m : Map K V) (k q : K) → value_at R (without R m k) q ≡ cond (eq_by_cmp R k q) None (value_at R m q)
+  value_at-without o m k q =
+      find-where_key R (is_other R k) q (λ x e. ap (λ r. not (is_eq r)) (sym (alike_right o q x k e))) m
+      ∙ cond_not (eq_by_cmp R k q) (value_at R m q) None
+
+  pub same_map : IsTotalOrder R → IsAntisymmetric R → (m n : Map K V) → IsMap R m → IsMap R n → ((q : K) → value_at R m q ≡ value_at R n q) → m ≡ n
+  same_map o same m n g h alike = same_entries R o same m n (sorted_of m g) (sorted_of n h) alike

@@ -7,11 +7,13 @@
 #![tactic(auto)]
 
 mod change;
+mod laws;
 mod refusal;
 mod room;
 mod version;
 
 pub use change::Change;
+pub use laws::{law_of_equal_maps, law_of_put, law_of_removal};
 pub use refusal::Refusal;
 pub use trie_node::NoMemory;
 pub use version::{MOST_PAIRS, Version};

@@ -6,6 +6,7 @@ ghost use Rattle.handles.specs.Views.{command_of, without_queries};
 use super::Table;
 use crate::command::Command;
 use crate::places::version_at;
+use hash_path::PathKey;
 use versions::Refusal;
 
 // The last handle number.
@@ -14,7 +15,7 @@ const LAST_HANDLE: u32 = 1023;
 // How much room the journal has to have for a call to be made.
 const LEAST_ROOM: u32 = 2;
 
-impl<K: Ord + Drop, V: Eq + Drop> Table<K, V> {
+impl<K: PathKey + Drop, V: Eq + Drop> Table<K, V> {
     /// Why the handle cannot be opened, if it cannot.
     pub(super) fn refusal_of_open(&self, handle: u32) -> Option<Refusal>
         ensures { result ≡ refusal (without_queries K.cmp V.eq) self.now (open_handle handle) }

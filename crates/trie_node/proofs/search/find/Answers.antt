@@ -1,8 +1,10 @@
 use Rattle.std.proofs.Common.{◌∙◌, sym}
-use Rattle.trie_node.specs.Tree.{entries}
 use Rattle.trie_node.specs.View.{tree}
-use Rattle.trie_node.proofs.Listings.{find_listed}
+use Rattle.trie_node.proofs.Roots.{find_entries, root_is_trie}
 use Rattle.trie_node.proofs.search.find.Goals as goal
 
+pub find_at-requires-clause-trie : goal.find_at-requires-clause-trie
+find_at-requires-clause-trie g c = root_is_trie g.K.Ord.cmp g.K.PathKey.path_of g.met.K.Ord.total g.met.K.PathKey.exact g.met.K.PathKey.small (tree c.args.node.now) c.requires.root
+
 pub returns : goal.returns
-returns g c = c.walk_find.ensures ∙ sym (find_listed g.K.Ord.cmp g.met.K.Ord.total (entries (tree c.args.node.now)) c.args.key.now)
+returns g c = c.find_at.ensures ∙ find_entries g.K.Ord.cmp g.K.PathKey.path_of g.met.K.Ord.total (tree c.args.node.now) c.args.key.now

@@ -1,0 +1,13 @@
+//! Laws of the machine. Their functions do nothing: each contract is the law.
+ghost use Rattle.handles.specs.Laws.{CommandsKeepOtherHandles, RefusalsKeepAll};
+ghost use Rattle.handles.specs.Views.{without_queries};
+
+/// A command on one handle leaves the maps of all other handles, so a snapshot keeps its pairs.
+pub fn law_of_other_handles<K: Ord, V: Eq>()
+    ensures { CommandsKeepOtherHandles (without_queries K.cmp V.eq) }
+{}
+
+/// A refusal leaves all handles and all jobs.
+pub fn law_of_refusals<K: Ord, V: Eq>()
+    ensures { RefusalsKeepAll (without_queries K.cmp V.eq) }
+{}

@@ -1,0 +1,11 @@
+use Rattle.std.proofs.Common.{◌≡◌, subst, IfOk}
+use Rattle.trie_node.specs.Tree.{branch, trees}
+use Rattle.trie_node.specs.View.{tree}
+use Rattle.trie_node.proofs.Shortened.{appended_remove}
+use Rattle.trie_node.proofs.drawing.without_child.Goals as goal
+
+pub returns : goal.returns
+returns g c =
+    let a = c.args in
+    let e = appended_remove tree a.children.now _ _ _ a.at c.requires c.in_ok-all.ensures.items c.in_ok-push_copies.ensures c.in_ok-push_copies-2.ensures in
+    subst (λ xs. IfOk c.make_branch.result (λ n. tree n ≡ branch a.stamp.0 a.size a.bitmap (trees xs))) e c.make_branch.ensures

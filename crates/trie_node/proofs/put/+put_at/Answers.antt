@@ -1,0 +1,192 @@
+use Rattle.std.proofs.Common.{rules, ◌≡◌, [], ◌∷◌, option_map, ◌+◌, ◌-◌, ◌*◌, ◌<◌, ◌≤◌, ◌^◌, ◌%◌, Some, None, map, sym, ap, ◌∙◌, subst, arith, length, refl, set, get_or, bit_or}
+use Rattle.std.specs.List.{insert}
+use Rattle.std.specs.Int.RustNames.{count_ones}
+use Rattle.hash_path.specs.Digits.{digit}
+use Rattle.trie_node.specs.Tree.{branch, bucket, trees, entries}
+use Rattle.trie_node.specs.View.{tree}
+use Rattle.trie_node.proofs.Answered.{nothing_written, all_written, nothing_raised, written_below, raised}
+use Rattle.trie_node.proofs.Branches.{puts_replaced, puts_added}
+use Rattle.trie_node.proofs.Divides.{trie_fits}
+use Rattle.trie_node.proofs.Opened.{opened, gap_within, place_below, not_below, below_at, agree_below}
+use Rattle.trie_node.proofs.put.+put_at.Goals as goal
+
+pub returns-then-not-holds : goal.returns-then-not-holds
+returns-then-not-holds g t c =
+    let R = g.K.Ord.cmp in
+    let path = g.K.PathKey.path_of in
+    let a = c.args in
+    let b = c.in-Branch in
+    let d = c.digit-digit in
+    let k = a.entry.key.value in
+    let o = opened R path a.level a.node.now c.deref.result.now b.stamp b.old_size b.bitmap b.children c.deref.ensures b.is c.requires.trie in
+    let lacks = sym c.has_digit.ensures ∙ c.if-not-has_digit.true in
+    let here = ap (λ w. digit w a.level) (sym c.requires.path) ∙ sym d.ensures.value in
+    let none = not_below R path a.level a.node.now b.stamp.0 b.old_size b.bitmap b.children.items o d.result d.ensures.small g.met.K.PathKey.exact lacks k here in
+    nothing_written R path a.level a.entry.stamp.0 k (Some a.entry.value.value) (g.C.Condition.holds a.condition.now) (tree a.node.now) None (sym none) (sym c.holds.ensures ∙ c.if-not-holds.true)
+
+pub add_leaf-requires-clause-place : goal.add_leaf-requires-clause-place
+add_leaf-requires-clause-place g t c =
+    let R = g.K.Ord.cmp in
+    let path = g.K.PathKey.path_of in
+    let a = c.args in
+    let b = c.in-Branch in
+    let d = c.digit-digit in
+    let o = opened R path a.level a.node.now c.deref.result.now b.stamp b.old_size b.bitmap b.children c.deref.ensures b.is c.requires.trie in
+    let lacks = sym c.has_digit.ensures ∙ c.if-not-has_digit.true in
+    let within = gap_within R path a.level a.node.now b.stamp.0 b.old_size b.bitmap b.children.items o d.result d.ensures.small lacks in
+    subst (λ xs. count_ones (b.bitmap % 2 ^ d.result) ≤ length xs) (sym c.as_slice.ensures.value) within
+
+pub returns-then-not-has_digit : goal.returns-then-not-has_digit
+returns-then-not-has_digit g t c =
+    let R = g.K.Ord.cmp in
+    let path = g.K.PathKey.path_of in
+    let exact = g.met.K.PathKey.exact in
+    let a = c.args in
+    let b = c.in-Branch in
+    let d = c.digit-digit in
+    let k = a.entry.key.value in
+    let v = a.entry.value.value in
+    let s = a.entry.stamp.0 in
+    let n = c.in_ok-root-in-Branch.root in
+    let o = opened R path a.level a.node.now c.deref.result.now b.stamp b.old_size b.bitmap b.children c.deref.ensures b.is c.requires.trie in
+    let lacks = sym c.has_digit.ensures ∙ c.if-not-has_digit.true in
+    let here = ap (λ w. digit w a.level) (sym c.requires.path) ∙ sym d.ensures.value in
+    let none = not_below R path a.level a.node.now b.stamp.0 b.old_size b.bitmap b.children.items o d.result d.ensures.small exact lacks k here in
+    let wider = bit_or b.bitmap (1 * 2 ^ d.result % 2 ^ 32) in
+    let made : tree n ≡ branch s (b.old_size + 1) wider (trees (insert (map tree b.children.items) (count_ones (b.bitmap % 2 ^ d.result)) (bucket s ((k, v) ∷ [])))) =
+    c.in_ok-root-in-Branch.ensures ∙ ap (λ xs. branch s (b.old_size + 1) wider (trees (insert (map tree xs) (count_ones (b.bitmap % 2 ^ d.result)) (bucket s ((k, v) ∷ []))))) c.as_slice.ensures.value in
+    let writes = puts_added R path g.met.K.Ord.total exact a.level s k v d.result here d.ensures.small b.stamp.0 b.old_size b.bitmap (map tree b.children.items) (tree a.node.now) o.is o.trie lacks (bucket s ((k, v) ∷ [])) refl (tree n) made in
+    all_written R path a.level s k (Some v) (g.C.Condition.holds a.condition.now) (tree a.node.now) None (sym none) (sym c.holds.ensures ∙ c.if-not-holds.false) (tree n) writes
+
+pub index-old-requires : goal.index-old-requires
+index-old-requires g t c =
+    let R = g.K.Ord.cmp in
+    let path = g.K.PathKey.path_of in
+    let a = c.args in
+    let b = c.in-Branch in
+    let d = c.digit-digit in
+    let o = opened R path a.level a.node.now c.deref.result.now b.stamp b.old_size b.bitmap b.children c.deref.ensures b.is c.requires.trie in
+    let has = sym c.has_digit.ensures ∙ c.if-not-has_digit.false in
+    omega (arith, place_below R path a.level a.node.now b.stamp.0 b.old_size b.bitmap b.children.items o d.result d.ensures.small has c.place-at.result c.place-at.ensures, b.children.ok)
+
+pub put_at-requires : goal.put_at-requires
+put_at-requires g t c κs within =
+    let R = g.K.Ord.cmp in
+    let path = g.K.PathKey.path_of in
+    let a = c.args in
+    let b = c.in-Branch in
+    let d = c.digit-digit in
+    let w = a.entry.path.0 in
+    let old = c.index-old.result.now in
+    let o = opened R path a.level a.node.now c.deref.result.now b.stamp b.old_size b.bitmap b.children c.deref.ensures b.is c.requires.trie in
+    let has = sym c.has_digit.ensures ∙ c.if-not-has_digit.false in
+    let child = below_at R path a.level a.node.now b.stamp.0 b.old_size b.bitmap b.children.items o d.result d.ensures.small g.met.K.PathKey.exact has c.place-at.result c.place-at.ensures old c.index-old.ensures in
+    let agree = agree_below R path a.level a.node.now b.stamp.0 b.old_size b.bitmap b.children.items o d.result d.ensures.small w (sym d.ensures.value) c.requires.agree c.place-at.result old child in
+    (omega (arith, o.level_in), (search rules, (search rules, (search rules, (child.trie, (c.requires.path, (agree, omega (arith, child.fewer, c.requires.room))))))))
+
+pub returns-in_default : goal.returns-in_default
+returns-in_default g t c =
+    let R = g.K.Ord.cmp in
+    let path = g.K.PathKey.path_of in
+    let a = c.args in
+    let b = c.in-Branch in
+    let d = c.digit-digit in
+    let k = a.entry.key.value in
+    let old = c.index-old.result.now in
+    let found = c.in_ok-root-in-Branch-2 in
+    let o = opened R path a.level a.node.now c.deref.result.now b.stamp b.old_size b.bitmap b.children c.deref.ensures b.is c.requires.trie in
+    let has = sym c.has_digit.ensures ∙ c.if-not-has_digit.false in
+    let here = ap (λ w. digit w a.level) (sym c.requires.path) ∙ sym d.ensures.value in
+    let child = below_at R path a.level a.node.now b.stamp.0 b.old_size b.bitmap b.children.items o d.result d.ensures.small g.met.K.PathKey.exact has c.place-at.result c.place-at.ensures old c.index-old.ensures in
+    nothing_raised R path a.level a.entry.stamp.0 k (Some a.entry.value.value) (g.C.Condition.holds a.condition.now) (tree a.node.now) (a.level + 1) (tree old) (child.finds k here)
+    (option_map (λ v. v.now.value) found.field-0.previous) (option_map tree found.field-0.root) found.ensures (ap (option_map tree) c.in_default.is)
+
+pub overflow_add-new_size : goal.overflow_add-new_size
+overflow_add-new_size g t c =
+    let R = g.K.Ord.cmp in
+    let path = g.K.PathKey.path_of in
+    let exact = g.met.K.PathKey.exact in
+    let a = c.args in
+    let b = c.in-Branch in
+    let d = c.digit-digit in
+    let k = a.entry.key.value in
+    let v = a.entry.value.value in
+    let s = a.entry.stamp.0 in
+    let holds = g.C.Condition.holds a.condition.now in
+    let old = c.index-old.result.now in
+    let new = c.in-Some.child in
+    let found = c.in_ok-root-in-Branch-2 in
+    let o = opened R path a.level a.node.now c.deref.result.now b.stamp b.old_size b.bitmap b.children c.deref.ensures b.is c.requires.trie in
+    let has = sym c.has_digit.ensures ∙ c.if-not-has_digit.false in
+    let here = ap (λ w. digit w a.level) (sym c.requires.path) ∙ sym d.ensures.value in
+    let child = below_at R path a.level a.node.now b.stamp.0 b.old_size b.bitmap b.children.items o d.result d.ensures.small exact has c.place-at.result c.place-at.ensures old c.index-old.ensures in
+    let given = written_below R path a.level s k (Some v) holds (tree a.node.now) (a.level + 1) (tree old) (child.finds k here) (option_map (λ v. v.now.value) found.field-0.previous) (option_map tree found.field-0.root) found.ensures (tree new) (ap (option_map tree) c.in-Some.is) in
+    let more : c.size.result ≡ length (entries (tree new)) = c.size.ensures (trie_fits R path (a.level + 1) (tree new) given.trie) in
+    omega (arith, o.counted, more, given.most, child.fewer, c.requires.room)
+
+pub overflow_sub-new_size : goal.overflow_sub-new_size
+overflow_sub-new_size g t c =
+    let R = g.K.Ord.cmp in
+    let path = g.K.PathKey.path_of in
+    let exact = g.met.K.PathKey.exact in
+    let a = c.args in
+    let b = c.in-Branch in
+    let d = c.digit-digit in
+    let k = a.entry.key.value in
+    let v = a.entry.value.value in
+    let s = a.entry.stamp.0 in
+    let holds = g.C.Condition.holds a.condition.now in
+    let old = c.index-old.result.now in
+    let new = c.in-Some.child in
+    let found = c.in_ok-root-in-Branch-2 in
+    let o = opened R path a.level a.node.now c.deref.result.now b.stamp b.old_size b.bitmap b.children c.deref.ensures b.is c.requires.trie in
+    let has = sym c.has_digit.ensures ∙ c.if-not-has_digit.false in
+    let here = ap (λ w. digit w a.level) (sym c.requires.path) ∙ sym d.ensures.value in
+    let child = below_at R path a.level a.node.now b.stamp.0 b.old_size b.bitmap b.children.items o d.result d.ensures.small exact has c.place-at.result c.place-at.ensures old c.index-old.ensures in
+    let given = written_below R path a.level s k (Some v) holds (tree a.node.now) (a.level + 1) (tree old) (child.finds k here) (option_map (λ v. v.now.value) found.field-0.previous) (option_map tree found.field-0.root) found.ensures (tree new) (ap (option_map tree) c.in-Some.is) in
+    let less : c.size-in-Branch.result ≡ length (entries (tree old)) = c.size-in-Branch.ensures (trie_fits R path (a.level + 1) (tree old) child.trie) in
+    omega (arith, o.counted, less, child.fewer)
+
+pub with_child-requires : goal.with_child-requires
+with_child-requires g t c =
+    let R = g.K.Ord.cmp in
+    let path = g.K.PathKey.path_of in
+    let a = c.args in
+    let b = c.in-Branch in
+    let d = c.digit-digit in
+    let o = opened R path a.level a.node.now c.deref.result.now b.stamp b.old_size b.bitmap b.children c.deref.ensures b.is c.requires.trie in
+    let has = sym c.has_digit.ensures ∙ c.if-not-has_digit.false in
+    let within = place_below R path a.level a.node.now b.stamp.0 b.old_size b.bitmap b.children.items o d.result d.ensures.small has c.place-at.result c.place-at.ensures in
+    subst (λ xs. c.place-at.result < length xs) (sym c.as_slice-in-Branch.ensures.value) within
+
+pub returns-in_ok-root-in-Branch-3 : goal.returns-in_ok-root-in-Branch-3
+returns-in_ok-root-in-Branch-3 g t c =
+    let R = g.K.Ord.cmp in
+    let path = g.K.PathKey.path_of in
+    let exact = g.met.K.PathKey.exact in
+    let a = c.args in
+    let b = c.in-Branch in
+    let d = c.digit-digit in
+    let k = a.entry.key.value in
+    let v = a.entry.value.value in
+    let s = a.entry.stamp.0 in
+    let holds = g.C.Condition.holds a.condition.now in
+    let old = c.index-old.result.now in
+    let new = c.in-Some.child in
+    let found = c.in_ok-root-in-Branch-2 in
+    let o = opened R path a.level a.node.now c.deref.result.now b.stamp b.old_size b.bitmap b.children c.deref.ensures b.is c.requires.trie in
+    let has = sym c.has_digit.ensures ∙ c.if-not-has_digit.false in
+    let here = ap (λ w. digit w a.level) (sym c.requires.path) ∙ sym d.ensures.value in
+    let child = below_at R path a.level a.node.now b.stamp.0 b.old_size b.bitmap b.children.items o d.result d.ensures.small exact has c.place-at.result c.place-at.ensures old c.index-old.ensures in
+    let given = written_below R path a.level s k (Some v) holds (tree a.node.now) (a.level + 1) (tree old) (child.finds k here) (option_map (λ v. v.now.value) found.field-0.previous) (option_map tree found.field-0.root) found.ensures (tree new) (ap (option_map tree) c.in-Some.is) in
+    let node = c.in_ok-root-in-Branch-3.root in
+    let at = c.place-at.result in
+    let more : c.size.result ≡ length (entries (tree new)) = c.size.ensures (trie_fits R path (a.level + 1) (tree new) given.trie) in
+    let less : c.size-in-Branch.result ≡ length (entries (tree old)) = c.size-in-Branch.ensures (trie_fits R path (a.level + 1) (tree old) child.trie) in
+    let size2 = b.old_size + c.size.result - c.size-in-Branch.result in
+    let sized : size2 + length (entries (tree old)) ≡ b.old_size + length (entries (tree new)) = omega (arith, more, less, o.counted, child.fewer) in
+    let made : tree node ≡ branch s size2 b.bitmap (trees (set (map tree b.children.items) (count_ones (b.bitmap % 2 ^ d.result)) (tree new))) =
+    c.in_ok-root-in-Branch-3.ensures ∙ (λ i. branch s size2 b.bitmap (trees (set (map tree (c.as_slice-in-Branch.ensures.value i)) (c.place-at.ensures i) (tree new)))) in
+    let at_place = child.at ∙ ap (λ i. get_or (map tree b.children.items) i (tree old)) c.place-at.ensures in
+    let writes = puts_replaced R path g.met.K.Ord.total exact a.level s k v d.result here d.ensures.small b.stamp.0 b.old_size b.bitmap (map tree b.children.items) (tree a.node.now) o.is o.trie has (tree old) (tree new) at_place given size2 (tree node) sized made in
+    raised R path a.level s k (Some v) holds (tree a.node.now) (a.level + 1) (tree old) (child.finds k here) (option_map (λ v. v.now.value) found.field-0.previous) (option_map tree found.field-0.root) found.ensures (tree new) (ap (option_map tree) c.in-Some.is) (tree node) writes

@@ -1,0 +1,12 @@
+use Rattle.std.proofs.Common.{◌≡◌, ap, sym, ◌∙◌, get_or}
+use Rattle.std.specs.declared.cmp.Ordering.TheVariants.{Equal}
+use Rattle.trie_node.specs.View.{pair_values}
+use Rattle.trie_node.proofs.Taken.{at_place, equal_of_index}
+use Rattle.trie_node.proofs.taking.place_of.Goals as goal
+
+pub returns-then-eq-clause-there : goal.returns-then-eq-clause-there
+returns-then-eq-clause-there g c =
+    let a = c.args in
+    let tie : g.K.Ord.cmp a.key.now (pair_values (get_or a.pairs.now c.loop-i.i c.index-pairs-i.result)).0 ≡ Equal =
+    ap (g.K.Ord.cmp a.key.now) (sym c.deref.ensures) ∙ sym c.cmp.ensures ∙ equal_of_index c.cmp.result (sym c.eq.ensures ∙ c.if-eq.true) in
+    at_place g.K.Ord.cmp g.met.K.PathKey.exact pair_values a.key.now a.pairs.now c.loop-i.i c.index-pairs-i.result c.loop-i-test.true tie c.loop-i.invariant

@@ -1,0 +1,16 @@
+//! What a removal did to a subtree.
+
+use crate::node::Node;
+use std::alloc::Global;
+use std::sync::Arc;
+
+/// What a removal did to a subtree.
+#[derive(Drop)]
+pub(crate) enum Removal<'a, K, V> {
+    /// Nothing was removed. It tells the key's value, if the key is there.
+    Nothing(Option<&'a Arc<V, Global>>),
+    /// The pair was the only one. It had this value.
+    Gone(&'a Arc<V, Global>),
+    /// The node is left, without the pair. It had this value.
+    Left(Node<K, V>, &'a Arc<V, Global>),
+}
