@@ -6,6 +6,7 @@ pub mod WordLemmas
 pub mod OneFault
 pub mod ScriptLemmas
 pub mod ReadLemmas
+pub mod Ends
 pub mod RunLemmas
 pub mod GrammarLemmas
 pub mod OneRun

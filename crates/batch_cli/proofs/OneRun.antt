@@ -2,15 +2,18 @@
 use Rattle.std.proofs.Common.{◌≡◌, ℕ, ◌+◌, ◌∙◌, ◌⊎◌, List, [], ◌∷◌, ◌++◌, Some, None, inl, inr, refl, sym, ap, subst}
 use Rattle.std.specs.Prelude.{ℤ, if◌then◌else◌}
 use Rattle.versions.specs.declared.refusal.Refusal.{Refusal}
+use Rattle.std.specs.Ordering.{nat_cmp}
+use Rattle.versions.specs.Map.{without}
 use Rattle.versions.specs.Commands as commands
-use Rattle.handles.specs.Machine.{Step, Granted, refusal, is_entry, live_with, held_by, open_handle, snapshot, on, made, replied, viewed, frozen, finished, unfinished, refused, worked}
+use Rattle.handles.specs.Machine.{Step, Granted, refusal, is_entry, live_with, held_by, open_handle, snapshot, drop_handle, on, made, replied, viewed, frozen, finished, unfinished, refused, worked}
 use Rattle.batch_cli.specs.Replies.{line_text}
-use Rattle.batch_cli.specs.Events.{program, ProgramState, ProgramRequest, ProgramOutcome, Event, request_for, reply_to, IsRun, MayAnswer}
+use Rattle.batch_cli.specs.Events.{program, ProgramState, ProgramRequest, ProgramOutcome, Event, request_for, reply_with, Ends, IsRun, MayAnswer}
 use Rattle.batch_cli.specs.Runs.{LineAnswer, EachMakes, events_of, text_for}
 use Rattle.batch_cli.specs.declared.command.Command.{Command}
-use Rattle.batch_cli.specs.declared.command.Command.TheVariants.{Open, Snap, Get, Put, Size}
+use Rattle.batch_cli.specs.declared.command.Command.TheVariants.{Open, Snap, Drop, Get, Put, PutIfAbsent, Replace, ReplaceIf, Remove, RemoveIf, GetOrElse, Size, Clear}
 use Rattle.batch_cli.specs.declared.command.CommandLine.{CommandLine}
 use Rattle.batch_cli.specs.declared.reply.LineReply.{LineReply}
+use Rattle.batch_cli.proofs.Ends.{missing_or_done}
 
 -- the state behind a refusal
 abbrev refused_in : ProgramState → Refusal → ProgramState
@@ -62,16 +65,46 @@ one_reply s h c unfinished t g = absurd g
 one_reply s h c (refused e) t g = absurd g
 one_reply s h c worked t g = absurd g
 
+one_drop : (s : ProgramState) (h : ℕ) (o : ProgramOutcome) (t : ProgramState) → Granted program s (drop_handle h) o t → (o ≡ made) × (t ≡ record s { live = without nat_cmp s.live h; entries = s.entries + 1 })
+one_drop s h made t g = (refl, g)
+one_drop s h (replied y) t g = absurd g
+one_drop s h (viewed m) t g = absurd g
+one_drop s h (frozen j m) t g = absurd g
+one_drop s h (finished b) t g = absurd g
+one_drop s h unfinished t g = absurd g
+one_drop s h (refused e) t g = absurd g
+one_drop s h worked t g = absurd g
+
 -- two ways to be granted are one
 abbrev OneGrant : ProgramRequest → Type 0
 OneGrant r = (s t u : ProgramState) (o p : ProgramOutcome) → Granted program s r o t → Granted program s r p u → (o ≡ p) × (t ≡ u)
 
+one_command : (h : ℕ) (c : commands.Command (List ℕ) ℤ) → OneGrant (on h c)
+one_command h c s t u o p g k = let a = one_reply s h c o t g in let b = one_reply s h c p u k in (a.0 ∙ sym b.0, a.1 ∙ sym b.1)
+
+open_once : (h : ℕ) → OneGrant (open_handle h)
+open_once h s t u o p g k = let a = one_open s h o t g in let b = one_open s h p u k in (a.0 ∙ sym b.0, a.1 ∙ sym b.1)
+
+snapshot_once : (h to : ℕ) → OneGrant (snapshot h to)
+snapshot_once h to s t u o p g k = let a = one_snapshot s h to o t g in let b = one_snapshot s h to p u k in (a.0 ∙ sym b.0, a.1 ∙ sym b.1)
+
+drop_once : (h : ℕ) → OneGrant (drop_handle h)
+drop_once h s t u o p g k = let a = one_drop s h o t g in let b = one_drop s h p u k in (a.0 ∙ sym b.0, a.1 ∙ sym b.1)
+
 one_grant : (c : Command) → OneGrant (request_for c)
-one_grant (Open h) s t u o p g k = let a = one_open s h o t g in let b = one_open s h p u k in (a.0 ∙ sym b.0, a.1 ∙ sym b.1)
-one_grant (Snap h to) s t u o p g k = let a = one_snapshot s h to o t g in let b = one_snapshot s h to p u k in (a.0 ∙ sym b.0, a.1 ∙ sym b.1)
-one_grant (Get h key) s t u o p g k = let a = one_reply s h (commands.get key) o t g in let b = one_reply s h (commands.get key) p u k in (a.0 ∙ sym b.0, a.1 ∙ sym b.1)
-one_grant (Put h key v) s t u o p g k = let a = one_reply s h (commands.put key v) o t g in let b = one_reply s h (commands.put key v) p u k in (a.0 ∙ sym b.0, a.1 ∙ sym b.1)
-one_grant (Size h) s t u o p g k = let a = one_reply s h commands.size o t g in let b = one_reply s h commands.size p u k in (a.0 ∙ sym b.0, a.1 ∙ sym b.1)
+one_grant (Open h) = open_once h
+one_grant (Snap h to) = snapshot_once h to
+one_grant (Drop h) = drop_once h
+one_grant (Get h key) = one_command h (commands.get key)
+one_grant (Put h key v) = one_command h (commands.put key v)
+one_grant (PutIfAbsent h key v) = one_command h (commands.put_if_absent key v)
+one_grant (Replace h key v) = one_command h (commands.replace key v)
+one_grant (ReplaceIf h key was v) = one_command h (commands.replace_if key was v)
+one_grant (Remove h key) = one_command h (commands.remove key)
+one_grant (RemoveIf h key v) = one_command h (commands.remove_if key v)
+one_grant (GetOrElse h key v) = one_command h (commands.get key)
+one_grant (Size h) = one_command h commands.size
+one_grant (Clear h) = one_command h commands.clear
 
 one_settled : (r : ProgramRequest) → OneGrant r → (s t u : ProgramState) (o p : ProgramOutcome) → Settled s r o t → Settled s r p u → (o ≡ p) × (t ≡ u)
 one_settled r one s t u o p (inl (e, a, b, d)) (inl (f, a', b', d')) =
@@ -82,13 +115,41 @@ one_settled r one s t u o p (inl (e, a, b, d)) (inr (none, g)) = let same : Some
 one_settled r one s t u o p (inr (none, g)) (inl (e, a, b, d)) = let same : Some e ≡ None = sym b ∙ none in cc
 one_settled r one s t u o p (inr (none, g)) (inr (never, k)) = one s t u o p g k
 
+-- a request has one outcome in a state
+one_step : (r : ProgramRequest) → OneGrant r → (s t u : ProgramState) (o p : ProgramOutcome) → Step program s r o t → Step program s r p u → (o ≡ p) × (t ≡ u)
+one_step r one s t u o p a b = one_settled r one s t u o p (settled s r o t a) (settled s r p u b)
+
+-- what a command does after its first event is one
+one_end : (c : Command) (o : ProgramOutcome) (s t u : ProgramState) (events others : List Event) (a b : LineReply)
+    → Ends c o events a → Ends c o others b → IsRun s events t → IsRun s others u → (a ≡ b) × (t ≡ u)
+one_end c o s t u events others a b ends too run ran =
+    elim (missing_or_done c o) [
+      | inr (from, to) ↦
+          let here = from events a ends in
+          let there = from others b too in
+          let shown : Some a ≡ Some b = sym here.1 ∙ there.1 in
+          let stays : s ≡ t = rw here.0 at run in
+          let same : s ≡ u = rw there.0 at ran in
+          (cc, sym stays ∙ same)
+      | inl missing ↦
+          let here : Ends (GetOrElse missing.handle missing.key missing.value) (replied (commands.old None)) events a = rw (missing.command_is, missing.nothing) at ends in
+          let there : Ends (GetOrElse missing.handle missing.key missing.value) (replied (commands.old None)) others b = rw (missing.command_is, missing.nothing) at too in
+          let request = on missing.handle (commands.put_if_absent missing.key missing.value) in
+          let step : IsRun s ((request, here.0) ∷ []) t = rw here.1 at run in
+          let trod : IsRun s ((request, there.0) ∷ []) u = rw there.1 at ran in
+          let same = one_step request (one_command missing.handle (commands.put_if_absent missing.key missing.value)) s step.0 trod.0 here.0 there.0 step.1 trod.1 in
+          let shown : Some a ≡ Some b = sym here.2 ∙ ap (reply_with missing.value) same.0 ∙ there.2 in
+          (cc, sym step.2 ∙ same.1 ∙ trod.2)
+    ]
+
 one_answer : (c : Command) (s t u : ProgramState) (a b : LineReply) → MayAnswer s c a t → MayAnswer s c b u → (a ≡ b) × (t ≡ u)
-one_answer c s t u a b (events, (o, are, shows), run) (others, (p, were, tells), ran) =
-    let step : IsRun s ((request_for c, o) ∷ []) t = rw are at run in
-    let trod : IsRun s ((request_for c, p) ∷ []) u = rw were at ran in
-    let same = one_settled (request_for c) (one_grant c) s step.0 trod.0 o p (settled s (request_for c) o step.0 step.1) (settled s (request_for c) p trod.0 trod.1) in
-    let shown : Some a ≡ Some b = sym shows ∙ ap reply_to same.0 ∙ tells in
-    (cc, sym step.2 ∙ same.1 ∙ trod.2)
+one_answer c s t u a b (events, (o, later, are, ends), run) (others, (p, further, were, too), ran) =
+    let step : IsRun s ((request_for c, o) ∷ later) t = rw are at run in
+    let trod : IsRun s ((request_for c, p) ∷ further) u = rw were at ran in
+    let same = one_step (request_for c) (one_grant c) s step.0 trod.0 o p step.1 trod.1 in
+    let ends_alike : Ends c o further b = (let P : ProgramOutcome → Type 0 = λ x. Ends c x further b in subst P (sym same.0) too) in
+    let run_alike : IsRun step.0 further u = (let P : ProgramState → Type 0 = λ x. IsRun x further u in subst P (sym same.1) trod.2) in
+    one_end c o step.0 t u later further a b ends ends_alike step.2 run_alike
 
 -- a run of events and further ones goes by a state between
 run_split : (s t : ProgramState) (es fs : List Event) → IsRun s (es ++ fs) t → (m : ProgramState) × IsRun s es m × IsRun m fs t

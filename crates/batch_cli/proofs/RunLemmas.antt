@@ -1,5 +1,5 @@
 -- Runs that go on: by an event, and by a line.
-use Rattle.std.proofs.Common.{◌≡◌, ℕ, ◌∙◌, false, List, [], ◌∷◌, ◌++◌, Some, None, Result, Ok, Err, IfOk, refl, sym, ap, subst, append_assoc, append-nil}
+use Rattle.std.proofs.Common.{◌≡◌, ℕ, ◌∙◌, false, List, [], ◌∷◌, ◌++◌, Some, None, Result, Ok, Err, IfOk, inl, inr, refl, sym, ap, subst, append_assoc, append-nil}
 use Rattle.std.specs.Prelude.{ℤ}
 use Rattle.versions.specs.declared.refusal.Refusal.{Refusal}
 use Rattle.handles.specs.declared.call_reply.CallReply.{CallReply}
@@ -11,10 +11,11 @@ use Rattle.batch_cli.specs.Replies.{line_text}
 use Rattle.batch_cli.specs.Events.{program, ProgramState, ProgramRequest, ProgramOutcome, Event, request_for, reply_to, Ends, Makes, IsRun, MayAnswer, MayReply, MayStore}
 use Rattle.batch_cli.specs.Runs.{LineAnswer, EachMakes, events_of, text_for, Answers}
 use Rattle.batch_cli.specs.declared.command.Command.{Command}
-use Rattle.batch_cli.specs.declared.command.Command.TheVariants.{Open, Snap, Drop, Get, Put, PutIfAbsent, Replace, ReplaceIf, Remove, RemoveIf, GetOrElse, Size, Clear}
+use Rattle.batch_cli.specs.declared.command.Command.TheVariants.{GetOrElse}
 use Rattle.batch_cli.specs.declared.command.CommandLine.{CommandLine}
 use Rattle.batch_cli.specs.declared.reply.LineReply.{LineReply}
 use Rattle.batch_cli.specs.declared.reply.LineReply.TheVariants.{Absent}
+use Rattle.batch_cli.proofs.Ends.{missing_or_done}
 
 -- what the table answered is an event of the machine
 pub answered : {E : Type 0} (s t : ProgramState) (r : ProgramRequest) (answer : Result (CallReply ℤ) Refusal) (result : Result LineReply E)
@@ -38,52 +39,17 @@ absent unfinished e = cc
 absent (refused refusal) e = cc
 absent worked e = cc
 
--- a getorelse whose get found something is done
-ends_found : (handle : ℕ) (key : List ℕ) (value : ℤ) (outcome : ProgramOutcome) (reply : LineReply) → (reply ≡ Absent → ⊥) → reply_to outcome ≡ Some reply → Ends (GetOrElse handle key value) outcome [] reply
-ends_found handle key value made reply present shown = (refl, shown)
-ends_found handle key value (replied (old None)) reply present shown = absurd (present (cc))
-ends_found handle key value (replied (old (Some found))) reply present shown = (refl, shown)
-ends_found handle key value (replied (done b)) reply present shown = (refl, shown)
-ends_found handle key value (replied (count n)) reply present shown = (refl, shown)
-ends_found handle key value (replied cleared) reply present shown = (refl, shown)
-ends_found handle key value (viewed m) reply present shown = (refl, shown)
-ends_found handle key value (frozen j m) reply present shown = (refl, shown)
-ends_found handle key value (finished b) reply present shown = (refl, shown)
-ends_found handle key value unfinished reply present shown = (refl, shown)
-ends_found handle key value (refused refusal) reply present shown = (refl, shown)
-ends_found handle key value worked reply present shown = (refl, shown)
-
--- any other command is done after one event
-ends_other : (command : Command) (outcome : ProgramOutcome) (reply : LineReply) → ((handle : ℕ) (key : List ℕ) (value : ℤ) → command ≡ GetOrElse handle key value → ⊥) → reply_to outcome ≡ Some reply → Ends command outcome [] reply
-ends_other (Open h) outcome reply other shown = (refl, shown)
-ends_other (Snap h t) outcome reply other shown = (refl, shown)
-ends_other (Drop h) outcome reply other shown = (refl, shown)
-ends_other (Get h k) outcome reply other shown = (refl, shown)
-ends_other (Put h k v) outcome reply other shown = (refl, shown)
-ends_other (PutIfAbsent h k v) outcome reply other shown = (refl, shown)
-ends_other (Replace h k v) outcome reply other shown = (refl, shown)
-ends_other (ReplaceIf h k v w) outcome reply other shown = (refl, shown)
-ends_other (Remove h k) outcome reply other shown = (refl, shown)
-ends_other (RemoveIf h k v) outcome reply other shown = (refl, shown)
-ends_other (GetOrElse h k v) outcome reply other shown = absurd (other h k v refl)
-ends_other (Size h) outcome reply other shown = (refl, shown)
-ends_other (Clear h) outcome reply other shown = (refl, shown)
-
--- a command that is done after one event
-one_event : (s t : ProgramState) (command : Command) (reply : LineReply) → ((outcome : ProgramOutcome) → reply_to outcome ≡ Some reply → Ends command outcome [] reply) → MayReply s (request_for command) reply t → MayAnswer s command reply t
-one_event s t command reply ends (outcome, step, shown) = ((request_for command, outcome) ∷ [], (outcome, [], refl, ends outcome shown), (t, step, refl))
-
--- the line of a getorelse that found something
-pub found_at_once : (s t : ProgramState) (command : Command) (request : ProgramRequest) (handle : ℕ) (key : List ℕ) (value : ℤ) (reply : LineReply)
-    → command ≡ GetOrElse handle key value → (reply ≡ Absent → ⊥) → request ≡ request_for command → MayReply s request reply t → MayAnswer s command reply t
-found_at_once s t command request handle key value reply is present asked replies =
-    one_event s t command reply (λ outcome shown. rw is (ends_found handle key value outcome reply present shown)) (rw asked at replies)
-
--- the line of any other command
+-- the line of a command that is no getorelse or found something
 pub done_at_once : (s t : ProgramState) (command : Command) (request : ProgramRequest) (reply : LineReply)
-    → ((handle : ℕ) (key : List ℕ) (value : ℤ) → command ≡ GetOrElse handle key value → ⊥) → request ≡ request_for command → MayReply s request reply t → MayAnswer s command reply t
-done_at_once s t command request reply other asked replies =
-    one_event s t command reply (λ outcome shown. ends_other command outcome reply other shown) (rw asked at replies)
+    → ((handle : ℕ) (key : List ℕ) (value : ℤ) → command ≡ GetOrElse handle key value → reply ≡ Absent → ⊥) → request ≡ request_for command → MayReply s request reply t → MayAnswer s command reply t
+done_at_once s t command request reply other asked (outcome, step, shown) =
+    let ends : Ends command outcome [] reply =
+    elim (missing_or_done command outcome) [
+      | inl missing ↦ let none : Some Absent ≡ Some reply = sym (ap reply_to missing.nothing) ∙ shown in absurd (other missing.handle missing.key missing.value missing.command_is (cc))
+      | inr (from, to) ↦ to reply shown
+    ] in
+    let made_step : Step program s (request_for command) outcome t = rw asked at step in
+    ((request_for command, outcome) ∷ [], (outcome, [], refl, ends), (t, made_step, refl))
 
 -- the line of a getorelse that found nothing
 pub stored_then : {E : Type 0} (s m t : ProgramState) (command : Command) (request : ProgramRequest) (handle : ℕ) (key : List ℕ) (value : ℤ) (reply : LineReply) (result : Result LineReply E)

@@ -6,19 +6,41 @@ use crate::key::Key;
 #[derive(Debug, Drop)]
 pub enum Command {
     /// Makes the handle live with the empty map.
-    Open { handle: u32 },
+    Open {
+        handle: u32,
+    },
     /// Makes the target live with the map of the handle.
-    Snap { handle: u32, target: u32 },
+    Snap {
+        handle: u32,
+        target: u32,
+    },
     /// Closes the handle.
-    Drop { handle: u32 },
+    Drop {
+        handle: u32,
+    },
     /// Asks for the value of the key.
-    Get { handle: u32, key: Key },
+    Get {
+        handle: u32,
+        key: Key,
+    },
     /// Maps the key to the value.
-    Put { handle: u32, key: Key, value: i64 },
+    Put {
+        handle: u32,
+        key: Key,
+        value: i64,
+    },
     /// Maps the key to the value where the key is absent.
-    PutIfAbsent { handle: u32, key: Key, value: i64 },
+    PutIfAbsent {
+        handle: u32,
+        key: Key,
+        value: i64,
+    },
     /// Maps the key to the value where the key is present.
-    Replace { handle: u32, key: Key, value: i64 },
+    Replace {
+        handle: u32,
+        key: Key,
+        value: i64,
+    },
     /// Maps the key to the new value where it is mapped to the old one.
     ReplaceIf {
         handle: u32,
@@ -27,15 +49,30 @@ pub enum Command {
         new: i64,
     },
     /// Removes the key.
-    Remove { handle: u32, key: Key },
+    Remove {
+        handle: u32,
+        key: Key,
+    },
     /// Removes the key where it is mapped to the value.
-    RemoveIf { handle: u32, key: Key, value: i64 },
+    RemoveIf {
+        handle: u32,
+        key: Key,
+        value: i64,
+    },
     /// Asks for the value of the key, and maps the key to this one where there is none.
-    GetOrElse { handle: u32, key: Key, value: i64 },
+    GetOrElse {
+        handle: u32,
+        key: Key,
+        value: i64,
+    },
     /// Asks for the number of pairs.
-    Size { handle: u32 },
+    Size {
+        handle: u32,
+    },
     /// Removes all pairs.
-    Clear { handle: u32 },
+    Clear {
+        handle: u32,
+    },
 }
 
 /// A command, the client that makes it and the number of its line, which counts from 1.

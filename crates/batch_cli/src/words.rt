@@ -53,9 +53,9 @@ fn behind_name<'a>(alloc: Global, words: &[&'a str]) -> Result<Vec<&'a str>, All
 fn grammar<'a>(alloc: Global) -> Result<Command<'a>, AllocError>
     ensures { IfOk result (λ command. app_of command ≡ command_line) }
 {
-    let file = Arg::new(alloc, "file")
-        .value_name("FILE")
-        .help("The script to run; without it, standard input is read");
+    let file = Arg::new(alloc, "file").value_name("FILE").help(
+        "The script to run, by docs/SCRIPT.md; without it, standard input is read",
+    );
     Command::new(alloc, "trierun")
         .about("Runs a script of clients on a table of maps, and prints the reply to each line")
         .arg(file)

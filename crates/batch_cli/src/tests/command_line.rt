@@ -33,7 +33,7 @@ fn help_is_a_text(rt: HostRuntime) -> Result<(), Fail> {
         Usage: trierun [FILE]\n\
         \n\
         Arguments:\n  \
-          [FILE]  The script to run; without it, standard input is read\n\
+          [FILE]  The script to run, by docs/SCRIPT.md; without it, standard input is read\n\
         \n\
         Options:\n  \
           -h, --help  Print help\n";

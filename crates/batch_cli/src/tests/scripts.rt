@@ -1,19 +1,6 @@
 //! Scripts and their replies.
-use super::executed;
+use super::prints;
 use std::test::Fail;
-
-/// Whether the script ends well and prints these lines, and no more.
-fn prints(
-    rt: &(impl std::process::Abort + AllocGlobal),
-    script: &[u8],
-    replies: &str,
-) -> Result<(), Fail> {
-    let (status, out, err) = executed(rt.alloc(), script)?;
-    assert_eq!(rt; out.as_str(), replies);
-    assert_eq!(rt; err.as_str(), "");
-    assert_eq!(rt; status, 0);
-    Ok(())
-}
 
 #[test]
 fn the_empty_script_prints_nothing(rt: HostRuntime) -> Result<(), Fail> {

@@ -1,6 +1,6 @@
 use Rattle.std.proofs.Common.{rules, IfOk}
 use Rattle.batch_cli.specs.Events.{MayStore}
-use Rattle.batch_cli.proofs.RunLemmas.{found_at_once, done_at_once, stored_then}
+use Rattle.batch_cli.proofs.RunLemmas.{done_at_once, stored_then}
 use Rattle.batch_cli.proofs.events.answer.Goals as goal
 
 pub returns-in-GetOrElse-Absent : goal.returns-in-GetOrElse-Absent
@@ -11,8 +11,8 @@ returns-in-GetOrElse-Absent c =
 
 pub returns-in_default : goal.returns-in_default
 returns-in_default c =
-    let here = c.in_default in
-    found_at_once c.args.table.now c.event.new.table c.args.command.now _ here.field-0-0 here.field-1-0 here.field-2-0 c.in_ok-reply.reply here.is-0 here.not-Absent-1 c.in_ok-call.ensures c.in_ok-reply.ensures
+    done_at_once c.args.table.now c.event.new.table c.args.command.now _ c.in_ok-reply.reply (λ h k v is absent. c.in_default.not-Absent-1 absent) c.in_ok-call.ensures c.in_ok-reply.ensures
 
 pub returns-in_default-2 : goal.returns-in_default-2
-returns-in_default-2 c = done_at_once c.args.table.now c.event.new.table c.args.command.now _ c.in_ok-reply.reply c.in_default.not-GetOrElse-0 c.in_ok-call.ensures c.in_ok-reply.ensures
+returns-in_default-2 c =
+    done_at_once c.args.table.now c.event.new.table c.args.command.now _ c.in_ok-reply.reply (λ h k v is absent. c.in_default.not-GetOrElse-0 h k v is) c.in_ok-call.ensures c.in_ok-reply.ensures
