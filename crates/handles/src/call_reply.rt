@@ -2,7 +2,7 @@
 use crate::reply::Reply;
 
 /// What a call is answered where it is not refused.
-#[derive(Debug, Drop)]
+#[derive(Debug, Drop, PartialEq, Eq)]
 pub enum CallReply<V> {
     /// A handle was opened or closed.
     Unit,

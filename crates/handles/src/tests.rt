@@ -1,5 +1,6 @@
 //! What calls of a table answer, by hand.
 mod memory;
+mod operations;
 
 use crate::{Call, CallReply, Command, Limits, Reply, Table};
 use std::alloc::Global;

@@ -41,7 +41,7 @@ fn take_all(alloc: Global) -> Result<Vec<Vec<u8>>, AllocError> {
 }
 
 #[test]
-fn a_snapshot_and_a_get_make_no_request(rt: HostRuntime) -> Result<(), Fail> {
+fn a_snapshot_a_get_and_a_drop_make_no_request(rt: HostRuntime) -> Result<(), Fail> {
     let alloc = rt.alloc();
     let mut table = Table::new(alloc, LARGEST)?;
     table.open(alloc, 1)?;
@@ -57,6 +57,7 @@ fn a_snapshot_and_a_get_make_no_request(rt: HostRuntime) -> Result<(), Fail> {
     let found = table.call(alloc, 2, Command::Get(key));
     let size = table.call(alloc, 2, Command::Size);
     let before = table.call(alloc, 1, Command::Put(again, value));
+    let dropped = table.drop_handle(2);
     drop(taken);
 
     assert_eq!(rt; opened, Err(Refusal::NoMemory));
@@ -64,7 +65,8 @@ fn a_snapshot_and_a_get_make_no_request(rt: HostRuntime) -> Result<(), Fail> {
     assert_eq!(rt; found, five);
     assert_eq!(rt; size, Ok(Reply::Size(1)));
     assert_eq!(rt; before, Err(Refusal::NoMemory));
-    assert_eq!(rt; table.entries(), 5);
+    assert_eq!(rt; dropped, Ok(()));
+    assert_eq!(rt; table.entries(), 6);
     assert_eq!(rt; table.open(alloc, 3), Ok(()));
     Ok(())
 }

@@ -56,17 +56,19 @@ returns-in-Ok-clause-step g c =
     let lives : live_from 0 (maps_in places) ≡ c.args.self.now.live = ap (λ ps. live_from 0 (maps_in ps)) c.deref_mut.ensures.value ∙ ap (λ s. s.live) c.self.view_is in
     let pairs : c.self.inside.limits.pairs ≡ c.args.self.now.limits.pairs = ap (λ s. s.limits.pairs) c.self.view_is in
     let same : is_full R c.self.inside.limits.pairs (unwrap_or (value_at nat_cmp (live_from 0 (maps_in places)) handle) []) command ≡ full_at kind c.args.self.now handle command =
-    (λ i. is_full R (pairs i) (unwrap_or (value_at nat_cmp (lives i) handle) []) command) in
-    (not_refused kind c.args.self.now handle command usable (sym same ∙ c.in-Ok.ensures.full _ _ had), (
-      c.in-Ok.ensures.reply ∙ ap (λ (live : Map ℕ (Map g.row.K.Denot g.row.V.Denot)). reply R g.V.PartialEq.eq (unwrap_or (value_at nat_cmp live handle) []) command) lives,
-      λ i. record {
-        limits = (ap (λ s. s.limits) c.self.view_is) i;
-        live = (back ∙ c.in-Ok.ensures.live ∙ ap (λ (live : Map ℕ (Map g.row.K.Denot g.row.V.Denot)). with_pair nat_cmp live handle (after R g.V.PartialEq.eq (unwrap_or (value_at nat_cmp live handle) []) command)) lives) i;
-        jobs = (ap (λ s. s.jobs) c.self.view_is) i;
-        next = (ap (λ s. s.next) c.self.view_is) i;
-        entries = (ap (λ s. s.entries + 1) c.self.view_is) i;
-      },
-    ))
+    (λ i. is_full R (pairs i) (unwrap_or (value_at nat_cmp (lives i) handle) []) command) in (
+      not_refused kind c.args.self.now handle command usable (sym same ∙ c.in-Ok.ensures.full _ _ had),
+      (
+        c.in-Ok.ensures.reply ∙ ap (λ (live : Map ℕ (Map g.row.K.Denot g.row.V.Denot)). reply R g.V.PartialEq.eq (unwrap_or (value_at nat_cmp live handle) []) command) lives,
+        λ i. record {
+          limits = (ap (λ s. s.limits) c.self.view_is) i;
+          live = (back ∙ c.in-Ok.ensures.live ∙ ap (λ (live : Map ℕ (Map g.row.K.Denot g.row.V.Denot)). with_pair nat_cmp live handle (after R g.V.PartialEq.eq (unwrap_or (value_at nat_cmp live handle) []) command)) lives) i;
+          jobs = (ap (λ s. s.jobs) c.self.view_is) i;
+          next = (ap (λ s. s.next) c.self.view_is) i;
+          entries = (ap (λ s. s.entries + 1) c.self.view_is) i;
+        },
+      ),
+    )
 
 pub returns-in-Err-clause-step : goal.returns-in-Err-clause-step
 returns-in-Err-clause-step g c =
