@@ -1,3 +1,1 @@
-pub mod Ones
 pub mod Walk
-pub mod Bound

@@ -1,16 +1,12 @@
 -- A walk over a trie's nodes.
-use Rattle.std.proofs.Common.{◌≡◌, ℕ, zero, suc, ◌+◌, ◌<◌, ◌≤◌, ◌==◌, Bool, true, false, cond, All, List, [], ◌∷◌, ◌++◌, length, get_or, take, sum_by, count_by, refl, sym, ap, ◌∙◌, subst, arith}
-use Rattle.std.specs.Int.RustNames.{count_ones}
+use Rattle.std.proofs.Common.{◌≡◌, ℕ, zero, suc, ◌+◌, ◌<◌, ◌≤◌, ◌==◌, Bool, true, false, cond, List, [], ◌∷◌, ◌++◌, length, get_or, take, sum_by, refl, sym, ap, ◌∙◌, arith}
 use Rattle.std.proofs.lemmas.List.{take_more, take_all}
 use Rattle.std.proofs.lemmas.List.Sums.{sum_by-cons, sum_by-append, sum_by_push, sum_by-take-le}
 use Rattle.trie_node.specs.Tree.{Tree, branch, bucket, Trees, no_trees, more_trees, digits_of}
 use Rattle.trie_node.specs.Shape.{Fits, AllFit, count_of, nodes_below, nodes_of_all, Nodes, own_count}
 use Rattle.trie_node.specs.Outline.{children, list_of, stamp_of}
-use Rattle.trie_node.specs.Looks.{Shows}
-use Rattle.trie_node.specs.declared.shown.Look.{Look}
-use Rattle.trie_node.specs.declared.shown.Look.TheVariants.{Branch, Pairs}
-use Rattle.generation.specs.Counts.{node_count, count_of_all, own_below, own_of_all, HasPairs, AllHavePairs}
-use Rattle.generation.proofs.Ones.{length_digits_of}
+use Rattle.trie_node.specs.Counts.{node_count, count_of_all, HasPairs, AllHavePairs}
+use Rattle.generation.specs.Owned.{own_below, own_of_all}
 
 bit_le : (b : Bool) → cond b 1 0 ≤ 1
 bit_le true = omega arith
@@ -23,13 +19,6 @@ own_cons : (own stamp : ℕ) (name : List ℕ) (ns : Nodes) → own_count own ((
 own_cons own stamp name ns = sum_by-cons (λ (n : List ℕ × ℕ). cond (n.1 == own) 1 0) (name, stamp) ns
 
 module _ {K V : Type 0} where
-  count_of-list : (ts : Trees K V) → length (list_of ts) ≡ count_of ts
-  count_of-list no_trees = refl
-  count_of-list (more_trees t ts) = ap suc (count_of-list ts)
-
-  pub length_children : (stamp size bitmap : ℕ) (ts : Trees K V) → Fits (branch stamp size bitmap ts) → length (children (branch stamp size bitmap ts)) ≡ count_ones bitmap
-  length_children stamp size bitmap ts fits = count_of-list ts ∙ fits.1 ∙ length_digits_of bitmap fits.0
-
   own_of_all-sum : (own : ℕ) (ts : Trees K V) → own_of_all own ts ≡ sum_by (own_below own) (list_of ts)
   own_of_all-sum own no_trees = refl
   own_of_all-sum own (more_trees t ts) = ap (λ k. own_below own t + k) (own_of_all-sum own ts) ∙ sym (sum_by-cons (own_below own) t (list_of ts))
@@ -63,28 +52,15 @@ module _ {K V : Type 0} where
   pub own_all : (own : ℕ) (t : Tree K V) (n : ℕ) → length (children t) ≤ n → cond (stamp_of t == own) 1 0 + sum_by (own_below own) (take n (children t)) ≡ own_below own t
   own_all own t n le = ap (λ ts. cond (stamp_of t == own) 1 0 + sum_by (own_below own) ts) (take_all n (children t) le) ∙ sym (own_whole own t)
 
-  -- a branch that is looked at has a child for each bit of its bitmap
-  pub shown_children : (t : Tree K V) (bitmap : ℕ) → Shows (Branch bitmap) t → Fits t → length (children t) ≡ count_ones bitmap
-  shown_children (branch stamp size bitmap ts) b shows fits = length_children stamp size bitmap ts fits ∙ ap count_ones (sym shows)
-  shown_children (bucket stamp es) b shows fits = absurd shows
+  fewer_of_all : (ts : Trees K V) (n : ℕ) (c : Tree K V) → n < length (list_of ts) → c ≡ get_or (list_of ts) n c → node_count c ≤ count_of_all ts
+  fewer_of_all no_trees n c lt e = absurd (omega arith)
+  fewer_of_all (more_trees t ts) zero c lt e = omega (arith, ap node_count e)
+  fewer_of_all (more_trees t ts) (suc n) c lt e = omega (arith, fewer_of_all ts n c (omega arith) e)
 
-  -- what the walk needs of a child
-  pub record IsChild (t c : Tree K V) : Type 0 where
-    pub fits : Fits c
-    pub fewer : node_count c < node_count t
-
-  child_of_all : (ts : Trees K V) (n : ℕ) (c : Tree K V) → n < length (list_of ts) → c ≡ get_or (list_of ts) n c → AllFit ts → Fits c × (node_count c ≤ count_of_all ts)
-  child_of_all no_trees n c lt e fit = absurd (omega arith)
-  child_of_all (more_trees t ts) zero c lt e fit = (subst Fits (sym e) fit.0, omega (arith, ap node_count e))
-  child_of_all (more_trees t ts) (suc n) c lt e fit =
-      let rest = child_of_all ts n c (omega arith) e fit.1 in
-      (rest.0, omega (arith, rest.1))
-
-  pub child_is : (t : Tree K V) (n : ℕ) (c : Tree K V) → n < length (children t) → c ≡ get_or (children t) n c → Fits t → IsChild t c
-  child_is (bucket stamp es) n c lt e fit = absurd (omega arith)
-  child_is (branch stamp size bitmap ts) n c lt e fit =
-      let below = child_of_all ts n c lt e fit.3 in
-      record { fits = below.0; fewer = omega (arith, below.1) }
+  -- a child has fewer nodes
+  pub fewer_below : (t : Tree K V) (n : ℕ) (c : Tree K V) → n < length (children t) → c ≡ get_or (children t) n c → node_count c < node_count t
+  fewer_below (bucket stamp es) n c lt e = absurd (omega arith)
+  fewer_below (branch stamp size bitmap ts) n c lt e = omega (arith, fewer_of_all ts n c lt e)
 
   mutual
     -- the walk counts what the list of the nodes has

@@ -85,6 +85,7 @@ impl<K: PathKey + Drop, V: Eq + Drop> Table<K, V> {
         if let Some(refusal) = self.refusal_of_open(handle) {
             return Err(self.refused(refusal));
         }
+        // The stamp that the source issues next, which is taken once there is memory for the root.
         let stamp = Stamp(self.source.issued() + 1);
         let version = Version::empty(alloc, self.limits.pairs, stamp)?;
         self.source.next();

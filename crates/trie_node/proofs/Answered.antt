@@ -1,19 +1,11 @@
 -- What a write under a condition answers, from what it answers one level below.
-use Rattle.std.proofs.Common.{◌≡◌, ℕ, ◌+◌, Bool, true, false, Option, Some, None, is_some, option_map, refl, sym, ap, ◌∙◌, subst, IfSome}
+use Rattle.std.proofs.Common.{◌≡◌, ℕ, Bool, Option, Some, None, is_some, option_map, refl, sym, ap, ◌∙◌, subst, IfSome}
 use Rattle.std.specs.declared.cmp.Ordering.{Ordering}
 use Rattle.std.specs.FinMap.{find}
 use Rattle.trie_node.specs.Tree.{Tree, entries}
 use Rattle.trie_node.specs.Writes.{Writes, WritesWhere}
 
 module _ {K V : Type 0} (R : K → K → Ordering) (path : K → ℕ) (level stamp : ℕ) (k : K) (given : Option V) (holds : Option V → Bool) (old : Tree K V) where
-  -- the condition fails
-  pub nothing_written : (previous : Option V) → previous ≡ find R k (entries old) → holds previous ≡ false → WritesWhere R path level stamp k given holds old previous None
-  nothing_written previous is fails = record { previous_is = is; written = sym fails ∙ ap holds is; writes = tt }
-
-  -- it holds
-  pub all_written : (previous : Option V) → previous ≡ find R k (entries old) → holds previous ≡ true → (new : Tree K V) → Writes R path level stamp k given old new → WritesWhere R path level stamp k given holds old previous (Some new)
-  all_written previous is passes new writes = record { previous_is = is; written = sym passes ∙ ap holds is; writes = writes }
-
   module _ (below : ℕ) (child : Tree K V) (same : find R k (entries old) ≡ find R k (entries child)) (previous : Option V) (new : Option (Tree K V)) (w : WritesWhere R path below stamp k given holds child previous new) where
     -- nothing was written below
     pub nothing_raised : new ≡ None → WritesWhere R path level stamp k given holds old previous None
@@ -34,3 +26,7 @@ is_some_mapped f None = refl
 pub if_some_mapped : {A B : Type 0} (f : A → B) (o : Option A) (P : B → Type 0) (Q : A → Type 0) → ((x : A) → P (f x) → Q x) → IfSome (option_map f o) P → IfSome o Q
 if_some_mapped f (Some x) P Q h p = h x p
 if_some_mapped f None P Q h p = tt
+
+pub some_mapped : {A B : Type 0} (f : A → B) (o : Option A) (P : A → Type 0) (Q : B → Type 0) → ((x : A) → P x → Q (f x)) → IfSome o P → IfSome (option_map f o) Q
+some_mapped f (Some x) P Q h p = h x p
+some_mapped f None P Q h p = tt

@@ -3,6 +3,7 @@ use Rattle.std.proofs.Common.{◌≡◌, ℕ, zero, suc, ◌+◌, ◌*◌, ◌/�
 use Rattle.std.specs.Int.{bit_at, bit_not, w32}
 use Rattle.std.proofs.lemmas.Bool.{ltb-true, ltb-false}
 use Rattle.std.specs.Int.RustNames.{count_ones, bit_and}
+use Rattle.std.proofs.Math.Nat.{mod-eq_of_lt}
 use Rattle.std.proofs.lemmas.Nat.{mod-pow-add, ones_cat, and_le_l}
 use Rattle.std.proofs.lemmas.Nat.Bits.{bit_at-suc, bit_at_above, bit_at_clear_other, bit_at_lowest, same_from_bits}
 use Rattle.hash_path.specs.Digits.{digit}
@@ -139,3 +140,13 @@ once_from (suc count) d m =
 pub once_each : (m : ℕ) → IsOnceEach (digits_of m)
 unfolding digits_of
 once_each m = once_from 32 0 m
+
+digits_length : (count d m : ℕ) → length (digits_from count d m) ≡ count_ones (m % 2 ^ count)
+digits_length zero d m = sym (ap count_ones {x = m % 1} {y = 0} (omega arith) ∙ ones_bit 0 (omega arith))
+digits_length (suc count) d m =
+    cond_length (m % 2 == 1) d (digits_from count (d + 1) (m / 2)) ∙ ap (λ k. k + cond (m % 2 == 1) 1 0) (digits_length count (d + 1) (m / 2)) ∙ sym (ones_step m count)
+
+-- a bitmap has as many digits as bits
+pub length-digits_of : (m : ℕ) → m < 2 ^ 32 → length (digits_of m) ≡ count_ones m
+unfolding digits_of
+length-digits_of m small = digits_length 32 0 m ∙ ap count_ones (mod-eq_of_lt small)

@@ -1,17 +1,17 @@
 -- What a write below one child does to a branch.
-use Rattle.std.proofs.Common.{◌≡◌, ℕ, ◌+◌, ◌-◌, ◌*◌, ◌<◌, ◌≤◌, Bool, true, false, cond, ◌==◌, ◌&&◌, ◌%◌, ◌^◌, List, [], ◌∷◌, ◌++◌, length, Option, Some, None, is_some, refl, sym, ap, ◌∙◌, subst, arith, length-append, get_or, set, nat_eq}
+use Rattle.std.proofs.Common.{◌≡◌, ℕ, ◌+◌, ◌-◌, ◌*◌, ◌<◌, ◌≤◌, Bool, true, false, cond, ◌==◌, ◌%◌, ◌^◌, List, [], ◌∷◌, ◌++◌, length, Option, Some, None, is_some, refl, sym, ap, ◌∙◌, subst, arith, length-append, get_or, set, nat_eq}
 use mathlib.Core.Bool.{false≢true}
 use Rattle.std.specs.Bool.{MatchBool}
 use Rattle.std.specs.List.{Contains, insert, remove, starts_with}
 use Rattle.std.proofs.lemmas.List.Elements.{All-cons, All-nil}
 use Rattle.std.specs.declared.cmp.Ordering.{Ordering}
-use Rattle.std.specs.declared.cmp.Ordering.TheVariants.{Less, Equal, Greater}
-use Rattle.std.specs.Ordering.{eq_by_cmp, is_eq}
+use Rattle.std.specs.declared.cmp.Ordering.TheVariants.{Equal}
+use Rattle.std.specs.Ordering.{eq_by_cmp}
 use Rattle.std.specs.Cmp.{IsTotalOrder}
 use Rattle.std.specs.FinMap.{find}
 use Rattle.std.specs.Int.{bit_at, bit_not, w32}
 use Rattle.std.specs.Int.RustNames.{count_ones, bit_and, bit_or}
-use Rattle.std.proofs.lemmas.Bool.{eq-eqb}
+use Rattle.std.proofs.lemmas.Bool.{and_from, eq-eqb}
 use Rattle.std.proofs.lemmas.Nat.{or_lt, and_le_l}
 use Rattle.std.proofs.lemmas.Nat.Bits.{bit_at_set_same, bit_at_set_other, bit_at_clear_same}
 use Rattle.std.proofs.lemmas.List.{get_or_at, set_at}
@@ -22,19 +22,11 @@ use Rattle.trie_node.specs.Shape.{Nodes, Lacks, nodes_below, nodes_of_all, IsRes
 use Rattle.trie_node.specs.Roots.{word_of}
 use Rattle.trie_node.specs.Writes.{Writes}
 use Rattle.trie_node.proofs.Bits.{bit_at_clear_others}
-use Rattle.trie_node.proofs.Tries.{or_else, join, entries_append, find_append, find_lacking, at_child, at_gap}
+use Rattle.trie_node.proofs.Tries.{or_else, or_none, join, entries_append, find_append, find_lacking, at_child, at_gap}
 use Rattle.trie_node.proofs.Restamps.{restamps_between, restamps_branch, nodes_append}
 use Rattle.trie_node.proofs.Spell.{starts_snoc}
+use Rattle.trie_node.proofs.Finds.{tied}
 use Rattle.trie_node.proofs.Passing.{passes_none_lacking, begins_itself}
-
-pub tied : (r : Ordering) → is_eq r ≡ true → r ≡ Equal
-tied Less e = absurd (false≢true e)
-tied Equal e = refl
-tied Greater e = absurd (false≢true e)
-
-or_none : {A : Type 0} (o : Option A) → or_else o None ≡ o
-or_none (Some x) = refl
-or_none None = refl
 
 -- what is given instead of the middle of three answers, where the others have none
 among : {A : Type 0} (b : Bool) (given first middle last : Option A) → (b ≡ true → first ≡ None) → (b ≡ true → last ≡ None) →
@@ -45,10 +37,6 @@ among false given first middle last no_first no_last = refl
 still : {A : Type 0} (b : Bool) (v : A) (o : Option A) → is_some o ≡ true → is_some (cond b (Some v) o) ≡ true
 still true v o e = refl
 still false v o e = e
-
-both : (a b : Bool) → a ≡ true → b ≡ true → (a && b) ≡ true
-both true b e f = f
-both false b e f = absurd (false≢true e)
 
 restamps_same : (stamp : ℕ) (w : List ℕ) (olds olds2 news news2 : Nodes) → olds ≡ olds2 → news ≡ news2 → Restamps stamp w olds news → Restamps stamp w olds2 news2
 restamps_same stamp w olds olds2 news news2 e f h = subst (λ ns. Restamps stamp w ns news2) e (subst (Restamps stamp w olds) f h)
@@ -114,8 +102,8 @@ module _ {K V : Type 0} (R : K → K → Ordering) (path : K → ℕ) (total : I
         let back = nodes_of_all (word_of path) p as_ (trees ys) in
         restamps_branch stamp before (word_of path k) p (front ++ (old ++ back)) (front ++ (new ++ back)) on
         (restamps_between stamp (word_of path k) front back old new
-        (passes_none_lacking R path total (path k) level lt p deep bs xs (subst (λ x. Lacks x bs) (sym here) lacks_before) xs_ok)
-        (passes_none_lacking R path total (path k) level lt p deep as_ ys (subst (λ x. Lacks x as_) (sym here) lacks_after) ys_ok)
+        (passes_none_lacking R path total exact (path k) level lt p deep bs xs (subst (λ x. Lacks x bs) (sym here) lacks_before) xs_ok)
+        (passes_none_lacking R path total exact (path k) level lt p deep as_ ys (subst (λ x. Lacks x as_) (sym here) lacks_after) ys_ok)
         h)
 
     -- a branch where the pairs and the nodes of one child change as the write says
@@ -142,7 +130,7 @@ module _ {K V : Type 0} (R : K → K → Ordering) (path : K → ℕ) (total : I
 
   -- the digits that lead to a child of the key's digit lead to the key
   leads_on : (p : List ℕ) → level < 7 → length p ≡ level → starts_with nat_eq (word_of path k) p ≡ true → (d : ℕ) → digit (path k) level ≡ d → starts_with nat_eq (word_of path k) (p ++ d ∷ []) ≡ true
-  leads_on p lt deep on d here = starts_snoc (path k) p d (omega arith) ∙ both _ _ on (eq-eqb d (digit (path k) (length p)) (sym (ap (digit (path k)) deep ∙ here)))
+  leads_on p lt deep on d here = starts_snoc (path k) p d (omega arith) ∙ and_from _ _ on (eq-eqb d (digit (path k) (length p)) (sym (ap (digit (path k)) deep ∙ here)))
 
   -- what a write does to the nodes of the child
   below_child : (d : ℕ) → digit (path k) level ≡ d → level < 7 → (t u : Tree K V) → Writes R path (level + 1) stamp k given t u →

@@ -1,5 +1,5 @@
 -- How many nodes a trie of so many pairs has.
-use Rattle.std.proofs.Common.{◌≡◌, ℕ, zero, suc, ◌+◌, ◌*◌, ◌<◌, ◌≤◌, Bool, true, false, List, [], ◌∷◌, ◌++◌, length, is_some, refl, sym, ap, ◌∙◌, subst, arith, length-append, mul-add, suc-mul}
+use Rattle.std.proofs.Common.{◌≡◌, ℕ, zero, suc, ◌+◌, ◌*◌, ◌<◌, ◌≤◌, true, List, [], ◌∷◌, ◌++◌, length, is_some, refl, sym, ap, ◌∙◌, subst, arith, length-append, mul-add, suc-mul}
 use Rattle.std.specs.declared.cmp.Ordering.{Ordering}
 use Rattle.std.specs.FinMap.{find}
 use Rattle.trie_node.specs.Tree.{Tree, branch, bucket, Trees, no_trees, more_trees, digits_of, entries, entries_of_all, IsTrie, AreTries}

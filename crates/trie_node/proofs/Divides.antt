@@ -1,5 +1,5 @@
 -- A trie divides the pairs of its map by their digits, and a tree that so divides them is a trie.
-use Rattle.std.proofs.Common.{◌≡◌, ℕ, suc, ◌+◌, ◌<◌, ◌≤◌, ◌≢◌, ◌^◌, ◌==◌, ◌⊎◌, Bool, true, false, cond, ◌&&◌, T, List, [], ◌∷◌, ◌++◌, length, Option, Some, None, is_some, refl, sym, ap, ◌∙◌, subst, arith, inl, inr, nat_eq, true≢false, length-append, eq-eqb, eqb-true}
+use Rattle.std.proofs.Common.{◌≡◌, ℕ, suc, ◌+◌, ◌<◌, ◌≤◌, ◌≢◌, ◌^◌, ◌==◌, ◌⊎◌, Bool, true, false, cond, ◌&&◌, T, List, [], ◌∷◌, ◌++◌, length, Option, None, is_some, refl, sym, ap, ◌∙◌, subst, arith, inl, inr, nat_eq, true≢false, length-append, eq-eqb, eqb-true}
 use Rattle.std.specs.declared.cmp.Ordering.{Ordering}
 use Rattle.std.specs.declared.cmp.Ordering.TheVariants.{Equal}
 use Rattle.std.specs.Cmp.{IsTotalOrder}
@@ -12,7 +12,7 @@ use Rattle.hash_path.specs.Digits.{digit, spelled}
 use Rattle.trie_node.specs.Tree.{Tree, branch, bucket, Trees, no_trees, more_trees, digits_of, entries, entries_of_all, IsTrie, AreTries, HasTwoWords, KeysHaveDigit, KeysHaveWord}
 use Rattle.trie_node.specs.Shape.{beginning, has_two_words, is_branch, is_empty, Lacks, Hangs, AllHang, Fits, AllFit, count_of}
 use Rattle.trie_node.specs.Roots.{word_of}
-use Rattle.trie_node.proofs.Tries.{or_else, find_append, find_other}
+use Rattle.trie_node.proofs.Tries.{or_else, or_none, find_append, find_other}
 use Rattle.trie_node.proofs.Apart.{find_lacking_all}
 use Rattle.trie_node.proofs.Unique.{Rising, rises, rising_lacks}
 use Rattle.trie_node.proofs.Spell.{starts_snoc, spelled_tells}
@@ -23,10 +23,6 @@ both_tests : {A : Type 0} (a b : Bool) (x y : A) → cond (a && b) x y ≡ cond 
 both_tests true b x y = refl
 both_tests false true x y = refl
 both_tests false false x y = refl
-
-or_none : {A : Type 0} (o : Option A) → or_else o None ≡ o
-or_none (Some x) = refl
-or_none None = refl
 
 only_true : {A : Type 0} (b : Bool) (o : Option A) → is_some (cond b o None) ≡ true → b ≡ true
 only_true true o e = refl

@@ -1,10 +1,10 @@
 -- The tree of the empty map.
-use Rattle.std.proofs.Common.{◌≡◌, ℕ, Bool, true, false, ◌&&◌, not, List, [], ◌∷◌, length, refl, sym, ap, ◌∙◌, lit<, arith, if◌then◌else◌}
+use Rattle.std.proofs.Common.{◌≡◌, ℕ, Bool, true, false, ◌&&◌, List, [], ◌∷◌, length, refl, sym, ap, ◌∙◌, lit<, arith, if◌then◌else◌}
 use Rattle.std.specs.declared.cmp.Ordering.{Ordering}
 use Rattle.std.specs.FinMap as std
 use Rattle.trie_node.specs.Map.{Map}
 use Rattle.trie_node.specs.Tree.{Tree, branch, no_trees, digits_of}
-use Rattle.trie_node.specs.Shape.{Spot, no_node, pairs, spot, spot_at, spot_below, is_branch, but_last, HasShape}
+use Rattle.trie_node.specs.Shape.{no_node, pairs, spot, spot_at, spot_below, is_branch, but_last}
 use Rattle.trie_node.specs.Roots.{listed, map_of, word_of, IsRoot}
 
 and_false : (b : Bool) → b && false ≡ false

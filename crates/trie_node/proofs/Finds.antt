@@ -15,7 +15,7 @@ use Rattle.trie_node.specs.Shape.{has_two_words}
 use Rattle.trie_node.specs.Roots.{word_of}
 use Rattle.trie_node.proofs.Spell.{spelled_tells}
 
-tied : (r : Ordering) → is_eq r ≡ true → r ≡ Equal
+pub tied : (r : Ordering) → is_eq r ≡ true → r ≡ Equal
 tied Less e = cc
 tied Equal e = refl
 tied Greater e = cc

@@ -9,16 +9,8 @@ use Rattle.std.proofs.lemmas.Bool.Decides.{eqb_tells}
 use Rattle.trie_node.specs.Tree.{Tree, branch, bucket, Trees, no_trees, more_trees, digits_of}
 use Rattle.std.specs.Prelude.{bytes_eq}
 use Rattle.trie_node.specs.Shape.{no_node, a_branch, pairs, spot_at, spot_below, but_last, is_empty, beginning, has_two_words, is_branch, spot, Lacks, Hangs, AllHang, Fits, count_of, AllFit, HasShape}
+use Rattle.trie_node.proofs.InOrder.{starts_longer}
 use Rattle.trie_node.proofs.Unique.{Rising, rises, at_head, at_tail, spot_lacking}
-
-and_false : (a b c : Bool) → (b ≡ false → c ≡ false) → (a && b) ≡ false → (a && c) ≡ false
-and_false true b c h e = h e
-and_false false b c h e = refl
-
-starts_longer : (xs p q : List ℕ) → starts_with nat_eq xs p ≡ false → starts_with nat_eq xs (p ++ q) ≡ false
-starts_longer xs [] q e = cc
-starts_longer [] (d ∷ p) q e = refl
-starts_longer (x ∷ xs) (d ∷ p) q e = and_false (nat_eq d x) (starts_with nat_eq xs p) (starts_with nat_eq xs (p ++ q)) (starts_longer xs p q) e
 
 any_all : {X : Type 0} (p : X → Bool) (xs : List X) → list_any p xs ≡ false → All (λ x. p x ≡ false) xs
 any_all p [] e = All-nil (λ x. p x ≡ false)

@@ -28,3 +28,4 @@ pub mod Ordered
 pub mod Counts
 pub mod Shortened
 pub mod Removing
+pub mod Children

@@ -1,5 +1,5 @@
 -- A branch that the code has opened, and its child of a digit.
-use Rattle.std.proofs.Common.{◌≡◌, ℕ, ◌+◌, ◌*◌, ◌<◌, ◌≤◌, ◌==◌, ◌%◌, ◌^◌, true, false, List, length, map, Option, None, is_some, refl, sym, ap, ◌∙◌, subst, arith, get_or, Vec, Global, ◌∷◌, ◌++◌, length-append}
+use Rattle.std.proofs.Common.{◌≡◌, ℕ, ◌+◌, ◌*◌, ◌<◌, ◌≤◌, ◌==◌, ◌%◌, ◌^◌, true, false, List, length, map, None, is_some, sym, ap, ◌∙◌, subst, arith, get_or, Vec, Global, ◌∷◌, ◌++◌, length-append}
 use Rattle.std.proofs.lemmas.List.{length-map, get_or-map, get_or_at}
 use Rattle.std.specs.declared.cmp.Ordering.{Ordering}
 use Rattle.std.specs.declared.cmp.Ordering.TheVariants.{Equal}
@@ -15,7 +15,7 @@ use Rattle.trie_node.specs.declared.node.Node.{Node}
 use Rattle.trie_node.specs.declared.node.Inner.{Inner}
 use Rattle.trie_node.specs.declared.node.Inner.TheVariants.{Branch}
 use Rattle.trie_node.proofs.Bits.{agree_more}
-use Rattle.trie_node.proofs.Tries.{at_child, at_gap, no_child, one_child, place_within, entries_append}
+use Rattle.trie_node.proofs.Tries.{at_child, no_child, one_child, place_within, entries_append}
 use Rattle.trie_node.proofs.Views.{tree-Branch}
 
 -- the node is a branch of these children

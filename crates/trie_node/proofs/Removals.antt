@@ -1,5 +1,5 @@
 -- What is left of a trie by a removal is a trie.
-use Rattle.std.proofs.Common.{◌≡◌, ℕ, zero, suc, ◌+◌, ◌<◌, ◌≤◌, ◌≢◌, Bool, true, false, cond, List, [], ◌∷◌, ◌++◌, length, Option, Some, None, is_some, refl, sym, ap, ◌∙◌, subst, arith, length-append, get_or, set, ◌==◌, ◌&&◌, ◌%◌, ◌^◌, ◌*◌}
+use Rattle.std.proofs.Common.{◌≡◌, ℕ, zero, suc, ◌+◌, ◌<◌, ◌≢◌, Bool, true, false, cond, List, [], ◌∷◌, length, Option, Some, None, is_some, refl, sym, ap, ◌∙◌, subst, arith, length-append, get_or, set, ◌==◌, ◌&&◌, ◌%◌, ◌^◌, ◌*◌}
 use Rattle.std.specs.List.{remove}
 use Rattle.std.specs.Int.{bit_at, bit_not, w32}
 use Rattle.std.specs.Int.RustNames.{count_ones, bit_and}
@@ -18,9 +18,9 @@ use Rattle.trie_node.specs.Roots.{word_of}
 use Rattle.trie_node.specs.Writes.{Writes}
 use Rattle.trie_node.specs.Removals.{is_bucket, drawn_up, is_removable, IsTaken, IsOnly, Leaves}
 use Rattle.trie_node.proofs.Bits.{IsOnceEach, once_each}
-use Rattle.trie_node.proofs.Finds.{found_first}
+use Rattle.trie_node.proofs.Finds.{found_first, tied}
 use Rattle.trie_node.proofs.Passing.{found_before, found_after}
-use Rattle.trie_node.proofs.Branches.{Changes, tied, writes_of_two, changes_replaced, changes_dropped}
+use Rattle.trie_node.proofs.Branches.{Changes, writes_of_two, changes_replaced, changes_dropped}
 use Rattle.trie_node.proofs.Tries.{no_child, one_child}
 
 -- a branch that is drawn up, and one that is not

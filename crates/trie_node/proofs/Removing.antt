@@ -1,5 +1,5 @@
 -- What a removal below an opened branch does to the branch.
-use Rattle.std.proofs.Common.{◌≡◌, ℕ, ◌+◌, ◌-◌, ◌*◌, ◌<◌, ◌≤◌, ◌==◌, ◌%◌, ◌^◌, Bool, true, false, List, map, set, length, Option, None, get_or, sym, ap, ◌∙◌, subst, arith}
+use Rattle.std.proofs.Common.{◌≡◌, ℕ, ◌+◌, ◌-◌, ◌*◌, ◌<◌, ◌==◌, ◌%◌, ◌^◌, Bool, true, false, List, map, set, Option, None, get_or, sym, ap, ◌∙◌, subst, arith}
 use Rattle.std.specs.List.{remove}
 use Rattle.std.specs.declared.cmp.Ordering.{Ordering}
 use Rattle.std.specs.declared.cmp.Ordering.TheVariants.{Equal}
@@ -8,7 +8,7 @@ use Rattle.std.specs.FinMap.{find}
 use Rattle.std.specs.Int.{bit_at, bit_not, w32}
 use Rattle.std.specs.Int.RustNames.{count_ones, bit_and}
 use Rattle.hash_path.specs.Digits.{digit}
-use Rattle.trie_node.specs.Tree.{branch, trees, entries, IsTrie}
+use Rattle.trie_node.specs.Tree.{branch, trees, entries}
 use Rattle.trie_node.specs.View.{tree}
 use Rattle.trie_node.specs.Removals.{drawn_up, is_removable, IsTaken, IsOnly, Leaves}
 use Rattle.trie_node.specs.declared.node.Node.{Node}

@@ -1,8 +1,8 @@
 -- A put of a key of another word than the pairs of a leaf or bucket: a branch above two words.
-use Rattle.std.proofs.Common.{◌≡◌, ◌≢◌, ℕ, zero, suc, ◌+◌, ◌*◌, ◌<◌, ◌≤◌, ◌==◌, ◌%◌, ◌^◌, Bool, true, false, cond, List, [], ◌∷◌, ◌++◌, length, map, Option, Some, None, is_some, get_or, set, refl, sym, ap, ◌∙◌, subst, inl, inr, arith, nat_eq, length-append}
+use Rattle.std.proofs.Common.{◌≡◌, ◌≢◌, ℕ, zero, suc, ◌+◌, ◌*◌, ◌<◌, ◌≤◌, ◌==◌, ◌%◌, ◌^◌, Bool, true, false, cond, List, [], ◌∷◌, ◌++◌, length, Option, Some, is_some, get_or, set, refl, sym, ap, ◌∙◌, subst, inl, inr, arith, nat_eq, length-append}
 use mathlib.Core.Bool.{false≢true}
 use Rattle.std.specs.Bool.{MatchBool}
-use Rattle.std.specs.List.{All, Contains, insert, starts_with}
+use Rattle.std.specs.List.{Contains, insert, starts_with}
 use Rattle.std.specs.declared.cmp.Ordering.{Ordering}
 use Rattle.std.specs.declared.cmp.Ordering.TheVariants.{Equal}
 use Rattle.std.specs.Ordering.{eq_by_cmp, is_eq}
@@ -16,13 +16,13 @@ use Rattle.std.proofs.lemmas.List.{append-nil}
 use Rattle.std.proofs.lemmas.List.Elements.{Contains-append_cases}
 use Rattle.std.proofs.lemmas.Nat.Bits.{bit_at-zero, bit_at_set_same, bit_at_set_other}
 use Rattle.hash_path.specs.Digits.{digit}
-use Rattle.trie_node.specs.Tree.{Tree, branch, bucket, no_trees, more_trees, trees, entries, digits_of, KeysHaveWord, HasTwoWords, IsTrie, AreTries}
+use Rattle.trie_node.specs.Tree.{Tree, branch, bucket, trees, entries, digits_of, KeysHaveWord, HasTwoWords, IsTrie, AreTries}
 use Rattle.trie_node.specs.Shape.{Nodes, nodes_below, nodes_of_all, IsRestamped, Restamps}
 use Rattle.trie_node.specs.Roots.{word_of}
 use Rattle.trie_node.specs.Writes.{Writes}
 use Rattle.trie_node.proofs.Bits.{digits_around}
 use Rattle.trie_node.proofs.Tries.{at_child, place_within}
-use Rattle.trie_node.proofs.Branches.{Changes, IsNearlyTrie, nearly_replaced, nearly_added, writes_of_two, puts_leaf, two_kept}
+use Rattle.trie_node.proofs.Branches.{Changes, IsNearlyTrie, nearly_replaced, nearly_added, writes_of_two, puts_leaf}
 use Rattle.trie_node.proofs.Empty.{no_digits}
 use Rattle.trie_node.proofs.Finds.{found_first}
 

@@ -1,5 +1,5 @@
 -- A pair taken out of sorted pairs.
-use Rattle.std.proofs.Common.{◌≡◌, ℕ, zero, suc, ◌+◌, ◌<◌, ◌≤◌, Bool, true, false, not, cond, T, ◌&&◌, ◌==◌, List, [], ◌∷◌, length, map, drop, drop-cons, get_or, Option, Some, None, is_some, refl, sym, ap, ◌∙◌, subst, arith, nat_eq}
+use Rattle.std.proofs.Common.{◌≡◌, ℕ, zero, suc, ◌<◌, Bool, true, false, not, cond, T, ◌&&◌, ◌==◌, List, [], ◌∷◌, length, map, drop, drop-cons, get_or, Option, Some, None, is_some, refl, sym, ap, ◌∙◌, subst, arith, nat_eq}
 use mathlib.Core.Bool.{false≢true}
 use Rattle.std.specs.Bool.{MatchBool}
 use Rattle.std.specs.List.{Contains, remove, starts_with}
@@ -19,18 +19,10 @@ use Rattle.trie_node.specs.Roots.{listed, word_of}
 use Rattle.trie_node.specs.Writes.{Writes}
 use Rattle.trie_node.specs.Removals.{IsAt, IsOnly}
 use Rattle.trie_node.proofs.Shortened.{remove_only}
-use Rattle.trie_node.proofs.Finds.{found_first}
+use Rattle.trie_node.proofs.InOrder.{left_of, right_of}
+use Rattle.trie_node.proofs.Finds.{found_first, tied}
 use Rattle.trie_node.proofs.Listings.{find_without, find_listed, without_listed}
 use Rattle.trie_node.proofs.Passing.{begins_itself}
-use Rattle.trie_node.proofs.Branches.{tied}
-
-both_left : (a b : Bool) → T (a && b) → T a
-both_left true b h = tt
-both_left false b h = h
-
-both_right : (a b : Bool) → T (a && b) → T b
-both_right true b h = h
-both_right false b h = absurd h
 
 not_tied : (r : Ordering) → T (is_lt r) → is_eq r ≡ false
 not_tied Less h = refl
@@ -42,13 +34,13 @@ module _ {K V : Type 0} (R : K → K → Ordering) (path : K → ℕ) (total : I
   where_above : (k : K) (es : List (K × V)) → T (below_all R k es) → where_key R (is_other R k) es ≡ es
   where_above k [] h = refl
   where_above k (e ∷ es) h =
-      let other : is_other R k e.0 ≡ true = ap not (not_tied (R k e.0) (both_left (is_lt (R k e.0)) (below_all R k es) h)) in
-      ap (λ b. cond b (e ∷ where_key R (is_other R k) es) (where_key R (is_other R k) es)) other ∙ ap (λ xs. e ∷ xs) (where_above k es (both_right (is_lt (R k e.0)) (below_all R k es) h))
+      let other : is_other R k e.0 ≡ true = ap not (not_tied (R k e.0) (left_of (is_lt (R k e.0)) (below_all R k es) h)) in
+      ap (λ b. cond b (e ∷ where_key R (is_other R k) es) (where_key R (is_other R k) es)) other ∙ ap (λ xs. e ∷ xs) (where_above k es (right_of (is_lt (R k e.0)) (below_all R k es) h))
 
   below_at : (x : K) (es : List (K × V)) (i : ℕ) (d : K × V) → i < length es → T (below_all R x es) → T (is_lt (R x (get_or es i d).0))
   below_at x [] i d lt h = absurd (omega arith)
-  below_at x (e ∷ es) zero d lt h = both_left (is_lt (R x e.0)) (below_all R x es) h
-  below_at x (e ∷ es) (suc i) d lt h = below_at x es i d (omega arith) (both_right (is_lt (R x e.0)) (below_all R x es) h)
+  below_at x (e ∷ es) zero d lt h = left_of (is_lt (R x e.0)) (below_all R x es) h
+  below_at x (e ∷ es) (suc i) d lt h = below_at x es i d (omega arith) (right_of (is_lt (R x e.0)) (below_all R x es) h)
 
   -- to take out the pair of a key is to keep the pairs of all others
   where_taken : (k : K) (es : List (K × V)) (i : ℕ) (d : K × V) → T (is_sorted R es) → i < length es → k ≡ (get_or es i d).0 → where_key R (is_other R k) es ≡ remove es i
@@ -56,12 +48,12 @@ module _ {K V : Type 0} (R : K → K → Ordering) (path : K → ℕ) (total : I
   where_taken k (x ∷ es) zero d sorted lt e =
       let tie : is_other R k x.0 ≡ false = ap (λ y. not (eq_by_cmp R y x.0)) e ∙ ap (λ r. not (is_eq r)) (tied_itself total x.0) in
       ap (λ b. cond b (x ∷ where_key R (is_other R k) es) (where_key R (is_other R k) es)) tie
-      ∙ where_above k es (subst (λ y. T (below_all R y es)) (sym e) (both_left (below_all R x.0 es) (is_sorted R es) sorted))
+      ∙ where_above k es (subst (λ y. T (below_all R y es)) (sym e) (left_of (below_all R x.0 es) (is_sorted R es) sorted))
   where_taken k (x ∷ es) (suc i) d sorted lt e =
-      let above : T (is_lt (R x.0 k)) = subst (λ y. T (is_lt (R x.0 y))) (sym e) (below_at x.0 es i d (omega arith) (both_left (below_all R x.0 es) (is_sorted R es) sorted)) in
+      let above : T (is_lt (R x.0 k)) = subst (λ y. T (is_lt (R x.0 y))) (sym e) (below_at x.0 es i d (omega arith) (left_of (below_all R x.0 es) (is_sorted R es) sorted)) in
       let other : is_other R k x.0 ≡ true = ap not (apart (eq_by_cmp R k x.0) refl above) in
       ap (λ b. cond b (x ∷ where_key R (is_other R k) es) (where_key R (is_other R k) es)) other
-      ∙ ap (λ xs. x ∷ xs) (where_taken k es i d (both_right (below_all R x.0 es) (is_sorted R es) sorted) (omega arith) e)
+      ∙ ap (λ xs. x ∷ xs) (where_taken k es i d (right_of (below_all R x.0 es) (is_sorted R es) sorted) (omega arith) e)
     where
       apart : (b : Bool) → eq_by_cmp R k x.0 ≡ b → T (is_lt (R x.0 k)) → eq_by_cmp R k x.0 ≡ false
       apart true tie lt2 = absurd (false≢true (sym (not_tied (R x.0 k) lt2) ∙ ap (λ y. is_eq (R x.0 y)) (exact k x.0 (tied (R k x.0) tie)) ∙ ap is_eq (tied_itself total x.0)))

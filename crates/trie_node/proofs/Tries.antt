@@ -18,6 +18,10 @@ abbrev pub or_else : {A : Type 0} → Option A → Option A → Option A
 or_else (Some x) y = Some x
 or_else None y = y
 
+pub or_none : {A : Type 0} (o : Option A) → or_else o None ≡ o
+or_none (Some x) = refl
+or_none None = refl
+
 -- two lists of trees that stand for a list of digits and more digits
 pub record Parted {K V : Type 0} (R : K → K → Ordering) (path : K → ℕ) (level : ℕ) (bs ds : List ℕ) (ts : List (Tree K V)) : Type 0 where
   pub front : List (Tree K V)
@@ -82,10 +86,6 @@ module _ {K V : Type 0} (R : K → K → Ordering) (path : K → ℕ) where
         ∙ find_append q (entries t) (entries_of_all (trees ys))
         ∙ ap (or_else (find R q (entries t))) (find_lacking level q as_ ys la h)
         ∙ or_none (find R q (entries t))
-      where
-        or_none : (o : Option V) → or_else o None ≡ o
-        or_none (Some x) = refl
-        or_none None = refl
 
     -- and where no child has the digit, nowhere
     pub find_gap : (level : ℕ) (q : K) (bs as_ : List ℕ) (xs ys : List (Tree K V)) →

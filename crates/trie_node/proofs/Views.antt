@@ -1,7 +1,6 @@
 -- The tree of a branch from its children.
-use Rattle.std.specs.List.{insert}
-use Rattle.std.proofs.Common.{◌≡◌, ℕ, zero, suc, List, [], ◌∷◌, map, refl, ap, ◌∙◌, sym, Vec, Global, Result, Ok, Err, IfOk}
-use Rattle.trie_node.specs.Tree.{Tree, branch, bucket, Trees, no_trees, more_trees, trees, entries}
+use Rattle.std.proofs.Common.{◌≡◌, ℕ, List, [], ◌∷◌, map, refl, ap, ◌∙◌, sym, Vec, Global, Result, Ok, Err, IfOk}
+use Rattle.trie_node.specs.Tree.{Tree, branch, more_trees, trees}
 use Rattle.trie_node.specs.Outline.{children, list_of}
 use Rattle.trie_node.specs.View.{tree_of, trees_of_row, tree}
 use Rattle.trie_node.specs.declared.basics.Stamp.{Stamp}

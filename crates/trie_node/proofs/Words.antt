@@ -1,5 +1,5 @@
 -- A put among pairs of one word.
-use Rattle.std.proofs.Common.{◌≡◌, ℕ, ◌+◌, ◌<◌, ◌≤◌, ◌^◌, Bool, true, false, cond, List, [], ◌∷◌, length, get_or, Option, Some, None, is_some, refl, sym, ap, ◌∙◌, subst, arith}
+use Rattle.std.proofs.Common.{◌≡◌, ℕ, ◌+◌, ◌<◌, ◌≤◌, ◌^◌, Bool, true, false, cond, List, [], ◌∷◌, length, get_or, Some, None, is_some, refl, sym, ap, ◌∙◌, subst, arith}
 use mathlib.Core.Bool.{false≢true}
 use Rattle.std.specs.declared.cmp.Ordering.{Ordering}
 use Rattle.std.specs.declared.cmp.Ordering.TheVariants.{Less, Equal, Greater}
@@ -11,7 +11,7 @@ use Rattle.trie_node.specs.Tree.{bucket, KeysHaveWord, IsTrie}
 use Rattle.trie_node.specs.Shape.{nodes_below}
 use Rattle.trie_node.specs.Roots.{word_of}
 use Rattle.trie_node.specs.Writes.{Writes}
-use Rattle.trie_node.proofs.Branches.{tied}
+use Rattle.trie_node.proofs.Finds.{tied}
 use Rattle.trie_node.proofs.Finds.{found_first}
 use Rattle.trie_node.proofs.Taken.{stamped}
 

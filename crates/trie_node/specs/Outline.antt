@@ -1,7 +1,5 @@
 -- What a node shows of itself: its stamp, its children, and its bitmap or its pairs.
-use Rattle.std.specs.Prelude.{ℕ, List, [], ◌∷◌, ◌⊎◌, map}
-use Rattle.std.specs.declared.alloc.Global.{Global}
-use Rattle.std.specs.declared.sync.Arc.{Arc}
+use Rattle.std.specs.Prelude.{ℕ, List, [], ◌∷◌}
 use Rattle.trie_node.specs.Tree.{Tree, branch, bucket, Trees, no_trees, more_trees}
 
 module _ {K V : Type 0} where

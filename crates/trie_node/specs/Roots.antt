@@ -1,5 +1,5 @@
 -- The map of a trie, and what makes a tree the trie of its map.
-use Rattle.std.specs.Prelude.{◌≡◌, ℕ, List}
+use Rattle.std.specs.Prelude.{ℕ, List}
 use Rattle.std.specs.declared.cmp.Ordering.{Ordering}
 use Rattle.std.specs.FinMap as std
 use Rattle.hash_path.specs.Digits.{spelled}

@@ -1,6 +1,6 @@
 -- Which nodes the trie of a map has, by sets of prefixes; and the stamps that a write gives.
 -- A word is the list of its digits, in full; a prefix is a list of digits.
-use Rattle.std.specs.Prelude.{◌≡◌, ◌≢◌, ℕ, zero, suc, ◌+◌, ◌<◌, ◌≤◌, ◌^◌, Bool, true, false, not, ◌||◌, ◌&&◌, if◌then◌else◌, ◌==◌, nat_eq, List, [], ◌∷◌, ◌++◌, length, map, filter, MatchBool, All, Contains, count_by, bytes_eq}
+use Rattle.std.specs.Prelude.{◌≡◌, ◌≢◌, ℕ, suc, ◌<◌, ◌≤◌, ◌^◌, Bool, true, false, not, ◌||◌, ◌&&◌, if◌then◌else◌, ◌==◌, nat_eq, List, [], ◌∷◌, ◌++◌, length, filter, MatchBool, All, Contains, count_by, bytes_eq}
 use Rattle.std.specs.List.{list_any, starts_with}
 use Rattle.trie_node.specs.Tree.{Tree, branch, bucket, Trees, no_trees, more_trees, digits_of, entries_of_all}
 

@@ -1,8 +1,7 @@
 -- A trie as a tree of its own, without where it lies in memory.
-use Rattle.std.specs.Prelude.{◌≡◌, ℕ, zero, suc, ◌+◌, ◌*◌, ◌/◌, ◌%◌, ◌^◌, ◌<◌, ◌≤◌, ◌≢◌, Bool, true, false, cond, T, List, [], ◌∷◌, ◌++◌, length, ◌==◌, is_some, Option, Some, None}
+use Rattle.std.specs.Prelude.{◌≡◌, ℕ, zero, suc, ◌+◌, ◌/◌, ◌%◌, ◌^◌, ◌<◌, ◌≤◌, ◌≢◌, true, cond, T, List, [], ◌∷◌, ◌++◌, length, ◌==◌, is_some}
 use Rattle.std.specs.declared.cmp.Ordering.{Ordering}
 use Rattle.std.specs.FinMap.{is_sorted, find}
-use Rattle.std.specs.Ordering.{eq_by_cmp}
 use Rattle.hash_path.specs.Digits.{digit}
 
 mutual

@@ -1,10 +1,9 @@
 -- What tree a node stands for.
-use Rattle.std.specs.Prelude.{◌≡◌, ℕ, List, [], ◌∷◌, map}
-use Rattle.trie_node.specs.Tree.{Tree, branch, bucket, Trees, no_trees, more_trees, trees, entries}
+use Rattle.std.specs.Prelude.{[], ◌∷◌, map}
+use Rattle.trie_node.specs.Tree.{Tree, branch, bucket, Trees, no_trees, more_trees}
 use Rattle.std.specs.declared.sync.Arc.{Arc}
 use Rattle.std.specs.declared.alloc.Global.{Global}
 use Rattle.trie_node.specs.declared.node.Node.{Node}
-use Rattle.trie_node.specs.declared.basics.Stamp.{Stamp}
 use Rattle.trie_node.specs.declared.node.Inner.{Inner, Branch', Leaf, Bucket, Row_of-Node, end_of-Node, more_of-Node}
 
 module _ {K V : Type 0} where

@@ -1,6 +1,7 @@
 //! Branches that have lost a pair, drawn up where one leaf or bucket is left.
 
-ghost use Rattle.std.specs.Prelude.{◌≡◌, ◌<◌, IfOk, length, map, slice_set as set};
+ghost use Rattle.std.specs.Prelude.{◌≡◌, ◌<◌, ◌-◌, ◌*◌, ◌%◌, ◌^◌, IfOk, length, map, bit_and, slice_set as set};
+ghost use Rattle.std.specs.Int.{bit_not, w32};
 ghost use Rattle.std.specs.List.{remove};
 ghost use Rattle.trie_node.specs.Tree.{branch, trees};
 ghost use Rattle.trie_node.specs.View.{tree};
@@ -10,6 +11,14 @@ use crate::basics::{NoMemory, Stamp};
 use crate::copies::{push_copies, with_child};
 use crate::node::{Inner, Node, make_branch};
 use std::alloc::Global;
+
+/// A branch below one of whose children a pair is removed.
+#[derive(Drop)]
+pub(crate) struct OpenBranch<'a, K, V> {
+    pub size: u64,
+    pub bitmap: u32,
+    pub children: &'a [Node<K, V>],
+}
 
 /// Whether a node is a leaf or a bucket.
 fn is_pairs<K, V>(node: &Node<K, V>) -> bool
@@ -27,59 +36,69 @@ fn is_pairs<K, V>(node: &Node<K, V>) -> bool
 pub(crate) fn with_rest<K: Drop, V: Drop>(
     alloc: Global,
     stamp: Stamp,
-    size: u64,
-    bitmap: u32,
-    children: &[Node<K, V>],
+    old: &OpenBranch<'_, K, V>,
     at: usize,
     child: Node<K, V>,
     level: u32,
 ) -> Result<Node<K, V>, NoMemory>
-    requires { at < length children.now }
-    ensures { IfOk result (λ n. tree n ≡ drawn_up level (branch stamp.0 size bitmap (trees (set (map tree children.now) at (tree child))))) }
+    requires at { at < length old.now.children.now }
+    requires size { 0 < old.now.size }
+    ensures { IfOk result (λ n. tree n ≡ drawn_up level (branch stamp.0 (old.now.size - 1) old.now.bitmap (trees (set (map tree old.now.children.now) at (tree child))))) }
 {
-    if level > 0 && children.len() == 1 && is_pairs(&child) {
+    if level > 0 && old.children.len() == 1 && is_pairs(&child) {
         return Ok(child);
     }
-    with_child(alloc, stamp, size, bitmap, children, at, child)
+    with_child(
+        alloc,
+        stamp,
+        old.size - 1,
+        old.bitmap,
+        old.children,
+        at,
+        child,
+    )
 }
 
-/// A branch without one of its children.
+/// A branch without its child of a digit, which stands at a place.
 fn without_child<K: Drop, V: Drop>(
     alloc: Global,
     stamp: Stamp,
-    size: u64,
-    bitmap: u32,
-    children: &[Node<K, V>],
+    old: &OpenBranch<'_, K, V>,
+    digit: u32,
     at: usize,
 ) -> Result<Node<K, V>, NoMemory>
-    requires { at < length children.now }
-    ensures { IfOk result (λ n. tree n ≡ branch stamp.0 size bitmap (trees (remove (map tree children.now) at))) }
+    requires digit { digit < 32 }
+    requires at { at < length old.now.children.now }
+    requires size { 0 < old.now.size }
+    ensures { IfOk result (λ n. tree n ≡ branch stamp.0 (old.now.size - 1) (bit_and old.now.bitmap (bit_not w32 (1 * 2 ^ digit % 2 ^ 32))) (trees (remove (map tree old.now.children.now) at))) }
 {
-    let mut all = Vec::with_capacity(alloc, children.len() - 1)?;
-    push_copies(&mut all, &children[..at])?;
-    push_copies(&mut all, &children[at + 1..])?;
-    make_branch(alloc, stamp, size, bitmap, all)
+    let mut all = Vec::with_capacity(alloc, old.children.len() - 1)?;
+    push_copies(&mut all, &old.children[..at])?;
+    push_copies(&mut all, &old.children[at + 1..])?;
+    make_branch(alloc, stamp, old.size - 1, old.bitmap & !(1 << digit), all)
 }
 
-/// A branch without one of its children. Below the root, an only child that is left and is a leaf
-/// or bucket takes the branch's place: the same node, with the stamp that it has.
+/// A branch without its child of a digit, which stands at a place. Below the root, an only child
+/// that is left and is a leaf or bucket takes the branch's place: the same node, with the stamp
+/// that it has.
 pub(crate) fn without_rest<K: Drop, V: Drop>(
     alloc: Global,
     stamp: Stamp,
-    size: u64,
-    bitmap: u32,
-    children: &[Node<K, V>],
+    old: &OpenBranch<'_, K, V>,
+    digit: u32,
     at: usize,
     level: u32,
 ) -> Result<Node<K, V>, NoMemory>
-    requires { at < length children.now }
-    ensures { IfOk result (λ n. tree n ≡ drawn_up level (branch stamp.0 size bitmap (trees (remove (map tree children.now) at)))) }
+    requires digit { digit < 32 }
+    requires at { at < length old.now.children.now }
+    requires size { 0 < old.now.size }
+    ensures { IfOk result (λ n. tree n ≡ drawn_up level (branch stamp.0 (old.now.size - 1) (bit_and old.now.bitmap (bit_not w32 (1 * 2 ^ digit % 2 ^ 32))) (trees (remove (map tree old.now.children.now) at)))) }
 {
-    if level > 0 && children.len() == 2 {
-        let other = &children[1 - at];
+    if level > 0 && old.children.len() == 2 {
+        let other = &old.children[1 - at];
         if is_pairs(other) {
             return other.try_clone();
         }
     }
-    without_child(alloc, stamp, size, bitmap, children, at)
+    without_child(alloc, stamp, old, digit, at)
 }

@@ -1,11 +1,15 @@
 //! Laws of roots, for proofs about callers: each call does nothing, and its contract is the law.
 
-ghost use Rattle.std.specs.Prelude.{◌≡◌, ◌↔◌, ◌+◌, ◌*◌, ◌≤◌, ℕ, true, List, map, length, Contains};
+ghost use Rattle.std.specs.Prelude.{◌<◌, get_or, ◌≡◌, ◌↔◌, ◌+◌, ◌*◌, ◌≤◌, ℕ, true, List, map, length, Contains};
 ghost use Rattle.std.specs.Ordering.{nat_cmp};
 ghost use Rattle.std.specs.Cmp.Lexicographic.{slice_cmp};
+ghost use Rattle.std.specs.Int.RustNames.{count_ones};
+ghost use Rattle.trie_node.specs.declared.shown.Look.TheVariants.{Branch};
+ghost use Rattle.trie_node.specs.Looks.{Shows};
+ghost use Rattle.trie_node.specs.Outline.{children};
 ghost use Rattle.trie_node.specs.Map.{IsMap};
 ghost use Rattle.trie_node.specs.Tree.{Tree, entries};
-ghost use Rattle.trie_node.specs.Shape.{Nodes, nodes, plain, is_name, Restamps, NoneAbove};
+ghost use Rattle.trie_node.specs.Shape.{Fits, Nodes, nodes, plain, is_name, Restamps, NoneAbove};
 ghost use Rattle.trie_node.specs.Counts.{node_count, HasPairs};
 ghost use Rattle.trie_node.specs.Order.{walked};
 ghost use Rattle.trie_node.specs.Roots.{IsRoot, map_of, word_of};
@@ -48,4 +52,11 @@ pub fn map_names_nodes<K: PathKey, V>()
 /// Where no node's stamp is above a stamp, a write with that stamp leaves none above it.
 pub fn writes_keep_stamps_below()
     ensures { (stamp : ℕ) (word : List ℕ) (old new : Nodes) → NoneAbove stamp old → Restamps stamp word old new → NoneAbove stamp new }
+{}
+
+/// Where each branch has a child for each digit of its bitmap, as in a root, a branch has as many
+/// children as its bitmap has bits, and that is true below each child.
+pub fn bitmap_counts_children<K, V>()
+    ensures count { (t : Tree K V) (b : ℕ) → Fits t → Shows (Branch b) t → length (children t) ≡ count_ones b }
+    ensures below { (t u : Tree K V) (n : ℕ) → Fits t → n < length (children t) → u ≡ get_or (children t) n u → Fits u }
 {}

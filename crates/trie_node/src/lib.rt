@@ -25,8 +25,8 @@ mod taking;
 pub use basics::{NoMemory, Stamp};
 pub use condition::{Always, Condition, IfAbsent, IfEqual, IfPresent};
 pub use laws::{
-    map_determines_root, map_names_nodes, root_has_few_nodes, root_is_map, root_walks_in_order,
-    writes_keep_stamps_below,
+    bitmap_counts_children, map_determines_root, map_names_nodes, root_has_few_nodes, root_is_map,
+    root_walks_in_order, writes_keep_stamps_below,
 };
 pub use node::{Node, empty_root};
 pub use put::{Written, put_where, with_put};

@@ -1,6 +1,6 @@
 //! Roots with a pair put.
 
-ghost use Rattle.std.specs.Prelude.{◌≡◌, ◌<◌, ◌≤◌, ◌+◌, ◌^◌, ◌%◌, ◌*◌, option_map, length, map, is_some, true, ◌≢◌, IfOk, IfSome, Some, bit_or, [], ◌∷◌};
+ghost use Rattle.std.specs.Prelude.{◌≡◌, ◌<◌, ◌≤◌, ◌+◌, ◌^◌, ◌%◌, ◌*◌, option_map, length, map, is_some, true, ◌≢◌, IfOk, IfSome, Some, None, bit_or, [], ◌∷◌};
 ghost use Rattle.std.specs.List.{insert};
 ghost use Rattle.std.specs.Int.RustNames.{count_ones};
 ghost use Rattle.std.specs.FinMap.{find as first_of};
@@ -74,6 +74,31 @@ fn add_leaf<K: Drop, V: Drop>(
         at,
         leaf,
     )
+}
+
+/// A branch with a leaf of the entry, where no child has the digit of its key and the condition
+/// holds of an absent key.
+fn put_beside<'a, K: PathKey + Drop, V: Drop, C: Condition<V>>(
+    alloc: Global,
+    size: u64,
+    bitmap: u32,
+    children: &'a [Node<K, V>],
+    digit: u32,
+    entry: Entry<K, V>,
+    condition: &C,
+) -> Result<Option<Node<K, V>>, NoMemory>
+    requires digit { digit < 32 }
+    requires room { size < 2 ^ 63 }
+    requires place { count_ones (bitmap % 2 ^ digit) ≤ length children.now }
+    ensures written { IfOk result (λ r. is_some r ≡ C.holds condition.now None) }
+    ensures leaf { IfOk result (λ r. IfSome r (λ n. tree n ≡ branch entry.stamp.0 (size + 1) (bit_or bitmap (1 * 2 ^ digit % 2 ^ 32)) (trees (insert (map tree children.now) (count_ones (bitmap % 2 ^ digit)) (bucket entry.stamp.0 ((entry.key.value, entry.value.value) ∷ [])))))) }
+{
+    let absent: Option<&'a Arc<V, Global>> = None;
+    if condition.holds(absent) {
+        Ok(Some(add_leaf(alloc, size, bitmap, children, digit, entry)?))
+    } else {
+        Ok(None)
+    }
 }
 
 /// A leaf or bucket of the entry among pairs of its word.
@@ -232,15 +257,9 @@ fn put_at<'a, K: PathKey + Drop, V: Drop, C: Condition<V>>(
             let stamp = entry.stamp;
             let digit = entry.path.digit(level);
             if !has_digit(*bitmap, digit) {
-                if !condition.holds(None) {
-                    return Ok(Written {
-                        root: None,
-                        previous: None,
-                    });
-                }
-                let root = add_leaf(alloc, *old_size, *bitmap, children.as_slice(), digit, entry)?;
+                let all = children.as_slice();
                 return Ok(Written {
-                    root: Some(root),
+                    root: put_beside(alloc, *old_size, *bitmap, all, digit, entry, condition)?,
                     previous: None,
                 });
             }

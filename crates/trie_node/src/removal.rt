@@ -12,7 +12,7 @@ ghost use Rattle.trie_node.specs.Removals.{Removes};
 use crate::basics::{NoMemory, Stamp};
 use crate::bitmap::{has_digit, place};
 use crate::condition::{Always, Condition};
-use crate::drawing::{with_rest, without_rest};
+use crate::drawing::{OpenBranch, with_rest, without_rest};
 use crate::node::{Inner, Node};
 use crate::outcome::Removal;
 use crate::put::Written;
@@ -48,32 +48,19 @@ fn remove_at<'a, K: PathKey + Drop, V: Drop, C: Condition<V>>(
                 return Ok(Removal::Nothing(None));
             }
             let at = place(*bitmap, digit);
+            let old = OpenBranch {
+                size: *size,
+                bitmap: *bitmap,
+                children: children.as_slice(),
+            };
             match remove_at(alloc, &children[at], key, path, stamp, level + 1, condition)? {
                 Removal::Nothing(found) => Ok(Removal::Nothing(found)),
                 Removal::Gone(value) => {
-                    let narrower = *bitmap & !(1 << digit);
-                    let rest = without_rest(
-                        alloc,
-                        stamp,
-                        *size - 1,
-                        narrower,
-                        children.as_slice(),
-                        at,
-                        level,
-                    )?;
+                    let rest = without_rest(alloc, stamp, &old, digit, at, level)?;
                     Ok(Removal::Left(rest, value))
                 }
                 Removal::Left(child, value) => {
-                    let rest = with_rest(
-                        alloc,
-                        stamp,
-                        *size - 1,
-                        *bitmap,
-                        children.as_slice(),
-                        at,
-                        child,
-                        level,
-                    )?;
+                    let rest = with_rest(alloc, stamp, &old, at, child, level)?;
                     Ok(Removal::Left(rest, value))
                 }
             }

@@ -1,7 +1,7 @@
 //! Why a call is refused, with one enum for every layer.
 
-use trie_node::NoMemory;
 use std::alloc::{AllocError, AllocFailed};
+use trie_node::NoMemory;
 
 /// Why a call was refused. All that the call was made on is then as it was before.
 #[derive(Clone, Copy, Debug, PartialEq, Eq)]

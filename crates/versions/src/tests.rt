@@ -111,8 +111,14 @@ fn a_third_key_is_full_and_a_key_that_is_there_never_is(rt: HostRuntime) -> Resu
     let mut version = Version::empty(alloc, 2, Stamp(1))?;
     assert_eq!(rt; put(alloc, &mut version, text(alloc, "a")?, 10), Ok(None));
     assert_eq!(rt; put(alloc, &mut version, text(alloc, "b")?, 20), Ok(None));
-    assert_eq!(rt; put(alloc, &mut version, text(alloc, "c")?, 30), Err(Refusal::Full));
-    assert_eq!(rt; put(alloc, &mut version, text(alloc, "a")?, 11), Ok(Some(10)));
+    assert_eq!(rt;
+        put(alloc, &mut version, text(alloc, "c")?, 30),
+        Err(Refusal::Full)
+    );
+    assert_eq!(rt;
+        put(alloc, &mut version, text(alloc, "a")?, 11),
+        Ok(Some(10))
+    );
     assert_eq!(rt; version.len(), 2);
     assert_eq!(rt; value_of(&version, &*text(alloc, "c")?), None);
     let b = text(alloc, "b")?;
@@ -151,20 +157,45 @@ fn a_write_under_a_condition_tells_whether_it_was_done(rt: HostRuntime) -> Resul
     let five = Arc::new(alloc, 5)?;
     let six = Arc::new(alloc, 6)?;
 
-    let replaced = version.put_where(alloc, Arc::try_clone(&a)?, Arc::try_clone(&five)?, &IfPresent)?;
+    let replaced = version.put_where(
+        alloc,
+        Arc::try_clone(&a)?,
+        Arc::try_clone(&five)?,
+        &IfPresent,
+    )?;
     assert_eq!(rt; (plainly(replaced.previous), replaced.done), (None, false));
-    let added = version.put_where(alloc, Arc::try_clone(&a)?, Arc::try_clone(&five)?, &IfAbsent)?;
+    let added = version.put_where(
+        alloc,
+        Arc::try_clone(&a)?,
+        Arc::try_clone(&five)?,
+        &IfAbsent,
+    )?;
     assert_eq!(rt; (plainly(added.previous), added.done), (None, true));
     let kept = version.put_where(alloc, Arc::try_clone(&a)?, Arc::try_clone(&six)?, &IfAbsent)?;
     assert_eq!(rt; (plainly(kept.previous), kept.done), (Some(5), false));
-    let other = version.put_where(alloc, Arc::try_clone(&a)?, Arc::try_clone(&six)?, &IfEqual(&6))?;
+    let other = version.put_where(
+        alloc,
+        Arc::try_clone(&a)?,
+        Arc::try_clone(&six)?,
+        &IfEqual(&6),
+    )?;
     assert_eq!(rt; (plainly(other.previous), other.done), (Some(5), false));
-    let same = version.put_where(alloc, Arc::try_clone(&a)?, Arc::try_clone(&six)?, &IfEqual(&5))?;
+    let same = version.put_where(
+        alloc,
+        Arc::try_clone(&a)?,
+        Arc::try_clone(&six)?,
+        &IfEqual(&5),
+    )?;
     assert_eq!(rt; (plainly(same.previous), same.done), (Some(5), true));
 
     let full = version.put_where(alloc, Arc::try_clone(&b)?, Arc::try_clone(&six)?, &IfAbsent);
     assert!(rt; matches!(full, Err(Refusal::Full)));
-    let absent = version.put_where(alloc, Arc::try_clone(&b)?, Arc::try_clone(&six)?, &IfPresent)?;
+    let absent = version.put_where(
+        alloc,
+        Arc::try_clone(&b)?,
+        Arc::try_clone(&six)?,
+        &IfPresent,
+    )?;
     assert_eq!(rt; (plainly(absent.previous), absent.done), (None, false));
 
     let stays = version.remove_where(alloc, &*a, &IfEqual(&5))?;

@@ -17,7 +17,9 @@ use hash_path::PathKey;
 use std::alloc::Global;
 use std::marker::Model;
 use std::sync::Arc;
-use trie_node::{Always, Condition, NoMemory, Node, Stamp, Written, root_is_map, writes_keep_stamps_below};
+use trie_node::{
+    Always, Condition, NoMemory, Node, Stamp, Written, root_is_map, writes_keep_stamps_below,
+};
 
 /// The most pairs that a map may be limited to.
 pub const MOST_PAIRS: u64 = 16_777_216;

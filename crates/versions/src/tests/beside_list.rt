@@ -99,19 +99,18 @@ impl Both {
     }
 
     // Removes the key from both, and answers what each answers.
-    fn remove(&mut self, alloc: Global, key: &ChosenKey) -> Result<(Option<i64>, Option<i64>), Fail> {
+    fn remove(
+        &mut self,
+        alloc: Global,
+        key: &ChosenKey,
+    ) -> Result<(Option<i64>, Option<i64>), Fail> {
         let before = listed(&self.list, key);
         self.list = without_pair(alloc, &self.list, key)?;
         Ok((before, plainly(self.version.remove(alloc, key)?)))
     }
 
     // A copy of the list and a fork of the version.
-    fn fork(
-        &mut self,
-        rt: &impl Abort,
-        alloc: Global,
-        source: &mut Source,
-    ) -> Result<Both, Fail> {
+    fn fork(&mut self, rt: &impl Abort, alloc: Global, source: &mut Source) -> Result<Both, Fail> {
         Ok(Both {
             list: copied(alloc, &self.list)?,
             version: fork(rt, &mut self.version, source)?,

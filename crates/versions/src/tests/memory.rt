@@ -3,11 +3,11 @@
 //! The test takes the whole address space in blocks that it never touches, so it costs little memory. It needs the
 //! C library's allocator as a test is built with it: an address sanitizer's keeps memory of its own aside.
 use super::{of_three, text};
+use crate::{NoMemory, Refusal};
 use generation::Source;
 use std::alloc::{AllocError, Global};
 use std::sync::Arc;
 use std::test::Fail;
-use crate::{NoMemory, Refusal};
 
 // How many blocks can be kept.
 const MOST_BLOCKS: usize = 1 << 18;

@@ -49,7 +49,12 @@ fn keys_of_one_word_share_a_bucket(rt: HostRuntime) -> Result<(), Fail> {
     let alloc = rt.alloc();
     let mut version = Version::empty(alloc, 10, Stamp(1))?;
     for id in [0, 1, 2] {
-        put(alloc, &mut version, Arc::new(alloc, chosen(0, id))?, i64::from(id))?;
+        put(
+            alloc,
+            &mut version,
+            Arc::new(alloc, chosen(0, id))?,
+            i64::from(id),
+        )?;
     }
     assert_eq!(rt; (version.len(), version.own_nodes()), (3, 2));
     version.remove(alloc, &chosen(0, 1))?;
@@ -64,7 +69,12 @@ fn words_that_part_late_have_seven_branches(rt: HostRuntime) -> Result<(), Fail>
     let alloc = rt.alloc();
     let mut version = Version::empty(alloc, 10, Stamp(1))?;
     put(alloc, &mut version, Arc::new(alloc, chosen(0, 0))?, 1)?;
-    put(alloc, &mut version, Arc::new(alloc, chosen(0xc000_0000, 0))?, 2)?;
+    put(
+        alloc,
+        &mut version,
+        Arc::new(alloc, chosen(0xc000_0000, 0))?,
+        2,
+    )?;
     assert_eq!(rt; version.own_nodes(), 9);
     version.remove(alloc, &chosen(0xc000_0000, 0))?;
     assert_eq!(rt; version.own_nodes(), 2);

@@ -1,7 +1,8 @@
-use Rattle.std.proofs.Common.{◌≡◌, ◌+◌, ◌==◌, cond, take, sum_by}
-use Rattle.trie_node.specs.Outline.{children, stamp_of}
+use Rattle.std.proofs.Common.{◌≡◌, ◌+◌, take, sum_by}
+use Rattle.trie_node.specs.Outline.{children}
 use Rattle.trie_node.specs.View.{tree}
-use Rattle.generation.specs.Counts.{node_count, own_below}
+use Rattle.trie_node.specs.Counts.{node_count}
+use Rattle.generation.specs.Owned.{own_below}
 use Rattle.generation.proofs.own.+count_own.Given as goal
 
 -- a child has fewer nodes

@@ -1,4 +1,4 @@
-use Rattle.std.proofs.Common.{◌≡◌, map, subst, IfOk}
+use Rattle.std.proofs.Common.{◌≡◌, subst, IfOk}
 use Rattle.trie_node.specs.Tree.{branch, trees}
 use Rattle.trie_node.specs.View.{tree}
 use Rattle.trie_node.proofs.Appended.{appended_insert}

@@ -1,5 +1,5 @@
-use Rattle.std.proofs.Common.{◌≡◌, [], map, ap, ◌∙◌, sym, subst, IfOk}
-use Rattle.trie_node.specs.Tree.{branch, trees, no_trees}
+use Rattle.std.proofs.Common.{◌≡◌, map, ap, ◌∙◌, sym, subst, IfOk}
+use Rattle.trie_node.specs.Tree.{branch, trees}
 use Rattle.trie_node.specs.View.{tree}
 use Rattle.trie_node.specs.Roots.{map_of, IsRoot}
 use Rattle.trie_node.proofs.Empty.{empty_is_root, map_of-empty}

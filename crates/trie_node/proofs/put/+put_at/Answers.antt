@@ -1,31 +1,18 @@
-use Rattle.std.proofs.Common.{rules, ◌≡◌, [], ◌∷◌, option_map, ◌+◌, ◌-◌, ◌*◌, ◌<◌, ◌≤◌, ◌^◌, ◌%◌, Some, None, map, sym, ap, ◌∙◌, subst, arith, length, refl, set, get_or, bit_or}
+use Rattle.std.proofs.Common.{rules, ◌≡◌, [], ◌∷◌, option_map, ◌+◌, ◌-◌, ◌*◌, ◌<◌, ◌≤◌, ◌^◌, ◌%◌, Some, map, sym, ap, ◌∙◌, subst, arith, length, refl, set, get_or, bit_or}
 use Rattle.std.specs.List.{insert}
 use Rattle.std.specs.Int.RustNames.{count_ones}
 use Rattle.hash_path.specs.Digits.{digit}
 use Rattle.trie_node.specs.Tree.{branch, bucket, trees, entries}
 use Rattle.trie_node.specs.View.{tree}
-use Rattle.trie_node.proofs.Answered.{nothing_written, all_written, nothing_raised, written_below, raised}
+use Rattle.trie_node.specs.Writes.{Writes}
+use Rattle.trie_node.proofs.Answered.{nothing_raised, written_below, raised, is_some_mapped, some_mapped}
 use Rattle.trie_node.proofs.Branches.{puts_replaced, puts_added}
 use Rattle.trie_node.proofs.Divides.{trie_fits}
 use Rattle.trie_node.proofs.Opened.{opened, gap_within, place_below, not_below, below_at, agree_below}
 use Rattle.trie_node.proofs.put.+put_at.Goals as goal
 
-pub returns-then-not-holds : goal.returns-then-not-holds
-returns-then-not-holds g t c =
-    let R = g.K.Ord.cmp in
-    let path = g.K.PathKey.path_of in
-    let a = c.args in
-    let b = c.in-Branch in
-    let d = c.digit-digit in
-    let k = a.entry.key.value in
-    let o = opened R path a.level a.node.now c.deref.result.now b.stamp b.old_size b.bitmap b.children c.deref.ensures b.is c.requires.trie in
-    let lacks = sym c.has_digit.ensures ∙ c.if-not-has_digit.true in
-    let here = ap (λ w. digit w a.level) (sym c.requires.path) ∙ sym d.ensures.value in
-    let none = not_below R path a.level a.node.now b.stamp.0 b.old_size b.bitmap b.children.items o d.result d.ensures.small g.met.K.PathKey.exact lacks k here in
-    nothing_written R path a.level a.entry.stamp.0 k (Some a.entry.value.value) (g.C.Condition.holds a.condition.now) (tree a.node.now) None (sym none) (sym c.holds.ensures ∙ c.if-not-holds.true)
-
-pub add_leaf-requires-clause-place : goal.add_leaf-requires-clause-place
-add_leaf-requires-clause-place g t c =
+pub put_beside-requires-clause-place : goal.put_beside-requires-clause-place
+put_beside-requires-clause-place g t c =
     let R = g.K.Ord.cmp in
     let path = g.K.PathKey.path_of in
     let a = c.args in
@@ -34,7 +21,7 @@ add_leaf-requires-clause-place g t c =
     let o = opened R path a.level a.node.now c.deref.result.now b.stamp b.old_size b.bitmap b.children c.deref.ensures b.is c.requires.trie in
     let lacks = sym c.has_digit.ensures ∙ c.if-not-has_digit.true in
     let within = gap_within R path a.level a.node.now b.stamp.0 b.old_size b.bitmap b.children.items o d.result d.ensures.small lacks in
-    subst (λ xs. count_ones (b.bitmap % 2 ^ d.result) ≤ length xs) (sym c.as_slice.ensures.value) within
+    subst (λ xs. count_ones (b.bitmap % 2 ^ d.result) ≤ length xs) (sym c.as_slice-all.ensures.value) within
 
 pub returns-then-not-has_digit : goal.returns-then-not-has_digit
 returns-then-not-has_digit g t c =
@@ -47,16 +34,22 @@ returns-then-not-has_digit g t c =
     let k = a.entry.key.value in
     let v = a.entry.value.value in
     let s = a.entry.stamp.0 in
-    let n = c.in_ok-root-in-Branch.root in
+    let holds = g.C.Condition.holds a.condition.now in
+    let made = c.in_ok-put_beside-in-Branch in
     let o = opened R path a.level a.node.now c.deref.result.now b.stamp b.old_size b.bitmap b.children c.deref.ensures b.is c.requires.trie in
     let lacks = sym c.has_digit.ensures ∙ c.if-not-has_digit.true in
     let here = ap (λ w. digit w a.level) (sym c.requires.path) ∙ sym d.ensures.value in
     let none = not_below R path a.level a.node.now b.stamp.0 b.old_size b.bitmap b.children.items o d.result d.ensures.small exact lacks k here in
     let wider = bit_or b.bitmap (1 * 2 ^ d.result % 2 ^ 32) in
-    let made : tree n ≡ branch s (b.old_size + 1) wider (trees (insert (map tree b.children.items) (count_ones (b.bitmap % 2 ^ d.result)) (bucket s ((k, v) ∷ [])))) =
-    c.in_ok-root-in-Branch.ensures ∙ ap (λ xs. branch s (b.old_size + 1) wider (trees (insert (map tree xs) (count_ones (b.bitmap % 2 ^ d.result)) (bucket s ((k, v) ∷ []))))) c.as_slice.ensures.value in
-    let writes = puts_added R path g.met.K.Ord.total exact a.level s k v d.result here d.ensures.small b.stamp.0 b.old_size b.bitmap (map tree b.children.items) (tree a.node.now) o.is o.trie lacks (bucket s ((k, v) ∷ [])) refl (tree n) made in
-    all_written R path a.level s k (Some v) (g.C.Condition.holds a.condition.now) (tree a.node.now) None (sym none) (sym c.holds.ensures ∙ c.if-not-holds.false) (tree n) writes
+    let i = count_ones (b.bitmap % 2 ^ d.result) in
+    let leaf = bucket s ((k, v) ∷ []) in
+    record {
+      previous_is = sym none;
+      written = sym (is_some_mapped tree made.field-0) ∙ made.ensures.written ∙ ap holds (sym none);
+      writes = some_mapped tree made.field-0 _ (Writes R path a.level s k (Some v) (tree a.node.now)) (λ n is.
+          puts_added R path g.met.K.Ord.total exact a.level s k v d.result here d.ensures.small b.stamp.0 b.old_size b.bitmap (map tree b.children.items) (tree a.node.now) o.is o.trie lacks leaf refl (tree n)
+          (is ∙ ap (λ xs. branch s (b.old_size + 1) wider (trees (insert (map tree xs) i leaf))) c.as_slice-all.ensures.value)) made.ensures.leaf;
+    }
 
 pub index-old-requires : goal.index-old-requires
 index-old-requires g t c =
@@ -93,7 +86,7 @@ returns-in_default g t c =
     let d = c.digit-digit in
     let k = a.entry.key.value in
     let old = c.index-old.result.now in
-    let found = c.in_ok-root-in-Branch-2 in
+    let found = c.in_ok-root-in-Branch in
     let o = opened R path a.level a.node.now c.deref.result.now b.stamp b.old_size b.bitmap b.children c.deref.ensures b.is c.requires.trie in
     let has = sym c.has_digit.ensures ∙ c.if-not-has_digit.false in
     let here = ap (λ w. digit w a.level) (sym c.requires.path) ∙ sym d.ensures.value in
@@ -115,7 +108,7 @@ overflow_add-new_size g t c =
     let holds = g.C.Condition.holds a.condition.now in
     let old = c.index-old.result.now in
     let new = c.in-Some.child in
-    let found = c.in_ok-root-in-Branch-2 in
+    let found = c.in_ok-root-in-Branch in
     let o = opened R path a.level a.node.now c.deref.result.now b.stamp b.old_size b.bitmap b.children c.deref.ensures b.is c.requires.trie in
     let has = sym c.has_digit.ensures ∙ c.if-not-has_digit.false in
     let here = ap (λ w. digit w a.level) (sym c.requires.path) ∙ sym d.ensures.value in
@@ -138,7 +131,7 @@ overflow_sub-new_size g t c =
     let holds = g.C.Condition.holds a.condition.now in
     let old = c.index-old.result.now in
     let new = c.in-Some.child in
-    let found = c.in_ok-root-in-Branch-2 in
+    let found = c.in_ok-root-in-Branch in
     let o = opened R path a.level a.node.now c.deref.result.now b.stamp b.old_size b.bitmap b.children c.deref.ensures b.is c.requires.trie in
     let has = sym c.has_digit.ensures ∙ c.if-not-has_digit.false in
     let here = ap (λ w. digit w a.level) (sym c.requires.path) ∙ sym d.ensures.value in
@@ -157,10 +150,10 @@ with_child-requires g t c =
     let o = opened R path a.level a.node.now c.deref.result.now b.stamp b.old_size b.bitmap b.children c.deref.ensures b.is c.requires.trie in
     let has = sym c.has_digit.ensures ∙ c.if-not-has_digit.false in
     let within = place_below R path a.level a.node.now b.stamp.0 b.old_size b.bitmap b.children.items o d.result d.ensures.small has c.place-at.result c.place-at.ensures in
-    subst (λ xs. c.place-at.result < length xs) (sym c.as_slice-in-Branch.ensures.value) within
+    subst (λ xs. c.place-at.result < length xs) (sym c.as_slice.ensures.value) within
 
-pub returns-in_ok-root-in-Branch-3 : goal.returns-in_ok-root-in-Branch-3
-returns-in_ok-root-in-Branch-3 g t c =
+pub returns-in_ok-root-in-Branch-2 : goal.returns-in_ok-root-in-Branch-2
+returns-in_ok-root-in-Branch-2 g t c =
     let R = g.K.Ord.cmp in
     let path = g.K.PathKey.path_of in
     let exact = g.met.K.PathKey.exact in
@@ -173,20 +166,20 @@ returns-in_ok-root-in-Branch-3 g t c =
     let holds = g.C.Condition.holds a.condition.now in
     let old = c.index-old.result.now in
     let new = c.in-Some.child in
-    let found = c.in_ok-root-in-Branch-2 in
+    let found = c.in_ok-root-in-Branch in
     let o = opened R path a.level a.node.now c.deref.result.now b.stamp b.old_size b.bitmap b.children c.deref.ensures b.is c.requires.trie in
     let has = sym c.has_digit.ensures ∙ c.if-not-has_digit.false in
     let here = ap (λ w. digit w a.level) (sym c.requires.path) ∙ sym d.ensures.value in
     let child = below_at R path a.level a.node.now b.stamp.0 b.old_size b.bitmap b.children.items o d.result d.ensures.small exact has c.place-at.result c.place-at.ensures old c.index-old.ensures in
     let given = written_below R path a.level s k (Some v) holds (tree a.node.now) (a.level + 1) (tree old) (child.finds k here) (option_map (λ v. v.now.value) found.field-0.previous) (option_map tree found.field-0.root) found.ensures (tree new) (ap (option_map tree) c.in-Some.is) in
-    let node = c.in_ok-root-in-Branch-3.root in
+    let node = c.in_ok-root-in-Branch-2.root in
     let at = c.place-at.result in
     let more : c.size.result ≡ length (entries (tree new)) = c.size.ensures (trie_fits R path (a.level + 1) (tree new) given.trie) in
     let less : c.size-in-Branch.result ≡ length (entries (tree old)) = c.size-in-Branch.ensures (trie_fits R path (a.level + 1) (tree old) child.trie) in
     let size2 = b.old_size + c.size.result - c.size-in-Branch.result in
     let sized : size2 + length (entries (tree old)) ≡ b.old_size + length (entries (tree new)) = omega (arith, more, less, o.counted, child.fewer) in
     let made : tree node ≡ branch s size2 b.bitmap (trees (set (map tree b.children.items) (count_ones (b.bitmap % 2 ^ d.result)) (tree new))) =
-    c.in_ok-root-in-Branch-3.ensures ∙ (λ i. branch s size2 b.bitmap (trees (set (map tree (c.as_slice-in-Branch.ensures.value i)) (c.place-at.ensures i) (tree new)))) in
+    c.in_ok-root-in-Branch-2.ensures ∙ (λ i. branch s size2 b.bitmap (trees (set (map tree (c.as_slice.ensures.value i)) (c.place-at.ensures i) (tree new)))) in
     let at_place = child.at ∙ ap (λ i. get_or (map tree b.children.items) i (tree old)) c.place-at.ensures in
     let writes = puts_replaced R path g.met.K.Ord.total exact a.level s k v d.result here d.ensures.small b.stamp.0 b.old_size b.bitmap (map tree b.children.items) (tree a.node.now) o.is o.trie has (tree old) (tree new) at_place given size2 (tree node) sized made in
     raised R path a.level s k (Some v) holds (tree a.node.now) (a.level + 1) (tree old) (child.finds k here) (option_map (λ v. v.now.value) found.field-0.previous) (option_map tree found.field-0.root) found.ensures (tree new) (ap (option_map tree) c.in-Some.is) (tree node) writes

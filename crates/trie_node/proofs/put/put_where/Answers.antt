@@ -1,5 +1,4 @@
-use Rattle.std.proofs.Common.{◌≡◌, ◌<◌, ◌%◌, ◌^◌, Some, sym, ap, ◌∙◌, arith, length}
-use Rattle.trie_node.specs.Tree.{entries}
+use Rattle.std.proofs.Common.{ap, ◌∙◌, arith}
 use Rattle.trie_node.specs.View.{tree}
 use Rattle.trie_node.proofs.Answered.{is_some_mapped, if_some_mapped}
 use Rattle.trie_node.proofs.Roots.{find_entries, root_is_trie, length_map_of, write_puts}

@@ -1,4 +1,4 @@
-use Rattle.std.proofs.Common.{◌≡◌, map, length, sym, subst, ap, ◌∙◌, IfOk}
+use Rattle.std.proofs.Common.{◌≡◌, map, length, sym, subst, ◌∙◌, IfOk}
 use Rattle.std.proofs.lemmas.List.{length-map}
 use Rattle.trie_node.specs.Tree.{bucket}
 use Rattle.trie_node.specs.View.{tree, pair_values}

@@ -1,7 +1,6 @@
 use Rattle.std.proofs.Common.{◌≡◌, ◌<◌, map, sym, ap, ◌∙◌, arith, get_or, length}
 use Rattle.std.proofs.lemmas.List.{length-map, get_or-map}
 use Rattle.trie_node.specs.View.{tree}
-use Rattle.trie_node.specs.Outline.{children}
 use Rattle.trie_node.proofs.Views.{children-Branch}
 use Rattle.trie_node.proofs.reading.child.Goals as goal
 

@@ -1,4 +1,4 @@
-use Rattle.std.proofs.Common.{rules, ◌≡◌, ◌+◌, ◌<◌, arith, ap, sym, ◌∙◌, subst, length, map}
+use Rattle.std.proofs.Common.{rules, ◌≡◌, ◌+◌, arith, ap, sym, ◌∙◌, subst, length, map}
 use Rattle.trie_node.specs.Tree.{IsTrie, bucket}
 use Rattle.trie_node.specs.View.{tree, tree_of, pair_values}
 use Rattle.trie_node.specs.Removals.{Removes}
@@ -42,8 +42,15 @@ without_rest-requires g t c =
     let path = g.K.PathKey.path_of in
     let a = c.args in
     let b = c.in-Branch in
+    let holds = g.C.Condition.holds a.condition.now in
     let o = opened R path a.level a.node.now c.deref.result.now b.stamp b.size b.bitmap b.children c.deref.ensures b.is c.requires.trie in
-    omega (arith, ap length c.as_slice.ensures.value, place_below R path a.level a.node.now b.stamp.0 b.size b.bitmap b.children.items o c.digit-digit.result c.digit-digit.ensures.small (cc) c.place-at.result c.place-at.ensures)
+    let gone = subst (Removes R path (a.level + 1) a.stamp.0 a.key.now holds (tree c.index.result.now)) c.in-Gone.is c.in_ok-found-in-Branch.ensures in
+    record {
+      digit = c.digit-digit.ensures.small;
+      at = omega (arith, ap length c.as_slice.ensures.value, place_below R path a.level a.node.now b.stamp.0 b.size b.bitmap b.children.items o c.digit-digit.result c.digit-digit.ensures.small (cc) c.place-at.result c.place-at.ensures);
+      size = size_below R path g.met.K.Ord.total g.met.K.PathKey.exact a.level a.stamp.0 a.key.now holds a.node.now b.stamp.0 b.size b.bitmap b.children.items o
+          c.digit-digit.result c.digit-digit.ensures.small (cc) (cc) c.place-at.result c.place-at.ensures c.index.result.now c.index.ensures _ gone.0;
+    }
 
 pub with_rest-requires : goal.with_rest-requires
 with_rest-requires g t c =
@@ -51,8 +58,14 @@ with_rest-requires g t c =
     let path = g.K.PathKey.path_of in
     let a = c.args in
     let b = c.in-Branch in
+    let holds = g.C.Condition.holds a.condition.now in
     let o = opened R path a.level a.node.now c.deref.result.now b.stamp b.size b.bitmap b.children c.deref.ensures b.is c.requires.trie in
-    omega (arith, ap length c.as_slice-in-Left.ensures.value, place_below R path a.level a.node.now b.stamp.0 b.size b.bitmap b.children.items o c.digit-digit.result c.digit-digit.ensures.small (cc) c.place-at.result c.place-at.ensures)
+    let left = subst (Removes R path (a.level + 1) a.stamp.0 a.key.now holds (tree c.index.result.now)) c.in-Left.is c.in_ok-found-in-Branch.ensures in
+    record {
+      at = omega (arith, ap length c.as_slice.ensures.value, place_below R path a.level a.node.now b.stamp.0 b.size b.bitmap b.children.items o c.digit-digit.result c.digit-digit.ensures.small (cc) c.place-at.result c.place-at.ensures);
+      size = size_below R path g.met.K.Ord.total g.met.K.PathKey.exact a.level a.stamp.0 a.key.now holds a.node.now b.stamp.0 b.size b.bitmap b.children.items o
+          c.digit-digit.result c.digit-digit.ensures.small (cc) (cc) c.place-at.result c.place-at.ensures c.index.result.now c.index.ensures _ left.taken;
+    }
 
 pub returns-in-Nothing : goal.returns-in-Nothing
 returns-in-Nothing g t c =
@@ -65,30 +78,6 @@ returns-in-Nothing g t c =
     nothing_below R path g.met.K.Ord.total g.met.K.PathKey.exact a.level a.stamp.0 a.key.now holds a.node.now b.stamp.0 b.size b.bitmap b.children.items o
     c.digit-digit.result c.digit-digit.ensures.small (cc) (cc) c.place-at.result c.place-at.ensures c.index.result.now c.index.ensures _
     (subst (Removes R path (a.level + 1) a.stamp.0 a.key.now holds (tree c.index.result.now)) c.in-Nothing.is c.in_ok-found-in-Branch.ensures)
-
-pub overflow_sub-size : goal.overflow_sub-size
-overflow_sub-size g t c =
-    let R = g.K.Ord.cmp in
-    let path = g.K.PathKey.path_of in
-    let a = c.args in
-    let b = c.in-Branch in
-    let holds = g.C.Condition.holds a.condition.now in
-    let o = opened R path a.level a.node.now c.deref.result.now b.stamp b.size b.bitmap b.children c.deref.ensures b.is c.requires.trie in
-    let gone = subst (Removes R path (a.level + 1) a.stamp.0 a.key.now holds (tree c.index.result.now)) c.in-Gone.is c.in_ok-found-in-Branch.ensures in
-    size_below R path g.met.K.Ord.total g.met.K.PathKey.exact a.level a.stamp.0 a.key.now holds a.node.now b.stamp.0 b.size b.bitmap b.children.items o
-    c.digit-digit.result c.digit-digit.ensures.small (cc) (cc) c.place-at.result c.place-at.ensures c.index.result.now c.index.ensures _ gone.0
-
-pub overflow_sub-size-in-Left : goal.overflow_sub-size-in-Left
-overflow_sub-size-in-Left g t c =
-    let R = g.K.Ord.cmp in
-    let path = g.K.PathKey.path_of in
-    let a = c.args in
-    let b = c.in-Branch in
-    let holds = g.C.Condition.holds a.condition.now in
-    let o = opened R path a.level a.node.now c.deref.result.now b.stamp b.size b.bitmap b.children c.deref.ensures b.is c.requires.trie in
-    let left = subst (Removes R path (a.level + 1) a.stamp.0 a.key.now holds (tree c.index.result.now)) c.in-Left.is c.in_ok-found-in-Branch.ensures in
-    size_below R path g.met.K.Ord.total g.met.K.PathKey.exact a.level a.stamp.0 a.key.now holds a.node.now b.stamp.0 b.size b.bitmap b.children.items o
-    c.digit-digit.result c.digit-digit.ensures.small (cc) (cc) c.place-at.result c.place-at.ensures c.index.result.now c.index.ensures _ left.taken
 
 pub returns-in_ok-rest-in-Gone : goal.returns-in_ok-rest-in-Gone
 returns-in_ok-rest-in-Gone g t c =
@@ -112,7 +101,7 @@ returns-in_ok-rest-in-Left g t c =
     let o = opened R path a.level a.node.now c.deref.result.now b.stamp b.size b.bitmap b.children c.deref.ensures b.is c.requires.trie in
     let left = subst (Removes R path (a.level + 1) a.stamp.0 a.key.now holds (tree c.index.result.now)) c.in-Left.is c.in_ok-found-in-Branch.ensures in
     left_below R path g.met.K.Ord.total g.met.K.PathKey.exact a.level a.stamp.0 a.key.now holds a.node.now b.stamp.0 b.size b.bitmap b.children.items o
-    c.digit-digit.result c.digit-digit.ensures.small (cc) (cc) c.place-at.result c.place-at.ensures c.index.result.now c.index.ensures _ c.in-Left.child left c.as_slice-in-Left.result.now c.as_slice-in-Left.ensures.value c.in_ok-rest-in-Left.rest c.in_ok-rest-in-Left.ensures
+    c.digit-digit.result c.digit-digit.ensures.small (cc) (cc) c.place-at.result c.place-at.ensures c.index.result.now c.index.ensures _ c.in-Left.child left c.as_slice.result.now c.as_slice.ensures.value c.in_ok-rest-in-Left.rest c.in_ok-rest-in-Left.ensures
 
 pub returns-in-Leaf : goal.returns-in-Leaf
 returns-in-Leaf g t c =

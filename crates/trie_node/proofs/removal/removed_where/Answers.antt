@@ -1,4 +1,4 @@
-use Rattle.std.proofs.Common.{◌≡◌, ◌&&◌, true, false, is_some, sym, ap, ◌∙◌, subst}
+use Rattle.std.proofs.Common.{◌&&◌, is_some, sym, ap, ◌∙◌, subst}
 use Rattle.trie_node.specs.View.{tree}
 use Rattle.trie_node.specs.Removals.{Removes}
 use Rattle.trie_node.proofs.Roots.{find_entries, root_is_trie, write_removes}

@@ -1,4 +1,4 @@
-use Rattle.std.proofs.Common.{◌≡◌, true, ◌&&◌, is_some, sym, ap, ◌∙◌}
+use Rattle.std.proofs.Common.{is_some, sym, ap, ◌∙◌}
 use Rattle.trie_node.specs.Map.{value_at}
 use Rattle.trie_node.specs.Tree.{entries}
 use Rattle.trie_node.specs.View.{tree}

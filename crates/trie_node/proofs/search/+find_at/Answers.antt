@@ -1,4 +1,4 @@
-use Rattle.std.proofs.Common.{rules, ◌≡◌, ◌+◌, ◌<◌, sym, ap, ◌∙◌, arith}
+use Rattle.std.proofs.Common.{rules, sym, ap, ◌∙◌, arith}
 use Rattle.hash_path.specs.Digits.{digit}
 use Rattle.trie_node.proofs.Opened.{opened, place_below, not_below, below_at}
 use Rattle.trie_node.proofs.search.+find_at.Goals as goal

@@ -1,4 +1,4 @@
-use Rattle.std.proofs.Common.{◌∙◌, sym}
+use Rattle.std.proofs.Common.{◌∙◌}
 use Rattle.trie_node.specs.View.{tree}
 use Rattle.trie_node.proofs.Roots.{find_entries, root_is_trie}
 use Rattle.trie_node.proofs.search.find.Goals as goal

@@ -1,4 +1,4 @@
-use Rattle.std.proofs.Common.{◌≡◌, ◌≤◌, ◌-◌, ℕ, length, []}
+use Rattle.std.proofs.Common.{◌≡◌, ◌≤◌, ◌-◌, length, []}
 use Rattle.handles.specs.Handles.{live_from, maps_in, AllWithin}
 use Rattle.handles.proofs.table.Table.new.Given as goal
 

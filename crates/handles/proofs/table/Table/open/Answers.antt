@@ -1,4 +1,4 @@
-use Rattle.std.proofs.Common.{rules, ◌≡◌, ◌≤◌, ◌+◌, ap, subst, sym, ◌∙◌, length, arith}
+use Rattle.std.proofs.Common.{rules, ◌≡◌, ap, ◌∙◌, length, arith}
 use Rattle.handles.specs.Handles.{AllWithin}
 use Rattle.handles.proofs.Live.{all_within_later, written, written_have}
 use Rattle.handles.proofs.table.Table.open.Goals as goal

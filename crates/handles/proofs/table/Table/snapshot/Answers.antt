@@ -1,4 +1,4 @@
-use Rattle.std.proofs.Common.{rules, ◌≡◌, ◌≤◌, ◌+◌, ℕ, ap, subst, sym, ◌∙◌, length, arith, is_some, true}
+use Rattle.std.proofs.Common.{rules, ◌≡◌, ℕ, ap, subst, sym, ◌∙◌, length, arith, is_some, true}
 use Rattle.std.specs.Ordering.{nat_cmp}
 use Rattle.versions.specs.Map.{Map, value_at}
 use Rattle.handles.specs.Handles.{AllWithin, live_from, maps_in}

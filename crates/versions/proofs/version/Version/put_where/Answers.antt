@@ -21,8 +21,7 @@ invariant_of-self g c =
     let sorted : IsMap R (map_of R old) = search rules in
     let written : (g.C.Condition.holds c.args.condition.now found && (not (length (map_of R old) == limit) || is_some found)) ≡ true = search rules in
     let free = had_room (g.C.Condition.holds c.args.condition.now found) (length (map_of R old) == limit) (is_some found) written in
-    let fits = with_pair_fits R g.met.K.Ord.total limit (map_of R old) key value sorted c.self.invariant.1 free in
-    (
+    let fits = with_pair_fits R g.met.K.Ord.total limit (map_of R old) key value sorted c.self.invariant.1 free in (
       put.root,
       subst (λ m. length m ≤ limit) (sym put.map) fits,
       c.self.invariant.2,

@@ -17,8 +17,7 @@ invariant_of-self g c =
     let new = tree c.in-Some.root in
     let removal : IsRemoval R path c.self.inside.stamp.0 key old new = search rules in
     let sorted : IsMap R (map_of R old) = c.root_is_map.ensures.sorted old in
-    let fits = without_fits R g.met.K.Ord.total limit (map_of R old) key sorted c.self.invariant.1 in
-    (
+    let fits = without_fits R g.met.K.Ord.total limit (map_of R old) key sorted c.self.invariant.1 in (
       removal.root,
       subst (λ m. length m ≤ limit) (sym removal.map) fits,
       c.self.invariant.2,

@@ -1,0 +1,24 @@
+//! Times a map of byte-text keys: filling, reading, replacing, snapshots and emptying it.
+//!
+//! `trie_bench [PAIRS [ROUNDS]]` (1,000 pairs and one round where left out) writes a line a
+//! measurement to standard error, `tambyulo NAME THREADS NANOSECONDS`, the best of the rounds, and
+//! a checksum of each to standard output, which depends on the number of pairs alone.
+#![tactic(auto)]
+
+mod arguments;
+mod fault;
+mod maps;
+mod rounds;
+mod stopwatch;
+
+use std::process::ExitCode;
+
+fn main(rt: HostRuntime) -> ExitCode {
+    match rounds::run(&rt) {
+        Ok(()) => ExitCode::SUCCESS,
+        Err(fault) => {
+            let _ = rt.eprintln(format_args!("trie_bench: {fault}"));
+            ExitCode::from(1)
+        }
+    }
+}

@@ -1,0 +1,42 @@
+//! The best time of some rounds.
+
+use crate::fault::Fault;
+use std::rt::Runtime;
+use std::time::Duration;
+
+/// The shortest time of a measurement so far.
+#[derive(Drop)]
+pub struct Best {
+    shortest: Duration,
+}
+
+impl Best {
+    /// No time yet.
+    pub fn new() -> Best {
+        Best {
+            shortest: Duration::MAX,
+        }
+    }
+
+    /// Counts the time of one more round.
+    pub fn count(&mut self, time: Duration) {
+        if time < self.shortest {
+            self.shortest = time;
+        }
+    }
+
+    /// Prints the nanoseconds of one piece of the work, on one thread, to standard error, and the
+    /// checksum to standard output.
+    pub fn show<R: Runtime>(
+        &self,
+        rt: &R,
+        name: &str,
+        pieces: u32,
+        checksum: i128,
+    ) -> Result<(), Fault> {
+        let nanoseconds = self.shortest.as_nanos() / u128::from(pieces.max(1));
+        rt.eprintln(format_args!("tambyulo {name} 1 {nanoseconds}"))?;
+        rt.println(format_args!("{name} {checksum}"))?;
+        Ok(())
+    }
+}

@@ -1,0 +1,5 @@
+use Rattle.std.proofs.Common.{◌-◌}
+use Rattle.trie_tests.proofs.outline.+add_lines.Given as goal
+
+abbrev pub decreases-add_lines : goal.decreases-add_lines
+decreases-add_lines l = 7 - l.depth

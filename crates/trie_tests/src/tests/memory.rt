@@ -1,0 +1,126 @@
+//! Writes whose requests for memory are refused: the first, then the second, and so on.
+//!
+//! The test takes the whole address space in blocks that it never touches, so it costs little
+//! memory, and gives back one block more each time, of the size that is asked for next. It needs
+//! the C library's allocator as a test is built with it: an address sanitizer's keeps memory of its
+//! own aside.
+
+use super::{Trie, key, trie_of};
+use crate::outline::{Outline, outline_of};
+use std::alloc::{AllocError, Global};
+use std::process::Abort;
+use std::sync::Arc;
+use std::test::Fail;
+use trie_node::Stamp;
+
+// How many blocks can be kept.
+const MOST_BLOCKS: usize = 1 << 18;
+
+// Takes blocks of the size until one is refused.
+fn take_all_of(alloc: Global, taken: &mut Vec<Vec<u8>>, size: usize) {
+    for _ in 0..MOST_BLOCKS {
+        let Ok(block) = Vec::with_capacity(alloc, size) else {
+            return;
+        };
+        if taken.len() == taken.capacity() || taken.push(block).is_err() {
+            return;
+        }
+    }
+}
+
+// Takes all the memory that there is.
+fn take_all(alloc: Global) -> Result<Vec<Vec<u8>>, AllocError> {
+    let mut taken = Vec::with_capacity(alloc, MOST_BLOCKS)?;
+    let mut large = 1 << 46;
+    for _ in 0..34 {
+        take_all_of(alloc, &mut taken, large);
+        large /= 2;
+    }
+    let mut small: usize = 4096;
+    for _ in 0..256 {
+        take_all_of(alloc, &mut taken, small);
+        small = small.saturating_sub(16);
+    }
+    Ok(taken)
+}
+
+// How many blocks are given back at most.
+const MOST_GIVEN: usize = 24;
+
+// A block for a node, and one for the children of a branch.
+const NODE: usize = 64;
+
+const CHILDREN: usize = 16;
+
+// Blocks of the two sizes in turn. The last is of the first size.
+fn spare_blocks(alloc: Global, first: usize, second: usize) -> Result<Vec<Vec<u8>>, AllocError> {
+    let mut blocks = Vec::with_capacity(alloc, MOST_GIVEN)?;
+    for _ in 0..MOST_GIVEN / 2 {
+        blocks.push(Vec::with_capacity(alloc, second)?)?;
+        blocks.push(Vec::with_capacity(alloc, first)?)?;
+    }
+    Ok(blocks)
+}
+
+// The root is as it was.
+fn assert_same(rt: &impl Abort, alloc: Global, trie: &Trie, before: &Outline) -> Result<(), Fail> {
+    let now = outline_of(alloc, trie.root())?;
+    assert_eq!(rt; now.lines.as_slice(), before.lines.as_slice());
+    assert_eq!(rt; now.stamps.as_slice(), before.stamps.as_slice());
+    assert_eq!(rt; now.pairs.as_slice(), before.pairs.as_slice());
+    Ok(())
+}
+
+// A put that makes a leaf and copies seven branches: one request for the leaf, two for a branch.
+#[test]
+fn refused_puts_leave_the_root(rt: HostRuntime) -> Result<(), Fail> {
+    let alloc = rt.alloc();
+    let (p, q) = (key(0, 0), key(0xc000_0000, 0));
+    let trie = trie_of(alloc, &[(p, 1), (key(1, 0), 2)])?;
+    let before = outline_of(alloc, trie.root())?;
+    for given in 0..MOST_GIVEN {
+        let at = Arc::new(alloc, q)?;
+        let value = Arc::new(alloc, 3)?;
+        let mut spare = spare_blocks(alloc, NODE, CHILDREN)?;
+        let taken = take_all(alloc)?;
+        for _ in 0..given {
+            let _ = spare.pop();
+        }
+        let answer = trie.with_put(alloc, at, value, Stamp(2));
+        drop(taken);
+        assert_same(&rt, alloc, &trie, &before)?;
+        if let Ok(written) = answer {
+            assert_eq!(rt; given, 15);
+            assert_eq!(rt; written.find(&q).map(|v| **v), Some(3));
+            return Ok(());
+        }
+    }
+    assert!(rt; false, "a put is refused with memory to spare");
+    Ok(())
+}
+
+// A removal that copies seven branches.
+#[test]
+fn refused_removals_leave_the_root(rt: HostRuntime) -> Result<(), Fail> {
+    let alloc = rt.alloc();
+    let (p, q) = (key(0, 0), key(0xc000_0000, 0));
+    let trie = trie_of(alloc, &[(p, 1), (q, 2), (key(0x8000_0000, 0), 3)])?;
+    let before = outline_of(alloc, trie.root())?;
+    for given in 0..MOST_GIVEN {
+        let mut spare = spare_blocks(alloc, CHILDREN, NODE)?;
+        let taken = take_all(alloc)?;
+        for _ in 0..given {
+            let _ = spare.pop();
+        }
+        let answer = trie.with_removed(alloc, &q, Stamp(2));
+        drop(taken);
+        assert_same(&rt, alloc, &trie, &before)?;
+        if let Ok(written) = answer {
+            assert_eq!(rt; given, 14);
+            assert!(rt; written.find(&q).is_none());
+            return Ok(());
+        }
+    }
+    assert!(rt; false, "a removal is refused with memory to spare");
+    Ok(())
+}
