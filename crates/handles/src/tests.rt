@@ -2,7 +2,9 @@
 mod memory;
 mod operations;
 
-use crate::{Call, CallReply, Command, Limits, Reply, Table, law_of_other_handles, law_of_refusals};
+use crate::{
+    Call, CallReply, Command, Limits, Reply, Table, law_of_other_handles, law_of_refusals,
+};
 use std::alloc::Global;
 use std::sync::Arc;
 use std::test::Fail;
