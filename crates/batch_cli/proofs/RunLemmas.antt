@@ -6,7 +6,7 @@ use Rattle.handles.specs.declared.call_reply.CallReply.{CallReply}
 use Rattle.versions.specs.Commands.{get, put_if_absent, old, done, count, cleared}
 use Rattle.handles.specs.Machine.{Step, on, made, replied, viewed, frozen, finished, unfinished, refused, worked}
 use Rattle.handles.specs.Views.{IsStep, call_outcome, outcome_of, lacks_memory}
-use Rattle.handles.proofs.Runs.{step_of}
+use Rattle.handles.specs.Laws.{AnswersAreSteps}
 use Rattle.batch_cli.specs.Replies.{line_text}
 use Rattle.batch_cli.specs.Events.{program, ProgramState, ProgramRequest, ProgramOutcome, Event, request_for, reply_to, Ends, Makes, IsRun, MayAnswer, MayReply, MayStore}
 use Rattle.batch_cli.specs.Runs.{LineAnswer, EachMakes, events_of, text_for, Answers}
@@ -18,11 +18,11 @@ use Rattle.batch_cli.specs.declared.reply.LineReply.TheVariants.{Absent}
 use Rattle.batch_cli.proofs.Ends.{missing_or_done}
 
 -- what the table answered is an event of the machine
-pub answered : {E : Type 0} (s t : ProgramState) (r : ProgramRequest) (answer : Result (CallReply ℤ) Refusal) (result : Result LineReply E)
+pub answered : {E : Type 0} → AnswersAreSteps program → (s t : ProgramState) (r : ProgramRequest) (answer : Result (CallReply ℤ) Refusal) (result : Result LineReply E)
     → IsStep program s r call_outcome answer t → IfOk result (λ reply. reply_to (outcome_of answer) ≡ Some reply) → IfOk result (λ _. lacks_memory answer ≡ false)
     → IfOk result (λ reply. MayReply s r reply t)
-answered s t r answer (Ok reply) step shown memory = (outcome_of answer, step_of program s r answer t memory step, shown)
-answered s t r answer (Err e) step shown memory = tt
+answered law s t r answer (Ok reply) step shown memory = (outcome_of answer, law s t r answer memory step, shown)
+answered law s t r answer (Err e) step shown memory = tt
 
 -- a reply that something is absent shows that nothing was found
 pub absent : (outcome : ProgramOutcome) → reply_to outcome ≡ Some Absent → outcome ≡ replied (old None)

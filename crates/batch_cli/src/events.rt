@@ -7,7 +7,7 @@ ghost use Rattle.batch_cli.specs.Events.{MayAnswer, MayReply, MayStore, reply_to
 use crate::command::Command;
 use crate::key::Key;
 use crate::reply::LineReply;
-use handles::{Call, CallReply, Reply, Table};
+use handles::{Call, CallReply, Reply, Table, law_of_answers};
 use std::alloc::Global;
 use std::sync::Arc;
 use versions::{NoMemory, Refusal};
@@ -38,6 +38,7 @@ fn event(
 ) -> Result<LineReply, NoMemory>
     ensures { IfOk result (λ reply. MayReply table.old (request_of call) reply table.new) }
 {
+    law_of_answers::<Key, i64>();
     let answer = table.serve(alloc, call);
     reply_of(&answer)
 }

@@ -1,5 +1,5 @@
 //! Laws of the machine. Their functions do nothing: each contract is the law.
-ghost use Rattle.handles.specs.Laws.{CommandsKeepOtherHandles, RefusalsKeepAll};
+ghost use Rattle.handles.specs.Laws.{AnswersAreSteps, CommandsKeepOtherHandles, RefusalsKeepAll};
 ghost use Rattle.handles.specs.Views.{without_queries};
 
 /// A command on one handle leaves the maps of all other handles, so a snapshot keeps its pairs.
@@ -10,4 +10,9 @@ pub fn law_of_other_handles<K: Ord, V: Eq>()
 /// A refusal leaves all handles and all jobs.
 pub fn law_of_refusals<K: Ord, V: Eq>()
     ensures { RefusalsKeepAll (without_queries K.cmp V.eq) }
+{}
+
+/// What a table answers a call is the outcome of a step, unless memory was wanting.
+pub fn law_of_answers<K: Ord, V: Eq>()
+    ensures { AnswersAreSteps (without_queries K.cmp V.eq) }
 {}

@@ -18,7 +18,7 @@ mod tests;
 pub use call::Call;
 pub use call_reply::CallReply;
 pub use command::Command;
-pub use laws::{law_of_other_handles, law_of_refusals};
+pub use laws::{law_of_answers, law_of_other_handles, law_of_refusals};
 pub use limits::{Limits, MOST_ENTRIES};
 pub use reply::Reply;
 pub use table::Table;

@@ -3,7 +3,8 @@ mod memory;
 mod operations;
 
 use crate::{
-    Call, CallReply, Command, Limits, Reply, Table, law_of_other_handles, law_of_refusals,
+    Call, CallReply, Command, Limits, Reply, Table, law_of_answers, law_of_other_handles,
+    law_of_refusals,
 };
 use std::alloc::Global;
 use std::sync::Arc;
@@ -160,4 +161,5 @@ fn calls_as_values(rt: HostRuntime) -> Result<(), Fail> {
 fn laws_are_calls_that_do_nothing() {
     law_of_other_handles::<ChosenKey, i64>();
     law_of_refusals::<ChosenKey, i64>();
+    law_of_answers::<ChosenKey, i64>();
 }
