@@ -27,6 +27,7 @@ install: build
 # Proves and builds the benchmark, which bench/README.md explains.
 bench:
 	@tests/build trie_bench
+	@echo "built crates/trie_bench/out/trie_bench"
 
 # Drops everything that was proved and built.
 clean:
