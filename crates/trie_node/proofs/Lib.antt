@@ -29,3 +29,4 @@ pub mod Counts
 pub mod Shortened
 pub mod Removing
 pub mod Children
+pub mod Unions
