@@ -29,3 +29,5 @@ pub mod Counts
 pub mod Shortened
 pub mod Removing
 pub mod Children
+pub mod Walked
+pub mod Below

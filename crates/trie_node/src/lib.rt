@@ -21,6 +21,7 @@ mod removal;
 mod search;
 mod shown;
 mod taking;
+mod walk_laws;
 
 pub use basics::{NoMemory, Stamp};
 pub use condition::{Always, Condition, IfAbsent, IfEqual, IfPresent};
@@ -34,3 +35,4 @@ pub use reading::{child, look, size, stamp};
 pub use removal::{removed_where, with_removed};
 pub use search::find;
 pub use shown::Look;
+pub use walk_laws::{branch_is_its_children, walk_lists_map};
