@@ -31,3 +31,4 @@ pub mod Removing
 pub mod Children
 pub mod Walked
 pub mod Below
+pub mod Unions
