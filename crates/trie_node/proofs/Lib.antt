@@ -29,4 +29,6 @@ pub mod Counts
 pub mod Shortened
 pub mod Removing
 pub mod Children
+pub mod Walked
+pub mod Below
 pub mod Unions

@@ -22,6 +22,7 @@ mod search;
 mod shown;
 mod taking;
 mod union_laws;
+mod walk_laws;
 
 pub use basics::{NoMemory, Stamp};
 pub use condition::{Always, Condition, IfAbsent, IfEqual, IfPresent};
@@ -36,3 +37,4 @@ pub use removal::{removed_where, with_removed};
 pub use search::find;
 pub use shown::Look;
 pub use union_laws::{union_of_maps, unions_of_maps};
+pub use walk_laws::{branch_is_its_children, walk_lists_map};
