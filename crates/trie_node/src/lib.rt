@@ -21,6 +21,8 @@ mod removal;
 mod search;
 mod shown;
 mod taking;
+mod union_laws;
+mod walk_laws;
 
 pub use basics::{NoMemory, Stamp};
 pub use condition::{Always, Condition, IfAbsent, IfEqual, IfPresent};
@@ -34,3 +36,5 @@ pub use reading::{child, look, size, stamp};
 pub use removal::{removed_where, with_removed};
 pub use search::find;
 pub use shown::Look;
+pub use union_laws::{union_of_maps, unions_of_maps};
+pub use walk_laws::{branch_is_its_children, walk_lists_map};
