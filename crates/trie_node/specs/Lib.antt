@@ -13,3 +13,4 @@ pub mod Order
 pub mod Counts
 pub mod PutInPlace
 pub mod RemovalInPlace
+pub mod Listings

@@ -25,6 +25,8 @@ mod removal_in_place;
 mod search;
 mod shown;
 mod taking;
+mod union_laws;
+mod walk_laws;
 
 pub use basics::{NoMemory, Stamp};
 pub use condition::{Always, Condition, IfAbsent, IfEqual, IfPresent};
@@ -40,3 +42,5 @@ pub use removal::{removed_where, with_removed};
 pub use removal_in_place::{remove_in, remove_in_where};
 pub use search::find;
 pub use shown::Look;
+pub use union_laws::{union_of_maps, unions_of_maps};
+pub use walk_laws::{branch_is_its_children, walk_lists_map};
