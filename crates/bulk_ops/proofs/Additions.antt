@@ -42,6 +42,10 @@ pub at_most_one : (b : Bool) (n : ℕ) → n ≡ bool_byte b → n ≤ 1
 at_most_one true n e = omega arith
 at_most_one false n e = omega arith
 
+-- a put at equal keys and values
+pub put_at : {K V I : Type 0} (R : K → K → Ordering) (a c : Part K V I) (j k : K) (u v : V) → IsPut R a j u c → j ≡ k → u ≡ v → IsPut R a k v c
+put_at R a c j k u v put e h = subst (λ v. IsPut R a k v c) h (subst (λ k. IsPut R a k u c) e put)
+
 -- any one pair is apart from no pairs
 pub apart_from_none : {K V : Type 0} (R : K → K → Ordering) (x : K × V) → AreApart R (x ∷ []) []
 apart_from_none R x = record { left = refl; right = refl; apart = λ k e. refl; few = omega arith }

@@ -122,7 +122,8 @@ impl<
             }
             Query::MapValues(change, _) => {
                 let made = Arc::new(alloc, change.at(key, value))?;
-                part.put(alloc, Arc::try_clone(key)?, made)
+                part.put(alloc, Arc::try_clone(key)?, made)?;
+                Ok(())
             }
             Query::Fold(monoid, item) => {
                 let folded = monoid.op(&item.at(key, value), part.item());

@@ -56,15 +56,24 @@ returns-else-at-clause-added g c =
     (λ p means. c.at-in-Find.ensures p means ∙ (λ i. p (c.deref-in-Find.ensures i) (c.deref-in-Find-2.ensures i)))
 
 pub returns-in_ok-put-in-Filter-clause-added : goal.returns-in_ok-put-in-Filter-clause-added
-returns-in_ok-put-in-Filter-clause-added g c = ?
+returns-in_ok-put-in-Filter-clause-added g c =
+    let pair = c.in_ok-key-in-Filter in
+    adds.filter_added g.M.Monoid.combine g.M.Monoid.unit_of g.K.Ord.cmp g.met.K.Ord.total c.args.key.now.value c.args.value.now.value c.args.self.now c.in-Filter.test c.in-Filter.field-1 c.at-in-Filter.result c.args.part.now c.put.new.self c.in-Filter.is c.if-at-2.true
+    (λ p means. c.at-in-Filter.ensures p means ∙ (λ i. p (c.deref-in-Filter.ensures i) (c.deref-in-Filter-2.ensures i)))
+    (adds.put_at g.K.Ord.cmp c.args.part.now c.put.new.self pair.key.value c.args.key.now.value pair.value.value c.args.value.now.value c.in_ok-put-in-Filter.ensures.put pair.ensures.0 pair.ensures.1)
 
 pub returns-else-at-2-clause-added : goal.returns-else-at-2-clause-added
 returns-else-at-2-clause-added g c =
     adds.filter_passed g.M.Monoid.combine g.M.Monoid.unit_of g.K.Ord.cmp g.met.K.Ord.total c.args.key.now.value c.args.value.now.value c.args.self.now c.in-Filter.test c.in-Filter.field-1 c.at-in-Filter.result c.args.part.now c.in-Filter.is c.if-at-2.false
     (λ p means. c.at-in-Filter.ensures p means ∙ (λ i. p (c.deref-in-Filter.ensures i) (c.deref-in-Filter-2.ensures i)))
 
-pub returns-in_ok-try_clone-in-MapValues-clause-added : goal.returns-in_ok-try_clone-in-MapValues-clause-added
-returns-in_ok-try_clone-in-MapValues-clause-added g c = ?
+pub returns-in_ok-put-in-MapValues-clause-added : goal.returns-in_ok-put-in-MapValues-clause-added
+returns-in_ok-put-in-MapValues-clause-added g c =
+    let key = c.in_ok-try_clone-in-MapValues in
+    let made = c.in_ok-made-in-MapValues in
+    adds.values_added g.M.Monoid.combine g.M.Monoid.unit_of g.K.Ord.cmp g.met.K.Ord.total c.args.key.now.value c.args.value.now.value c.args.self.now c.in-MapValues.change c.in-MapValues.field-1 c.at-in-MapValues.result c.args.part.now c.put-in-MapValues.new.self c.in-MapValues.is
+    (λ p means. c.at-in-MapValues.ensures p means ∙ (λ i. p (c.deref-in-MapValues.ensures i) (c.deref-in-MapValues-2.ensures i)))
+    (adds.put_at g.K.Ord.cmp c.args.part.now c.put-in-MapValues.new.self key.field-0.value c.args.key.now.value made.made.value c.at-in-MapValues.result c.in_ok-put-in-MapValues.ensures.put key.ensures made.ensures.ok)
 
 pub returns-in-Fold-clause-added : goal.returns-in-Fold-clause-added
 returns-in-Fold-clause-added g c =
