@@ -6,3 +6,4 @@ pub mod PartKinds
 pub mod Additions
 pub mod Settled
 pub mod Concluded
+pub mod Works

@@ -77,7 +77,7 @@ module _ {K V : Type 0} (R : K → K → Ordering) (o : IsTotalOrder R) where
       new_put f x.0 x.1 (union R m n) (fresh R o x m n h apart)
       ∙ ap (λ s. with_pair R s x.0 (f x.0 x.1)) (values_union f m n (right_of _ _ h) (apart_rest R o x m n apart))
 
-  kept : (x y : K × V) (old new : Map K V) → Split R x old new → Contains old y → Contains new y
+  pub kept : (x y : K × V) (old new : Map K V) → Split R x old new → Contains old y → Contains new y
   kept x y old new s c =
       let among : Contains (s.before ++ s.behind) y = subst (λ m. Contains m y) s.was c in
       subst (λ m. Contains m y) (sym s.is) (elim (Contains-append_cases s.before s.behind y among) as (λ c. Contains (s.before ++ x ∷ s.behind) y) [

@@ -124,7 +124,7 @@ module _ {K V : Type 0} (R : K → K → Ordering) where
     sorted_union [] n h = h
     sorted_union (x ∷ m) n h = is_sorted-put R o x.0 x.1 (union R m n) (sorted_union m n h)
 
-    there : (x : K × V) (m : Map K V) → is_some (value_at R (x ∷ m) x.0) ≡ true
+    pub there : (x : K × V) (m : Map K V) → is_some (value_at R (x ∷ m) x.0) ≡ true
     there x m = ap (λ r. is_some (cond (is_eq r) (Some x.1) (value_at R m x.0))) (tied_itself o x.0)
 
     none_both : (a b : Option V) → a ≡ None → b ≡ None → option_or a b ≡ None

@@ -10,6 +10,7 @@ mod closure;
 mod part;
 mod query;
 mod stored;
+mod walking;
 mod working;
 
 pub use asks::{Answer, Asks};
@@ -17,3 +18,4 @@ pub use closure::{PairFn, Plain};
 pub use part::{Pair, Part};
 pub use query::Query;
 pub use stored::{Stored, StoredItem, StoredMap, StoredTest};
+pub use walking::work;
