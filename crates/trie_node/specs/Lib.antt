@@ -11,3 +11,4 @@ pub mod Changes
 pub mod Removals
 pub mod Order
 pub mod Counts
+pub mod Merges

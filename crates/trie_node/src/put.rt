@@ -36,11 +36,11 @@ pub struct Written<'a, K, V> {
 
 /// A pair to be put, with the path word of its key and the stamp of the write.
 #[derive(Drop)]
-struct Entry<K, V> {
-    key: Arc<K, Global>,
-    value: Arc<V, Global>,
-    path: Path,
-    stamp: Stamp,
+pub(crate) struct Entry<K, V> {
+    pub key: Arc<K, Global>,
+    pub value: Arc<V, Global>,
+    pub path: Path,
+    pub stamp: Stamp,
 }
 
 /// A branch with a leaf of the entry, where no child has the digit of its key.
@@ -234,7 +234,7 @@ fn put_pairs<'a, K: PathKey + Drop, V: Drop, C: Condition<V>>(
 }
 
 /// A put below a node that stands at the level. Only the nodes on the key's way are new.
-fn put_at<'a, K: PathKey + Drop, V: Drop, C: Condition<V>>(
+pub(crate) fn put_at<'a, K: PathKey + Drop, V: Drop, C: Condition<V>>(
     alloc: Global,
     node: &'a Node<K, V>,
     entry: Entry<K, V>,
