@@ -12,3 +12,6 @@ pub mod Removals
 pub mod Order
 pub mod Counts
 pub mod Merges
+pub mod PutInPlace
+pub mod RemovalInPlace
+pub mod Listings

@@ -38,7 +38,7 @@ loop-key-preserved g c =
     let found = c.in_ok-root.field-0 in
     let previous = option_map (λ v. v.now.value) found.previous in
     let made = option_map tree found.root in
-    let writes = subst (λ x. WritesWhere R path a.level a.stamp.0 x.0 (Some x.1) holds (tree c.loop-key.all) previous made) pair c.in_ok-root.ensures in
+    let writes = subst (λ x. WritesWhere R path a.level a.stamp.0 x.0 (Some x.1) holds (tree c.loop-key.all) previous made) pair c.in_ok-root.ensures.ok in
     elim c.match-root.branch [
       | in-Some w ↦ subst (λ n. PutsEach R path a.level a.stamp.0 holds (take (i + 1) es) (tree a.node.now) (tree n)) (sym w.all-is)
           (each_written R path g.met.K.Ord.total g.met.K.PathKey.exact a.level a.stamp.0 holds a.stamp.0 es (tree a.node.now) c.requires i (pair_values item) lt is (tree c.loop-key.all) c.loop-key.invariant previous made writes (tree w.in-Some.next) (ap (option_map tree) w.in-Some.is))
