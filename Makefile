@@ -4,31 +4,31 @@ SCRIPT ?= examples/first.trie
 PREFIX ?= /usr/local
 PROGRAM := crates/trierun/out/trierun
 
-.PHONY: run build test install bench clean
+.PHONY: help run build check test install bench clean
 
-# Proves what the program needs, builds it, and runs it on a script.
-run: build
+help: ## Lists the targets.
+	@grep -E '^[a-z]+: .*## ' Makefile | sed -E 's/^([a-z]+):.*## /\1\t/' | expand -t 10
+
+run: build ## Proves what the program needs, builds it, and runs it on SCRIPT.
 	@$(PROGRAM) $(SCRIPT)
 
-# Leaves the proved program at $(PROGRAM).
-build:
+build: ## Leaves the proved program at crates/trierun/out/trierun.
 	@tests/build trierun
 
-# The gate: every proof from nothing, the edits that must be refused, the tests, the programs, the examples.
-test:
+check: ## Proves what changed since the last check; no tests, no edits.
+	@rt all check
+
+test: ## The gate: every proof from nothing, the edits that must be refused, all tests and programs.
 	@tests/gate
 
-# Puts the program's binary into $(PREFIX)/bin.
-install: build
+install: build ## Puts the program's binary into PREFIX/bin.
 	@install -d $(DESTDIR)$(PREFIX)/bin
 	@install -m 755 $(PROGRAM) $(DESTDIR)$(PREFIX)/bin/trierun
 	@echo "installed $(DESTDIR)$(PREFIX)/bin/trierun"
 
-# Proves and builds the benchmark, which bench/README.md explains.
-bench:
+bench: ## Proves and builds the benchmark, which bench/README.md explains.
 	@tests/build trie_bench
 	@echo "built crates/trie_bench/out/trie_bench"
 
-# Drops everything that was proved and built.
-clean:
+clean: ## Drops everything that was proved and built.
 	@rm -rf out crates/*/out bench/out

@@ -1,13 +1,12 @@
--- The laws of keys, of these two.
-use Rattle.std.specs.Prelude.{◌≡◌, ℕ, ◌%◌, ◌^◌, ◌<◌, List}
+-- The laws of keys, of those with a chosen path.
+use Rattle.std.specs.Prelude.{◌≡◌, ℕ, ◌%◌, ◌^◌, ◌<◌}
 use Rattle.std.proofs.Common.{ap, lit<}
 use Rattle.std.proofs.lemmas.Nat.{mod_below}
 use Rattle.std.specs.declared.cmp.Ordering.TheVariants.{Equal}
 use Rattle.std.specs.Ordering.{nat_cmp}
-use Rattle.std.specs.FinMap.{slice_cmp-IsAntisymmetric, nat_cmp-IsAntisymmetric}
 use Rattle.std.proofs.lemmas.Map.Lookups.{exact_pairs, exact_unsigned}
 use Rattle.test_keys.specs.declared.chosen.ChosenKey.{ChosenKey}
-use Rattle.test_keys.specs.Order.{chosen_cmp, bytes_cmp}
+use Rattle.test_keys.specs.Order.{chosen_cmp}
 
 -- keys with a chosen path that compare equal are one key
 pub chosen-exact : (a b : ChosenKey) → chosen_cmp a b ≡ Equal → a ≡ b
@@ -18,7 +17,3 @@ chosen-exact a b h =
 -- a chosen path is a number of 32 bits
 pub chosen-small : (k : ChosenKey) → k.path % 2 ^ 32 < 2 ^ 32
 chosen-small k = mod_below k.path (2 ^ 32) (lit< tt)
-
--- keys of bytes that compare equal are one list of bytes
-pub bytes-exact : (a b : List ℕ) → bytes_cmp a b ≡ Equal → a ≡ b
-bytes-exact = slice_cmp-IsAntisymmetric nat_cmp-IsAntisymmetric

@@ -1,25 +1,9 @@
-use crate::{ByteKey, ChosenKey};
+use crate::{ChosenKey, spare_blocks, take_all};
 use hash_path::{Path, PathKey};
 use std::test::Fail;
 
-fn position_of<K: PathKey + Drop>(key: K) -> u32 {
+fn position_of<K: PathKey>(key: &K) -> u32 {
     key.path().position()
-}
-
-#[test]
-fn keys_serve_generic_code(rt: HostRuntime) -> Result<(), Fail> {
-    assert_eq!(rt;
-        position_of(ChosenKey {
-            path: 0xffff_ffff,
-            id: 0
-        }),
-        0xffff_ffff
-    );
-    assert_eq!(rt;
-        position_of(ByteKey::new(b"a".to_vec(rt.alloc())?)),
-        1_649_770_571
-    );
-    Ok(())
 }
 
 #[test]
@@ -33,18 +17,23 @@ fn chosen_key_has_its_path(rt: HostRuntime) {
         id: 8,
     };
     assert_eq!(rt; key.path(), Path(0xc000_0000));
-    assert_eq!(rt; key.path().position(), 3);
+    assert_eq!(rt; position_of(&key), 3);
     assert!(rt; key < other);
     assert_ne!(rt; key, other);
 }
 
+/// With all memory taken a request is refused; with one spare block given back the next one of its size is met.
 #[test]
-fn byte_key_has_the_hash_of_its_bytes(rt: HostRuntime) -> Result<(), Fail> {
-    let foo = ByteKey::new(b"foo".to_vec(rt.alloc())?);
-    let foobar = ByteKey::new(b"foobar".to_vec(rt.alloc())?);
-    assert_eq!(rt; foobar.as_slice(), b"foobar".as_slice());
-    assert_eq!(rt; foobar.path(), Path(0xbf9c_f968));
-    assert!(rt; foo < foobar);
-    assert!(rt; foo != foobar);
+fn taken_memory_is_refused_until_it_is_given_back(rt: HostRuntime) -> Result<(), Fail> {
+    let alloc = rt.alloc();
+    let mut spare = spare_blocks(alloc, 1, 64, 16)?;
+    let taken = take_all(alloc)?;
+    let refused = Vec::<u8>::with_capacity(alloc, 64).is_err();
+    let _ = spare.pop();
+    let met = Vec::<u8>::with_capacity(alloc, 64).is_ok();
+    drop(taken);
+    assert!(rt; refused);
+    assert!(rt; met);
+    assert_eq!(rt; spare.len(), 1);
     Ok(())
 }

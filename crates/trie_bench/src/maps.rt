@@ -6,18 +6,18 @@ use crate::fault::Fault;
 use generation::Source;
 use std::alloc::Global;
 use std::sync::Arc;
-use test_keys::ByteKey;
+use keys::ByteText;
 use versions::{MOST_PAIRS, Version};
 
 /// A map of the benchmark.
-pub type Map = Version<ByteKey, i64>;
+pub type Map = Version<ByteText, i64>;
 
 /// The keys `k0000000`, `k0000001` and so on.
-pub fn keys(alloc: Global, count: u32) -> Result<Vec<Arc<ByteKey>>, Fault> {
+pub fn keys(alloc: Global, count: u32) -> Result<Vec<Arc<ByteText>>, Fault> {
     let mut keys = Vec::with_capacity(alloc, count as usize)?;
     for number in 0..count {
         let text = format!(in alloc; "k{number:07}")?;
-        keys.push(Arc::new(alloc, ByteKey::new(text.into_bytes()))?)?;
+        keys.push(Arc::new(alloc, ByteText::new(text.into_bytes()))?)?;
     }
     Ok(keys)
 }
@@ -32,7 +32,7 @@ pub fn empty(alloc: Global, source: &mut Source) -> Result<Map, Fault>
 }
 
 /// Maps each key to its number plus `more`, and answers the sum of the values before.
-pub fn put_all(alloc: Global, map: &mut Map, keys: &[Arc<ByteKey>], more: i64) -> Result<i64, Fault>
+pub fn put_all(alloc: Global, map: &mut Map, keys: &[Arc<ByteText>], more: i64) -> Result<i64, Fault>
     ensures { map.new.stamp ≡ map.old.stamp }
 {
     let mut sum = 0i64;
@@ -48,7 +48,7 @@ pub fn put_all(alloc: Global, map: &mut Map, keys: &[Arc<ByteKey>], more: i64) -
 }
 
 /// The sum of the values of the keys.
-pub fn get_all(map: &Map, keys: &[Arc<ByteKey>]) -> i64 {
+pub fn get_all(map: &Map, keys: &[Arc<ByteText>]) -> i64 {
     let mut sum = 0i64;
     for key in keys {
         if let Some(value) = map.get(key) {
@@ -59,7 +59,7 @@ pub fn get_all(map: &Map, keys: &[Arc<ByteKey>]) -> i64 {
 }
 
 /// Removes each key, and answers the sum of the values that were removed.
-pub fn remove_all(alloc: Global, map: &mut Map, keys: &[Arc<ByteKey>]) -> Result<i64, Fault> {
+pub fn remove_all(alloc: Global, map: &mut Map, keys: &[Arc<ByteText>]) -> Result<i64, Fault> {
     let mut sum = 0i64;
     for key in keys {
         if let Some(before) = map.remove(alloc, key)? {
@@ -75,7 +75,7 @@ pub fn snapshot_all(
     alloc: Global,
     map: &mut Map,
     source: &mut Source,
-    keys: &[Arc<ByteKey>],
+    keys: &[Arc<ByteText>],
 ) -> Result<i64, Fault>
     requires issued { map.old.stamp ≤ source.old }
     requires room { source.old + 2 * length keys.now ≤ 2 ^ 63 }

@@ -9,7 +9,7 @@ use std::env;
 use std::rt::Runtime;
 use std::sync::Arc;
 use std::time::Instant;
-use test_keys::ByteKey;
+use keys::ByteText;
 
 /// How many snapshots a round takes, each with a put after it.
 const SNAPSHOTS: u32 = 1000;
@@ -34,14 +34,14 @@ pub fn run<R: Runtime + AllocGlobal>(rt: &R) -> Result<(), Fault> {
 }
 
 /// A map of all keys.
-fn filled<R: Runtime + AllocGlobal>(rt: &R, keys: &[Arc<ByteKey>]) -> Result<Map, Fault> {
+fn filled<R: Runtime + AllocGlobal>(rt: &R, keys: &[Arc<ByteText>]) -> Result<Map, Fault> {
     let mut map = empty(rt.alloc(), &mut Source::new())?;
     put_all(rt.alloc(), &mut map, keys, 0)?;
     Ok(map)
 }
 
 /// Puts into an empty map until all keys are there.
-fn fill<R: Runtime + AllocGlobal>(rt: &R, rounds: u32, keys: &[Arc<ByteKey>]) -> Result<(), Fault> {
+fn fill<R: Runtime + AllocGlobal>(rt: &R, rounds: u32, keys: &[Arc<ByteText>]) -> Result<(), Fault> {
     let mut best = Best::new();
     let mut count = 0;
     for _ in 0..rounds {
@@ -58,7 +58,7 @@ fn read<R: Runtime + AllocGlobal>(
     rt: &R,
     rounds: u32,
     map: &Map,
-    keys: &[Arc<ByteKey>],
+    keys: &[Arc<ByteText>],
 ) -> Result<(), Fault> {
     let mut best = Best::new();
     let mut sum = 0;
@@ -75,7 +75,7 @@ fn replace<R: Runtime + AllocGlobal>(
     rt: &R,
     rounds: u32,
     map: &mut Map,
-    keys: &[Arc<ByteKey>],
+    keys: &[Arc<ByteText>],
 ) -> Result<(), Fault> {
     let mut best = Best::new();
     let mut sum = 0;
@@ -91,7 +91,7 @@ fn replace<R: Runtime + AllocGlobal>(
 fn snapshot<R: Runtime + AllocGlobal>(
     rt: &R,
     rounds: u32,
-    keys: &[Arc<ByteKey>],
+    keys: &[Arc<ByteText>],
 ) -> Result<(), Fault> {
     let mut best = Best::new();
     let mut sum = 0;
@@ -111,7 +111,7 @@ fn snapshot<R: Runtime + AllocGlobal>(
 fn remove<R: Runtime + AllocGlobal>(
     rt: &R,
     rounds: u32,
-    keys: &[Arc<ByteKey>],
+    keys: &[Arc<ByteText>],
 ) -> Result<(), Fault> {
     let mut best = Best::new();
     let mut sum = 0;

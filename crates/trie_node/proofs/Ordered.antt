@@ -130,7 +130,7 @@ module _ {K : Type 0} (R : K → K → Ordering) (path : K → ℕ) (total : IsT
       never Equal s e = refl
       never Greater s e = sym e
 
-  find_by_position : {V : Type 0} (q : K) (es : List (K × V)) → find (by_position R path) q es ≡ find R q es
+  pub find_by_position : {V : Type 0} (q : K) (es : List (K × V)) → find (by_position R path) q es ≡ find R q es
   find_by_position q [] = refl
   find_by_position q (e ∷ es) = λ i. cond (same_ties q e.0 i) (Some e.1) (find_by_position q es i)
 

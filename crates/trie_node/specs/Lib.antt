@@ -11,3 +11,6 @@ pub mod Changes
 pub mod Removals
 pub mod Order
 pub mod Counts
+pub mod PutInPlace
+pub mod RemovalInPlace
+pub mod Listings

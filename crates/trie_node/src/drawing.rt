@@ -21,7 +21,7 @@ pub(crate) struct OpenBranch<'a, K, V> {
 }
 
 /// Whether a node is a leaf or a bucket.
-fn is_pairs<K, V>(node: &Node<K, V>) -> bool
+pub(crate) fn is_pairs<K, V>(node: &Node<K, V>) -> bool
     ensures { result ≡ is_bucket (tree node.now) }
 {
     match &*node.inner {

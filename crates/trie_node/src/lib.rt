@@ -2,12 +2,14 @@
 //!
 //! A root is a finite map: `find` reads it, `with_put` and `with_removed` give the root of the
 //! changed map and leave the old one as it was. They copy the nodes of one path and share all
-//! others. Which nodes a root has is a function of its pairs; a write puts its stamp on the nodes
+//! others. `put_in` and `remove_in` change a root itself, and no other: they write the nodes that
+//! nobody else holds where they stand, and copy the rest of the path. Which nodes a root has is a function of its pairs; a write puts its stamp on the nodes
 //! of its key's path and on no other.
 #![tactic(auto)]
 
 mod basics;
 mod bitmap;
+mod branch_in_place;
 mod condition;
 mod copies;
 mod drawing;
@@ -16,11 +18,15 @@ mod node;
 mod outcome;
 mod pairs;
 mod put;
+mod put_in_place;
 mod reading;
 mod removal;
+mod removal_in_place;
 mod search;
 mod shown;
 mod taking;
+mod union_laws;
+mod walk_laws;
 
 pub use basics::{NoMemory, Stamp};
 pub use condition::{Always, Condition, IfAbsent, IfEqual, IfPresent};
@@ -30,7 +36,11 @@ pub use laws::{
 };
 pub use node::{Node, empty_root};
 pub use put::{Written, put_where, with_put};
+pub use put_in_place::{Done, put_in, put_in_where};
 pub use reading::{child, look, size, stamp};
 pub use removal::{removed_where, with_removed};
+pub use removal_in_place::{remove_in, remove_in_where};
 pub use search::find;
 pub use shown::Look;
+pub use union_laws::{union_of_maps, unions_of_maps};
+pub use walk_laws::{branch_is_its_children, walk_lists_map};

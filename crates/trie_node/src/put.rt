@@ -1,6 +1,6 @@
 //! Roots with a pair put.
 
-ghost use Rattle.std.specs.Prelude.{◌≡◌, ◌<◌, ◌≤◌, ◌+◌, ◌^◌, ◌%◌, ◌*◌, option_map, length, map, is_some, true, ◌≢◌, IfOk, IfSome, Some, None, bit_or, [], ◌∷◌};
+ghost use Rattle.std.specs.Prelude.{◌≡◌, ◌<◌, ◌≤◌, ◌+◌, ◌^◌, ◌%◌, ◌*◌, option_map, length, map, is_some, true, ◌≢◌, IfOk, OnErr, IfSome, Some, None, bit_or, [], ◌∷◌};
 ghost use Rattle.std.specs.List.{insert};
 ghost use Rattle.std.specs.Int.RustNames.{count_ones};
 ghost use Rattle.std.specs.FinMap.{find as first_of};
@@ -36,11 +36,11 @@ pub struct Written<'a, K, V> {
 
 /// A pair to be put, with the path word of its key and the stamp of the write.
 #[derive(Drop)]
-struct Entry<K, V> {
-    key: Arc<K, Global>,
-    value: Arc<V, Global>,
-    path: Path,
-    stamp: Stamp,
+pub(crate) struct Entry<K, V> {
+    pub key: Arc<K, Global>,
+    pub value: Arc<V, Global>,
+    pub path: Path,
+    pub stamp: Stamp,
 }
 
 /// A branch with a leaf of the entry, where no child has the digit of its key.
@@ -91,6 +91,7 @@ fn put_beside<'a, K: PathKey + Drop, V: Drop, C: Condition<V>>(
     requires room { size < 2 ^ 63 }
     requires place { count_ones (bitmap % 2 ^ digit) ≤ length children.now }
     ensures written { IfOk result (λ r. is_some r ≡ C.holds condition.now None) }
+    ensures due { OnErr result (C.holds condition.now None ≡ true) }
     ensures leaf { IfOk result (λ r. IfSome r (λ n. tree n ≡ branch entry.stamp.0 (size + 1) (bit_or bitmap (1 * 2 ^ digit % 2 ^ 32)) (trees (insert (map tree children.now) (count_ones (bitmap % 2 ^ digit)) (bucket entry.stamp.0 ((entry.key.value, entry.value.value) ∷ [])))))) }
 {
     let absent: Option<&'a Arc<V, Global>> = None;
@@ -217,7 +218,8 @@ fn put_pairs<'a, K: PathKey + Drop, V: Drop, C: Condition<V>>(
     requires path { entry.path.0 ≡ K.path_of entry.key.value }
     requires agree { KeysAgree K.cmp K.path_of level entry.path.0 (entries (tree node.now)) }
     requires room { length pairs.now < 2 ^ 63 }
-    ensures { IfOk result (λ w. WritesWhere K.cmp K.path_of level entry.stamp.0 entry.key.value (Some entry.value.value) (C.holds condition.now) (tree node.now) (option_map (λ v. v.now.value) w.previous) (option_map tree w.root)) }
+    ensures due { OnErr result (C.holds condition.now (first_of K.cmp entry.key.value (entries (tree node.now))) ≡ true) }
+    ensures ok { IfOk result (λ w. WritesWhere K.cmp K.path_of level entry.stamp.0 entry.key.value (Some entry.value.value) (C.holds condition.now) (tree node.now) (option_map (λ v. v.now.value) w.previous) (option_map tree w.root)) }
 {
     let previous = find_pair(pairs, &entry.key);
     if !condition.holds(previous) {
@@ -234,7 +236,7 @@ fn put_pairs<'a, K: PathKey + Drop, V: Drop, C: Condition<V>>(
 }
 
 /// A put below a node that stands at the level. Only the nodes on the key's way are new.
-fn put_at<'a, K: PathKey + Drop, V: Drop, C: Condition<V>>(
+pub(crate) fn put_at<'a, K: PathKey + Drop, V: Drop, C: Condition<V>>(
     alloc: Global,
     node: &'a Node<K, V>,
     entry: Entry<K, V>,
@@ -245,7 +247,8 @@ fn put_at<'a, K: PathKey + Drop, V: Drop, C: Condition<V>>(
     requires path { entry.path.0 ≡ K.path_of entry.key.value }
     requires agree { KeysAgree K.cmp K.path_of level entry.path.0 (entries (tree node.now)) }
     requires room { length (entries (tree node.now)) < 2 ^ 63 }
-    ensures { IfOk result (λ w. WritesWhere K.cmp K.path_of level entry.stamp.0 entry.key.value (Some entry.value.value) (C.holds condition.now) (tree node.now) (option_map (λ v. v.now.value) w.previous) (option_map tree w.root)) }
+    ensures due { OnErr result (C.holds condition.now (first_of K.cmp entry.key.value (entries (tree node.now))) ≡ true) }
+    ensures ok { IfOk result (λ w. WritesWhere K.cmp K.path_of level entry.stamp.0 entry.key.value (Some entry.value.value) (C.holds condition.now) (tree node.now) (option_map (λ v. v.now.value) w.previous) (option_map tree w.root)) }
 {
     match &*node.inner {
         Inner::Branch {
@@ -310,6 +313,8 @@ pub fn put_where<'a, K: PathKey + Drop, V: Drop, C: Condition<V>>(
     requires room { length (map_of K.cmp (tree node.now)) < 2 ^ 63 }
     ensures previous { IfOk result (λ w. option_map (λ v. v.now.value) w.previous ≡ value_at K.cmp (map_of K.cmp (tree node.now)) key.value) }
     ensures written { IfOk result (λ w. is_some w.root ≡ C.holds condition.now (value_at K.cmp (map_of K.cmp (tree node.now)) key.value)) }
+    // Memory is requested only where the condition holds.
+    ensures due { OnErr result (C.holds condition.now (value_at K.cmp (map_of K.cmp (tree node.now)) key.value) ≡ true) }
     ensures put { IfOk result (λ w. IfSome w.root (λ n. IsPut K.cmp K.path_of stamp.0 key.value value.value (tree node.now) (tree n))) }
 {
     let entry = Entry {

@@ -1,13 +1,13 @@
 //! Roots with a pair removed.
 
-ghost use Rattle.std.specs.Prelude.{◌≡◌, ◌&&◌, option_map, is_some, IfOk, IfSome, None, true};
+ghost use Rattle.std.specs.Prelude.{◌≡◌, ◌&&◌, option_map, is_some, IfOk, OnErr, IfSome, None, true};
 ghost use Rattle.trie_node.specs.Map.{value_at, without};
-ghost use Rattle.trie_node.specs.Tree.{IsTrie};
+ghost use Rattle.trie_node.specs.Tree.{IsTrie, entries};
 ghost use Rattle.trie_node.specs.View.{tree};
 ghost use Rattle.trie_node.specs.Roots.{IsRoot, map_of, word_of};
 ghost use Rattle.trie_node.specs.Shape.{nodes, Restamps};
 ghost use Rattle.trie_node.specs.Changes.{IsRemoval};
-ghost use Rattle.trie_node.specs.Removals.{Removes};
+ghost use Rattle.trie_node.specs.Removals.{Removes, is_removable};
 
 use crate::basics::{NoMemory, Stamp};
 use crate::bitmap::{has_digit, place};
@@ -23,7 +23,7 @@ use std::slice;
 
 /// The removal of the key from a node that stands at the level. Nodes are copied only where a pair
 /// is removed.
-fn remove_at<'a, K: PathKey + Drop, V: Drop, C: Condition<V>>(
+pub(crate) fn remove_at<'a, K: PathKey + Drop, V: Drop, C: Condition<V>>(
     alloc: Global,
     node: &'a Node<K, V>,
     key: &K,
@@ -34,7 +34,8 @@ fn remove_at<'a, K: PathKey + Drop, V: Drop, C: Condition<V>>(
 ) -> Result<Removal<'a, K, V>, NoMemory>
     requires path { path.0 ≡ K.path_of key.now }
     requires trie { IsTrie K.cmp K.path_of level (tree node.now) }
-    ensures { IfOk result (λ r. Removes K.cmp K.path_of level stamp.0 key.now (C.holds condition.now) (tree node.now) r) }
+    ensures due { OnErr result (is_removable K.cmp key.now (C.holds condition.now) (entries (tree node.now)) ≡ true) }
+    ensures ok { IfOk result (λ r. Removes K.cmp K.path_of level stamp.0 key.now (C.holds condition.now) (tree node.now) r) }
 {
     match &*node.inner {
         Inner::Branch {
@@ -82,6 +83,8 @@ pub fn removed_where<'a, K: PathKey + Drop, V: Drop, C: Condition<V>>(
     requires root { IsRoot K.cmp K.path_of (tree node.now) }
     ensures previous { IfOk result (λ w. option_map (λ v. v.now.value) w.previous ≡ value_at K.cmp (map_of K.cmp (tree node.now)) key.now) }
     ensures written { IfOk result (λ w. is_some w.root ≡ (is_some (value_at K.cmp (map_of K.cmp (tree node.now)) key.now) && C.holds condition.now (value_at K.cmp (map_of K.cmp (tree node.now)) key.now))) }
+    // Memory is requested only where a pair is to be removed.
+    ensures due { OnErr result ((is_some (value_at K.cmp (map_of K.cmp (tree node.now)) key.now) && C.holds condition.now (value_at K.cmp (map_of K.cmp (tree node.now)) key.now)) ≡ true) }
     ensures removed { IfOk result (λ w. IfSome w.root (λ n. IsRemoval K.cmp K.path_of stamp.0 key.now (tree node.now) (tree n))) }
 {
     match remove_at(alloc, node, key, key.path(), stamp, 0, condition)? {

@@ -1,11 +1,11 @@
 //! Leaves and buckets without one of their pairs.
 
-ghost use Rattle.std.specs.Prelude.{◌≡◌, ◌<◌, ◌++◌, ℕ, map, length, IfOk, OnOk, IfSome, None, IfNone};
+ghost use Rattle.std.specs.Prelude.{◌≡◌, ◌<◌, ◌++◌, ℕ, map, length, true, IfOk, OnOk, OnErr, IfSome, None, IfNone};
 ghost use Rattle.std.specs.List.{remove};
 ghost use Rattle.std.specs.FinMap.{find};
 ghost use Rattle.trie_node.specs.Tree.{IsTrie, bucket};
 ghost use Rattle.trie_node.specs.View.{tree, pair_values};
-ghost use Rattle.trie_node.specs.Removals.{IsAt, Removes};
+ghost use Rattle.trie_node.specs.Removals.{IsAt, Removes, is_removable};
 
 use crate::basics::{NoMemory, Stamp};
 use crate::condition::Condition;
@@ -71,7 +71,8 @@ pub(crate) fn take_pair<'a, K: PathKey + Drop, V: Drop, C: Condition<V>>(
     stamp: Stamp,
     condition: &C,
 ) -> Result<Removal<'a, K, V>, NoMemory>
-    ensures { IfOk result (λ r. (level before : ℕ) → IsTrie K.cmp K.path_of level (bucket before (map pair_values pairs.now)) → Removes K.cmp K.path_of level stamp.0 key.now (C.holds condition.now) (bucket before (map pair_values pairs.now)) r) }
+    ensures due { OnErr result (is_removable K.cmp key.now (C.holds condition.now) (map pair_values pairs.now) ≡ true) }
+    ensures ok { IfOk result (λ r. (level before : ℕ) → IsTrie K.cmp K.path_of level (bucket before (map pair_values pairs.now)) → Removes K.cmp K.path_of level stamp.0 key.now (C.holds condition.now) (bucket before (map pair_values pairs.now)) r) }
 {
     let Some(at) = place_of(pairs, key) else {
         return Ok(Removal::Nothing(None));

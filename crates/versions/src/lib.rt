@@ -11,12 +11,14 @@ mod laws;
 mod refusal;
 mod room;
 mod version;
+mod view;
 
 pub use change::Change;
 pub use laws::{law_of_equal_maps, law_of_names, law_of_put, law_of_removal};
 pub use refusal::Refusal;
 pub use trie_node::NoMemory;
 pub use version::{MOST_PAIRS, Version};
+pub use view::View;
 
 #[cfg(test)]
 mod tests;

@@ -3,6 +3,7 @@ mod beside_list;
 mod memory;
 mod nodes;
 mod plain;
+mod views;
 
 use crate::{NoMemory, Refusal, Version};
 use generation::Source;

@@ -1,5 +1,5 @@
 //! A finite map with a limit on its pairs.
-ghost use Rattle.std.specs.Prelude.{◌≡◌, ◌≤◌, ◌<◌, ◌+◌, ◌^◌, ◌&&◌, ◌∷◌, length, [], is_some, if◌then◌else◌, None, option_map, IfOk, OnOk, OnErr};
+ghost use Rattle.std.specs.Prelude.{◌≡◌, ◌↔◌, ◌≤◌, ◌<◌, ◌+◌, ◌^◌, ◌&&◌, ◌∷◌, length, [], is_some, if◌then◌else◌, None, option_map, IfOk, IsTrue, OnOk, OnErr};
 ghost use Rattle.std.specs.Arc.{arc_value};
 ghost use Rattle.trie_node.specs.Roots.{IsRoot, map_of, word_of};
 ghost use Rattle.trie_node.specs.Shape.{NoneAbove, Restamps, nodes, own_count};
@@ -12,6 +12,7 @@ ghost use Rattle.versions.specs.Puts.{FullExactly};
 use crate::change::Change;
 use crate::refusal::Refusal;
 use crate::room::WithinRoom;
+use crate::view::View;
 use generation::Source;
 use hash_path::PathKey;
 use std::alloc::Global;
@@ -66,11 +67,34 @@ impl<K: PathKey + Drop, V: Drop> Version<K, V> {
         })
     }
 
+    /// The map of a root, which may hold up to `limit` pairs. No node of the root has a greater stamp than `stamp`,
+    /// which later writes put on nodes. It takes no memory.
+    pub fn from_root(root: Node<K, V>, limit: u64, stamp: Stamp) -> Version<K, V>
+        requires root { IsRoot K.cmp K.path_of (tree root) }
+        requires fits { length (map_of K.cmp (tree root)) ≤ limit }
+        requires least { 1 ≤ limit }
+        requires most { limit ≤ MOST_PAIRS }
+        requires newest { NoneAbove stamp.0 (nodes (word_of K.path_of) (tree root)) }
+        ensures entries { result.entries ≡ map_of K.cmp (tree root) }
+        ensures limit { result.limit ≡ limit }
+        ensures stamp { result.stamp ≡ stamp.0 }
+        ensures nodes { result.nodes ≡ nodes (word_of K.path_of) (tree root) }
+    {
+        Version { root, limit, stamp }
+    }
+
     /// The value of the key, or none. It takes no memory.
     pub fn get(&self, key: &K) -> Option<&Arc<V>>
         ensures { option_map (λ value. value.now.value) result ≡ value_at K.cmp self.now.entries key.now }
     {
         trie_node::find(&self.root, key)
+    }
+
+    /// Whether the key has a value. It takes no memory.
+    pub fn contains_key(&self, key: &K) -> bool
+        ensures { result ≡ is_some (value_at K.cmp self.now.entries key.now) }
+    {
+        self.get(key).is_some()
     }
 
     /// How many pairs there are. It takes no memory.
@@ -81,6 +105,13 @@ impl<K: PathKey + Drop, V: Drop> Version<K, V> {
     {
         root_is_map::<K, V>();
         trie_node::size(&self.root)
+    }
+
+    /// Whether there is no pair. It takes no memory.
+    pub fn is_empty(&self) -> bool
+        ensures { IsTrue result ↔ (self.now.entries ≡ []) }
+    {
+        self.len() == 0
     }
 
     /// How many pairs there may be. It takes no memory.
@@ -274,6 +305,29 @@ impl<K: PathKey + Drop, V: Drop> Version<K, V> {
             limit: self.limit,
             stamp: source.next(),
         })
+    }
+
+    /// The map as it stands now, which no later write changes. It makes no request for memory, but the clone of a
+    /// handle may be refused.
+    pub fn view(&self) -> Result<View<K, V>, NoMemory>
+        ensures { IfOk result (λ view. view ≡ self.now.entries) }
+    {
+        Ok(View {
+            root: self.root.try_clone()?,
+        })
+    }
+
+    /// Gives the map another limit, which its pairs do not pass. It takes no memory and changes nothing else.
+    pub fn relimit(&mut self, limit: u64)
+        requires fits { length self.old.entries ≤ limit }
+        requires least { 1 ≤ limit }
+        requires most { limit ≤ MOST_PAIRS }
+        ensures entries { self.new.entries ≡ self.old.entries }
+        ensures limit { self.new.limit ≡ limit }
+        ensures stamp { self.new.stamp ≡ self.old.stamp }
+        ensures nodes { self.new.nodes ≡ self.old.nodes }
+    {
+        self.limit = limit;
     }
 
     /// Gives the map a stamp that the source had not issued. It takes no memory and copies no node.

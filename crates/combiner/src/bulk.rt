@@ -1,0 +1,67 @@
+//! Operations on whole maps that are put together from parts.
+ghost use Rattle.std.specs.Prelude.{◌≡◌, ◌↔◌, ◌∷◌, [], IfOk, OnErr, OnOk, true};
+ghost use Rattle.combiner.specs.Bulks.{CanAdd, CanJoin, IsAdded, IsJoined};
+ghost use Rattle.combiner.specs.Unions.{IsWithin};
+ghost use Rattle.versions.specs.Map.{Map};
+
+use hash_path::PathKey;
+use std::alloc::Global;
+use std::sync::Arc;
+use trie_node::NoMemory;
+
+/// An operation on a whole map whose parts may be worked apart and joined in any order.
+///
+/// Each call that makes a part is refused for want of memory alone.
+pub trait Bulk<K: PathKey, V> {
+    /// What is known of some of the pairs.
+    type Part: Drop;
+
+    /// The part answers the map.
+    ghost answers: { Self → Map K V → Self.Part → Type 0 };
+
+    /// The map decides: its answer is that of every larger map.
+    ghost decides: { Self → Map K V → Type 0 };
+
+    /// Its closures may be called on every pair.
+    ghost ready: { Self → Type 0 };
+
+    /// The part of no pairs.
+    fn unit(&self, alloc: Global) -> Result<Self::Part, NoMemory>
+        ensures { IfOk result (λ part. answers self.now [] part) };
+
+    /// The part of one pair.
+    fn one(&self, alloc: Global, key: &Arc<K>, value: &Arc<V>) -> Result<Self::Part, NoMemory>
+        requires { ready self.now }
+        ensures { IfOk result (λ part. answers self.now ((key.now.value, value.now.value) ∷ []) part) };
+
+    /// The part of the pairs of both parts, which share no key.
+    fn join(&self, alloc: Global, a: &Self::Part, b: &Self::Part) -> Result<Self::Part, NoMemory>
+        requires { CanJoin K.cmp (answers self.now) a.now b.now }
+        ensures { IfOk result (λ part. IsJoined K.cmp (answers self.now) a.now b.now part) };
+
+    /// Whether the part has the answer, whatever other pairs there are.
+    fn settled(&self, part: &Self::Part) -> bool
+        ensures exact { (m : Map K V) → answers self.now m part.now → result ≡ true ↔ decides self.now m }
+        ensures lasting { result ≡ true → (m n : Map K V) → answers self.now m part.now → IsWithin m n → answers self.now n part.now };
+
+    /// Adds a pair to the part, whose key it has not yet: the part is then that of its pairs and this one.
+    ///
+    /// It means what `join` with `one` does. An operation that can change its part where it stands has a body of its
+    /// own. After `NoMemory` the part is as before.
+    fn add(
+        &self,
+        alloc: Global,
+        part: &mut Self::Part,
+        key: &Arc<K>,
+        value: &Arc<V>,
+    ) -> Result<(), NoMemory>
+        requires ready { ready self.now }
+        requires apart { CanAdd K.cmp (answers self.now) part.old key.now.value value.now.value }
+        ensures added { OnOk result (IsAdded K.cmp (answers self.now) part.old key.now.value value.now.value part.new) }
+        ensures err { OnErr result (part.new ≡ part.old) }
+    {
+        let one = self.one(alloc, key, value)?;
+        *part = self.join(alloc, &one, part)?;
+        Ok(())
+    }
+}

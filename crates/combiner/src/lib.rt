@@ -1,0 +1,20 @@
+//! What combines: items in any order, and the parts of an operation on a whole map.
+//!
+//! A `Monoid` combines items in any order. A `Bulk` is an operation on a whole map that is worked in parts: each part
+//! answers a map of some of the pairs, and two parts of maps that share no key are joined to a part of both.
+#![tactic(auto)]
+
+mod both;
+mod bulk;
+mod extremes;
+mod monoid;
+mod sum;
+
+pub use both::Both;
+pub use bulk::Bulk;
+pub use extremes::{Greatest, Least};
+pub use monoid::Monoid;
+pub use sum::Sum;
+
+#[cfg(test)]
+mod tests;

@@ -1,0 +1,321 @@
+//! A pair put below a node, where it stands as far as nobody else holds it.
+
+ghost use Rattle.std.specs.Prelude.{◌≡◌, ◌<◌, ◌≤◌, ◌^◌, ◌*◌, ◌%◌, option_map, length, map, IfOk, OnOk, OnErr, Some, None, is_some, [], ◌∷◌, ℕ, true, false, ◌||◌};
+ghost use Rattle.std.specs.Arc.{arc_value};
+ghost use Rattle.std.specs.List.{insert};
+ghost use Rattle.std.specs.FinMap.{find as first_of};
+ghost use Rattle.trie_node.specs.Roots.{IsRoot, map_of};
+ghost use Rattle.trie_node.specs.Map.{value_at};
+ghost use Rattle.trie_node.specs.Changes.{IsPut};
+ghost use Rattle.trie_node.specs.Tree.{IsTrie, entries, branch, bucket, trees};
+ghost use Rattle.trie_node.specs.View.{tree, tree_of, pair_values};
+ghost use Rattle.trie_node.specs.Writes.{KeysAgree};
+ghost use Rattle.trie_node.specs.PutInPlace.{PutsIn, PutsInside, is_refusable};
+
+use crate::basics::{NoMemory, Stamp};
+use crate::bitmap::{has_digit, place};
+use crate::condition::{Always, Condition};
+use crate::node::{Inner, Node, make_leaf};
+use crate::put::{Entry, Written, put_at};
+use crate::reading::size as count;
+use hash_path::PathKey;
+use std::alloc::Global;
+use std::cmp::Ordering;
+use std::mem;
+use std::sync::Arc;
+
+/// What a write found, and whether it took place.
+#[derive(Drop)]
+pub struct Done<V> {
+    /// The value that the key had before.
+    pub previous: Option<Arc<V, Global>>,
+    /// Whether the node was written.
+    pub written: bool,
+}
+
+/// What a write behind a node's pointer came to.
+#[derive(Drop)]
+pub(crate) enum Inside<K, V> {
+    /// The write is done, or its condition failed.
+    Done(Done<V>),
+    /// Nothing was changed: the node itself has to give way to another.
+    Not(Entry<K, V>),
+}
+
+// Another handle on the value, where there is one.
+pub(crate) fn shared<V>(value: Option<&Arc<V, Global>>) -> Result<Option<Arc<V, Global>>, NoMemory>
+    ensures due { OnErr result (is_some value.entry ≡ true) }
+    ensures ok { IfOk result (λ shared. option_map arc_value shared ≡ option_map (λ v. v.now.value) value.entry) }
+{
+    match value {
+        Some(value) => Ok(Some(Arc::try_clone(value)?)),
+        None => Ok(None),
+    }
+}
+
+/// A put below a node that stands at the level: where it stands as far as nobody else holds the
+/// nodes of the key's way, and else by copies of them.
+#[cycle(put_in)]
+pub(crate) fn put_in_at<K: PathKey + Drop, V: Drop, C: Condition<V>>(
+    alloc: Global,
+    node: &mut Node<K, V>,
+    entry: Entry<K, V>,
+    level: u32,
+    condition: &C,
+) -> Result<Done<V>, NoMemory>
+    requires trie { IsTrie K.cmp K.path_of level (tree node.old) }
+    requires path { entry.path.0 ≡ K.path_of entry.key.value }
+    requires agree { KeysAgree K.cmp K.path_of level entry.path.0 (entries (tree node.old)) }
+    requires room { length (entries (tree node.old)) < 2 ^ 63 }
+    ensures ok { IfOk result (λ d. PutsIn K.cmp K.path_of level entry.stamp.0 entry.key.value entry.value.value (C.holds condition.now) (tree node.old) (option_map arc_value d.previous) d.written (tree node.new)) }
+    ensures due { OnErr result (is_refusable (C.holds condition.now) (first_of K.cmp entry.key.value (entries (tree node.old))) ≡ true) }
+    ensures err { OnErr result (tree node.new ≡ tree node.old) }
+{
+    let entry = match Arc::get_mut(&mut node.inner) {
+        None => entry,
+        Some(inner) => match put_inside(alloc, inner, entry, level, condition)? {
+            Inside::Done(done) => return Ok(done),
+            Inside::Not(entry) => entry,
+        },
+    };
+    put_copied(alloc, node, entry, level, condition)
+}
+
+/// A put by copies of the nodes of the key's way.
+fn put_copied<K: PathKey + Drop, V: Drop, C: Condition<V>>(
+    alloc: Global,
+    node: &mut Node<K, V>,
+    entry: Entry<K, V>,
+    level: u32,
+    condition: &C,
+) -> Result<Done<V>, NoMemory>
+    requires trie { IsTrie K.cmp K.path_of level (tree node.old) }
+    requires path { entry.path.0 ≡ K.path_of entry.key.value }
+    requires agree { KeysAgree K.cmp K.path_of level entry.path.0 (entries (tree node.old)) }
+    requires room { length (entries (tree node.old)) < 2 ^ 63 }
+    ensures ok { IfOk result (λ d. PutsIn K.cmp K.path_of level entry.stamp.0 entry.key.value entry.value.value (C.holds condition.now) (tree node.old) (option_map arc_value d.previous) d.written (tree node.new)) }
+    ensures due { OnErr result (is_refusable (C.holds condition.now) (first_of K.cmp entry.key.value (entries (tree node.old))) ≡ true) }
+    ensures err { OnErr result (tree node.new ≡ tree node.old) }
+{
+    let Written { root, previous } = put_at(alloc, node, entry, level, condition)?;
+    let previous = shared(previous)?;
+    match root {
+        Some(root) => {
+            *node = root;
+            Ok(Done {
+                previous,
+                written: true,
+            })
+        }
+        None => Ok(Done {
+            previous,
+            written: false,
+        }),
+    }
+}
+
+/// Whether a condition holds of a key that none of the nodes has.
+fn holds_of_absent<'a, K, V, C: Condition<V>>(condition: &C, _nodes: &'a [Node<K, V>]) -> bool
+    ensures { result ≡ C.holds condition.now None }
+{
+    let absent: Option<&'a Arc<V, Global>> = None;
+    condition.holds(absent)
+}
+
+/// Whether a condition holds of a value.
+fn holds_of<V, C: Condition<V>>(condition: &C, value: &Arc<V, Global>) -> bool
+    ensures { result ≡ C.holds condition.now (Some value.now.value) }
+{
+    condition.holds(Some(value))
+}
+
+/// Puts a leaf of the entry among the children of a branch, where none has the digit of its key.
+fn insert_leaf<K: Drop, V: Drop>(
+    alloc: Global,
+    children: &mut Vec<Node<K, V>>,
+    at: usize,
+    entry: Entry<K, V>,
+) -> Result<(), NoMemory>
+    requires { at ≤ length children.old.items }
+    ensures ok { OnOk result (map tree children.new.items ≡ insert (map tree children.old.items) at (bucket entry.stamp.0 ((entry.key.value, entry.value.value) ∷ []))) }
+    ensures err { OnErr result (children.new.items ≡ children.old.items) }
+{
+    let Entry {
+        key,
+        value,
+        stamp,
+        ..
+    } = entry;
+    let leaf = make_leaf(alloc, stamp, key, value)?;
+    children.insert(at, leaf)?;
+    Ok(())
+}
+
+/// A put into a leaf, where it stands if it has the key.
+fn put_in_leaf<K: PathKey + Drop, V: Drop, C: Condition<V>>(
+    stamp: &mut Stamp,
+    pair: &mut (Arc<K, Global>, Arc<V, Global>),
+    entry: Entry<K, V>,
+    condition: &C,
+) -> Result<Inside<K, V>, NoMemory>
+    ensures ok { IfOk result (λ r. (level : ℕ) → IsTrie K.cmp K.path_of level (bucket stamp.old.0 (pair_values pair.old ∷ [])) → PutsInside K.cmp K.path_of level entry (C.holds condition.now) (bucket stamp.old.0 (pair_values pair.old ∷ [])) r (bucket stamp.new.0 (pair_values pair.new ∷ []))) }
+    ensures due { OnErr result (is_some (first_of K.cmp entry.key.value (pair_values pair.old ∷ [])) ≡ true) }
+    ensures err { OnErr result ((stamp.new ≡ stamp.old) × (pair.new ≡ pair.old)) }
+{
+    if entry.key.cmp(&pair.0) != Ordering::Equal {
+        return Ok(Inside::Not(entry));
+    }
+    if !holds_of(condition, &pair.1) {
+        let previous = Arc::try_clone(&pair.1)?;
+        return Ok(Inside::Done(Done {
+            previous: Some(previous),
+            written: false,
+        }));
+    }
+    let Entry {
+        key,
+        value,
+        stamp: new_stamp,
+        ..
+    } = entry;
+    *stamp = new_stamp;
+    pair.0 = key;
+    let previous = mem::replace(&mut pair.1, value);
+    Ok(Inside::Done(Done {
+        previous: Some(previous),
+        written: true,
+    }))
+}
+
+/// A put below a branch, from its parts.
+#[cycle(put_in)]
+fn put_in_branch<K: PathKey + Drop, V: Drop, C: Condition<V>>(
+    alloc: Global,
+    stamp: &mut Stamp,
+    size: &mut u64,
+    bitmap: &mut u32,
+    children: &mut Vec<Node<K, V>>,
+    entry: Entry<K, V>,
+    level: u32,
+    condition: &C,
+) -> Result<Done<V>, NoMemory>
+    requires trie { IsTrie K.cmp K.path_of level (branch stamp.old.0 size.old bitmap.old (trees (map tree children.old.items))) }
+    requires path { entry.path.0 ≡ K.path_of entry.key.value }
+    requires agree { KeysAgree K.cmp K.path_of level entry.path.0 (entries (branch stamp.old.0 size.old bitmap.old (trees (map tree children.old.items)))) }
+    requires room { length (entries (branch stamp.old.0 size.old bitmap.old (trees (map tree children.old.items)))) < 2 ^ 63 }
+    ensures ok { IfOk result (λ d. PutsIn K.cmp K.path_of level entry.stamp.0 entry.key.value entry.value.value (C.holds condition.now) (branch stamp.old.0 size.old bitmap.old (trees (map tree children.old.items))) (option_map arc_value d.previous) d.written (branch stamp.new.0 size.new bitmap.new (trees (map tree children.new.items)))) }
+    ensures due { OnErr result (is_refusable (C.holds condition.now) (first_of K.cmp entry.key.value (entries (branch stamp.old.0 size.old bitmap.old (trees (map tree children.old.items))))) ≡ true) }
+    ensures err { OnErr result (branch stamp.new.0 size.new bitmap.new (trees (map tree children.new.items)) ≡ branch stamp.old.0 size.old bitmap.old (trees (map tree children.old.items))) }
+{
+    let new_stamp = entry.stamp;
+    let digit = entry.path.digit(level);
+    let at = place(*bitmap, digit);
+    if !has_digit(*bitmap, digit) {
+        if !holds_of_absent(condition, children.as_slice()) {
+            return Ok(Done {
+                previous: None,
+                written: false,
+            });
+        }
+        insert_leaf(alloc, children, at, entry)?;
+        *size += 1;
+        *bitmap |= 1 << digit;
+        *stamp = new_stamp;
+        return Ok(Done {
+            previous: None,
+            written: true,
+        });
+    }
+    let child = &mut children[at];
+    let before = count(child);
+    let done = put_in_at(alloc, child, entry, level + 1, condition)?;
+    if !done.written {
+        return Ok(done);
+    }
+    let after = count(child);
+    *size = *size + after - before;
+    *stamp = new_stamp;
+    Ok(done)
+}
+
+/// A put behind a node's pointer.
+#[cycle(put_in)]
+fn put_inside<K: PathKey + Drop, V: Drop, C: Condition<V>>(
+    alloc: Global,
+    inner: &mut Inner<K, V>,
+    entry: Entry<K, V>,
+    level: u32,
+    condition: &C,
+) -> Result<Inside<K, V>, NoMemory>
+    requires trie { IsTrie K.cmp K.path_of level (tree_of inner.old) }
+    requires path { entry.path.0 ≡ K.path_of entry.key.value }
+    requires agree { KeysAgree K.cmp K.path_of level entry.path.0 (entries (tree_of inner.old)) }
+    requires room { length (entries (tree_of inner.old)) < 2 ^ 63 }
+    ensures ok { IfOk result (λ r. PutsInside K.cmp K.path_of level entry (C.holds condition.now) (tree_of inner.old) r (tree_of inner.new)) }
+    ensures due { OnErr result (is_refusable (C.holds condition.now) (first_of K.cmp entry.key.value (entries (tree_of inner.old))) ≡ true) }
+    ensures err { OnErr result (tree_of inner.new ≡ tree_of inner.old) }
+{
+    match inner {
+        Inner::Branch {
+            stamp,
+            size,
+            bitmap,
+            children,
+        } => {
+            let done = put_in_branch(
+                alloc, stamp, size, bitmap, children, entry, level, condition,
+            )?;
+            Ok(Inside::Done(done))
+        }
+        Inner::Leaf { stamp, pair } => put_in_leaf(stamp, pair, entry, condition),
+        Inner::Bucket { .. } => Ok(Inside::Not(entry)),
+    }
+}
+
+/// Puts the value at the key, where the condition holds of the value that the key has. The root is
+/// written where it stands as far as nobody else holds the nodes of the key's way. After want of
+/// memory it is as before.
+pub fn put_in_where<K: PathKey + Drop, V: Drop, C: Condition<V>>(
+    alloc: Global,
+    node: &mut Node<K, V>,
+    key: Arc<K, Global>,
+    value: Arc<V, Global>,
+    stamp: Stamp,
+    condition: &C,
+) -> Result<Done<V>, NoMemory>
+    requires root { IsRoot K.cmp K.path_of (tree node.old) }
+    requires room { length (map_of K.cmp (tree node.old)) < 2 ^ 63 }
+    ensures previous { IfOk result (λ d. option_map arc_value d.previous ≡ value_at K.cmp (map_of K.cmp (tree node.old)) key.value) }
+    ensures written { IfOk result (λ d. d.written ≡ C.holds condition.now (value_at K.cmp (map_of K.cmp (tree node.old)) key.value)) }
+    ensures put { IfOk result (λ d. d.written ≡ true → IsPut K.cmp K.path_of stamp.0 key.value value.value (tree node.old) (tree node.new)) }
+    ensures kept { IfOk result (λ d. d.written ≡ false → tree node.new ≡ tree node.old) }
+    // An error comes only where the condition holds, or where the key is there and its value is to be handed out.
+    ensures due { OnErr result ((C.holds condition.now (value_at K.cmp (map_of K.cmp (tree node.old)) key.value) || is_some (value_at K.cmp (map_of K.cmp (tree node.old)) key.value)) ≡ true) }
+    ensures err { OnErr result (tree node.new ≡ tree node.old) }
+{
+    let entry = Entry {
+        path: key.path(),
+        key,
+        value,
+        stamp,
+    };
+    put_in_at(alloc, node, entry, 0, condition)
+}
+
+/// Puts the value at the key. The root is written where it stands as far as nobody else holds the
+/// nodes of the key's way. After want of memory it is as before.
+pub fn put_in<K: PathKey + Drop, V: Drop>(
+    alloc: Global,
+    node: &mut Node<K, V>,
+    key: Arc<K, Global>,
+    value: Arc<V, Global>,
+    stamp: Stamp,
+) -> Result<(), NoMemory>
+    requires root { IsRoot K.cmp K.path_of (tree node.old) }
+    requires room { length (map_of K.cmp (tree node.old)) < 2 ^ 63 }
+    ensures put { OnOk result (IsPut K.cmp K.path_of stamp.0 key.value value.value (tree node.old) (tree node.new)) }
+    ensures err { OnErr result (tree node.new ≡ tree node.old) }
+{
+    put_in_where(alloc, node, key, value, stamp, &Always)?;
+    Ok(())
+}

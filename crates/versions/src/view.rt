@@ -1,0 +1,77 @@
+//! A map as it stood at one moment.
+ghost use Rattle.std.specs.Prelude.{◌≡◌, ◌↔◌, [], length, option_map, is_some, IfOk, IsTrue};
+ghost use Rattle.trie_node.specs.Roots.{IsRoot, map_of};
+ghost use Rattle.trie_node.specs.View.{tree};
+ghost use Rattle.versions.specs.Map.{IsMap, value_at};
+
+use hash_path::PathKey;
+use std::marker::Model;
+use std::sync::Arc;
+use trie_node::{NoMemory, Node, root_is_map};
+
+/// A map that never changes, as it stood when the view was taken. Any number of threads may read it.
+#[derive(Drop)]
+pub struct View<K: PathKey, V> {
+    pub(crate) root: Node<K, V>,
+}
+
+impl<K: PathKey, V> Model for View<K, V> {
+    ghost use Rattle.trie_node.specs.Roots.{IsRoot, map_of};
+    ghost use Rattle.trie_node.specs.View.{tree};
+    ghost use Rattle.versions.specs.Map.{Map};
+
+    ghost Value = { Map K V };
+
+    ghost view = { λ a. map_of K.cmp (tree a.root) };
+
+    ghost invariant = { λ a. IsRoot K.cmp K.path_of (tree a.root) };
+}
+
+impl<K: PathKey, V> View<K, V> {
+    /// The value of the key, or none. It takes no memory.
+    pub fn get(&self, key: &K) -> Option<&Arc<V>>
+        ensures { option_map (λ value. value.now.value) result ≡ value_at K.cmp self.now key.now }
+    {
+        trie_node::find(&self.root, key)
+    }
+
+    /// Whether the key has a value. It takes no memory.
+    pub fn contains_key(&self, key: &K) -> bool
+        ensures { result ≡ is_some (value_at K.cmp self.now key.now) }
+    {
+        self.get(key).is_some()
+    }
+
+    /// How many pairs there are. It takes no memory.
+    pub fn len(&self) -> u64
+        ensures count { result ≡ length self.now }
+        ensures sorted { IsMap K.cmp self.now }
+    {
+        root_is_map::<K, V>();
+        trie_node::size(&self.root)
+    }
+
+    /// Whether there is no pair. It takes no memory.
+    pub fn is_empty(&self) -> bool
+        ensures { IsTrue result ↔ (self.now ≡ []) }
+    {
+        self.len() == 0
+    }
+
+    /// The root of the view's trie. It takes no memory.
+    pub fn root(&self) -> &Node<K, V>
+        ensures root { IsRoot K.cmp K.path_of (tree result.now) }
+        ensures entries { map_of K.cmp (tree result.now) ≡ self.now }
+    {
+        &self.root
+    }
+
+    /// Another handle on the same view. It makes no request for memory, but the clone may be refused.
+    pub fn try_clone(&self) -> Result<View<K, V>, NoMemory>
+        ensures { IfOk result (λ view. view ≡ self.now) }
+    {
+        Ok(View {
+            root: self.root.try_clone()?,
+        })
+    }
+}
