@@ -16,7 +16,7 @@ use Rattle.handles.specs.declared.demand.Demand.{Demand}
 use Rattle.handles.specs.declared.demand.Demand.TheVariants as demands
 use Rattle.handles.specs.declared.call_reply.CallReply.{CallReply}
 use Rattle.handles.specs.declared.call_reply.CallReply.TheVariants as call_replies
-use Rattle.handles.specs.Machine.{Kind, State, Request, open_handle, snapshot, drop_handle, on, takes_no_memory, Outcome, Step, made, replied, refused, refusal, is_entry}
+use Rattle.handles.specs.Machine.{Kind, State, Request, open_handle, snapshot, drop_handle, on, view, takes_no_memory, Outcome, Step, made, replied, viewed, refused, refusal, is_entry}
 
 -- a command, wherever its key and values lie
 abbrev pub command_of : {K V : Type 0} → Command K V → commands.Command K V
@@ -69,6 +69,10 @@ unit_outcome u = made
 abbrev pub reply_outcome : {K V B : Type 0} → Reply V → Outcome K V B
 reply_outcome y = replied (reply_of y)
 
+-- the outcome of a call that showed this map
+abbrev pub view_outcome : {K V B : Type 0} → Map K V → Outcome K V B
+view_outcome m = viewed m
+
 -- the request that a call is
 abbrev pub request_of : {K V Q : Type 0} → Call K V → Request K V Q
 request_of (Open h) = open_handle h
@@ -82,6 +86,7 @@ demanded (demands.Open h) = open_handle h
 demanded (demands.Snapshot h to) = snapshot h to
 demanded (demands.Drop h) = drop_handle h
 demanded (demands.On h c) = on h (command_of c.now)
+demanded (demands.View h) = view h
 
 -- the outcome of a call that was answered so
 abbrev pub call_outcome : {K V B : Type 0} → CallReply V → Outcome K V B

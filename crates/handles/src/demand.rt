@@ -17,18 +17,21 @@ pub enum Demand<'c, K, V> {
     Drop(u32),
     /// That the command is made on the handle.
     On(u32, &'c Command<K, V>),
+    /// That the handle's map is shown.
+    View(u32),
 }
 
 impl<K: PathKey, V: Eq> Demand<'_, K, V> {
-    /// The handle that is read, written, dropped or copied.
+    /// The handle that is read, written, dropped or snapshotted.
     pub fn source(&self) -> Option<u32>
         ensures { result ≡ source {Q = Unit {0}} (demanded self.now) }
     {
         match self {
             Demand::Open(_) => None,
-            Demand::Snapshot(handle, _) | Demand::Drop(handle) | Demand::On(handle, _) => {
-                Some(*handle)
-            }
+            Demand::Snapshot(handle, _)
+            | Demand::Drop(handle)
+            | Demand::On(handle, _)
+            | Demand::View(handle) => Some(*handle),
         }
     }
 
@@ -38,7 +41,7 @@ impl<K: PathKey, V: Eq> Demand<'_, K, V> {
     {
         match self {
             Demand::Open(to) | Demand::Snapshot(_, to) => Some(*to),
-            Demand::Drop(_) | Demand::On(_, _) => None,
+            Demand::Drop(_) | Demand::On(_, _) | Demand::View(_) => None,
         }
     }
 }

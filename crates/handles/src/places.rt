@@ -15,7 +15,7 @@ use hash_path::PathKey;
 use std::alloc::Global;
 use std::marker::Model;
 use trie_node::Stamp;
-use versions::{MOST_PAIRS, NoMemory, Refusal, Version};
+use versions::{MOST_PAIRS, NoMemory, Refusal, Version, View};
 
 // How many handle numbers there are.
 const HANDLES: usize = 1024;
@@ -137,6 +137,18 @@ impl<K: PathKey + Drop, V: Eq + Drop> Places<K, V> {
         };
         self.versions[to as usize] = Some(version);
         Ok(())
+    }
+
+    /// The map of the handle as it stands now. It makes no request for memory.
+    pub fn view(&self, handle: u32) -> Result<View<K, V>, Refusal>
+        requires { IsSome (value_at nat_cmp self.now.live handle) }
+        ensures map { IfOk result (λ v. v ≡ unwrap_or (value_at nat_cmp self.now.live handle) []) }
+        ensures memory { IfErr result (λ e. e ≡ Refusal.NoMemory) }
+    {
+        match self.version(handle) {
+            Some(version) => Ok(version.view()?),
+            None => unreachable!(),
+        }
     }
 
     /// Makes the command on the map of the handle.

@@ -1,8 +1,8 @@
 //! The table of handles.
 ghost use Rattle.std.specs.Prelude.{◌≡◌, ◌+◌, ◌<◌, ◌≤◌, ◌*◌, ◌^◌, IfOk, OnErr, if◌then◌else◌, false, true};
 ghost use Rattle.handles.specs.Handles.{IsKept, live_from, maps_in};
-ghost use Rattle.handles.specs.Machine.{IsRunOfSome, Run, drop_handle, is_entry, nothing, on, open_handle, snapshot};
-ghost use Rattle.handles.specs.Views.{AnswersWithoutMemory, IsDue, IsStep, call_outcome, command_of, is_counted, lacks_memory, machine, outcomes_of, reply_outcome, request_of, requests_of, unit_outcome};
+ghost use Rattle.handles.specs.Machine.{IsRunOfSome, Run, drop_handle, is_entry, nothing, on, open_handle, snapshot, view};
+ghost use Rattle.handles.specs.Views.{AnswersWithoutMemory, IsDue, IsStep, call_outcome, command_of, is_counted, lacks_memory, machine, outcomes_of, reply_outcome, request_of, requests_of, unit_outcome, view_outcome};
 
 use crate::call::Call;
 use crate::call_reply::CallReply;
@@ -14,7 +14,7 @@ use crate::reply::Reply;
 use hash_path::PathKey;
 use std::alloc::Global;
 use std::marker::Model;
-use versions::{MOST_PAIRS, NoMemory, Refusal, Version};
+use versions::{MOST_PAIRS, NoMemory, Refusal, Version, View};
 
 mod refusals;
 
@@ -100,6 +100,20 @@ impl<K: PathKey + Drop, V: Eq + Drop> Table<K, V> {
         let answer = match self.refusal_of(&Demand::Snapshot(handle, to)) {
             Some(refusal) => Err(refusal),
             None => self.places.fork(handle, to),
+        };
+        counted(&mut self.entries, answer)
+    }
+
+    /// The map of the handle as it stands now, which no later call changes. It makes no request for memory.
+    ///
+    /// It is refused as `JournalFull`, `BadNumber`, `NoHandle` or `NoMemory`.
+    pub fn view(&mut self, handle: u32) -> Result<View<K, V>, Refusal>
+        ensures step { IsStep (machine K.cmp V.eq) self.old (view handle) view_outcome result self.new }
+        ensures due { IsDue (machine K.cmp V.eq) self.old (view handle) result }
+    {
+        let answer = match self.refusal_of(&Demand::View(handle)) {
+            Some(refusal) => Err(refusal),
+            None => self.places.view(handle),
         };
         counted(&mut self.entries, answer)
     }

@@ -26,8 +26,7 @@ invariant_of-self-2 g c =
     let here = read_here c.args.handle places c.index_mut.result.now (omega (arith, c.self.invariant.0.count, c.requires.place)) c.index_mut.ensures.value ∙ c.in-Some.is in
     let same = (c.self.invariant.0.each c.args.handle c.in-Some.version here).same_limit in
     let made = c.in_ok-version-in-Some.ensures in
-    let first = set_fresh limit issued (issued + 1) c.args.handle c.fork.new.self places c.self.invariant.0 (c.fork.ensures.kept_limit ∙ same) (omega (arith, made.fresh)) (omega (arith, made.fresh)) in
-    (
+    let first = set_fresh limit issued (issued + 1) c.args.handle c.fork.new.self places c.self.invariant.0 (c.fork.ensures.kept_limit ∙ same) (omega (arith, made.fresh)) (omega (arith, made.fresh)) in (
       set_fresh limit (issued + 1) c.fork.new.source c.args.to c.in_ok-version-in-Some.version (slice_set places c.args.handle (Some c.fork.new.self)) first (made.limit ∙ same) (omega (arith, made.stamp)) (omega (arith, made.stamp, made.issued)),
       c.self.invariant.1,
       c.self.invariant.2,

@@ -8,8 +8,7 @@ use Rattle.handles.proofs.places.Places.open.Goals as goal
 
 pub invariant_of-self : goal.invariant_of-self
 invariant_of-self g c =
-    let v = c.in_ok-version.version in
-    (
+    let v = c.in_ok-version.version in (
       set_fresh c.self.inside.limit c.self.inside.source c.next.new.self c.args.handle v c.self.inside.versions.items c.self.invariant.0 c.in_ok-version.ensures.limit (omega (arith, c.in_ok-version.ensures.stamp)) (omega (arith, c.in_ok-version.ensures.stamp)),
       c.self.invariant.1,
       c.self.invariant.2,

@@ -20,8 +20,7 @@ unreachable-requires g c =
 pub invariant_of-self : goal.invariant_of-self
 invariant_of-self g c =
     let places = c.self.inside.versions.items in
-    let here = read_here c.args.handle places c.index_mut.result.now (omega (arith, c.self.invariant.0.count, c.requires.place)) c.index_mut.ensures.value ∙ c.in-Some.is in
-    (
+    let here = read_here c.args.handle places c.index_mut.result.now (omega (arith, c.self.invariant.0.count, c.requires.place)) c.index_mut.ensures.value ∙ c.in-Some.is in (
       set_again c.self.inside.limit c.self.inside.source c.args.handle c.in-Some.version c.run_on.new.version places c.self.invariant.0 here c.run_on.ensures.limit c.run_on.ensures.stamp,
       c.self.invariant.1,
       c.self.invariant.2,
