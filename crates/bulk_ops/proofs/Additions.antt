@@ -1,17 +1,16 @@
 -- Parts that a pair is added to answer the map with the pair.
 use Rattle.std.proofs.Common.{◌≡◌, ℕ, ◌+◌, ◌≤◌, Bool, true, false, ◌&&◌, ◌||◌, cond, length, [], ◌∷◌, refl, sym, ap, subst, ◌∙◌, arith, Option, None, Some, zero}
-use Rattle.std.specs.Prelude.{option_map, Contains}
+use Rattle.std.specs.Prelude.{option_map}
 use Rattle.std.specs.declared.cmp.Ordering.{Ordering}
 use mir.Val.{bool_byte}
 use Rattle.std.specs.Cmp.{IsTotalOrder}
 use Rattle.versions.specs.Map.{Map, union, with_pair}
 use Rattle.versions.specs.Contents.{Contents}
-use Rattle.versions.specs.declared.version.TheConstants.{MOST_PAIRS}
 use Rattle.combiner.specs.Unions.{AreApart}
 use Rattle.combiner.specs.Bulks.{IsAdded}
 use Rattle.combiner.specs.Monoids.{IsAssociative, IsCommutative, IsNeutral, IsClosed, folded}
 use Rattle.bulk_ops.specs.Meanings.{Means}
-use Rattle.bulk_ops.specs.Answers.{Question, count, exists, for_all, find, filtered, mapped, fold, Answer, answers, passes, passing, with_values, items_of}
+use Rattle.bulk_ops.specs.Answers.{Question, count, exists, for_all, find, filtered, mapped, fold, Answer, answers, passes, passing, items_of}
 use Rattle.bulk_ops.specs.Parts.{pair_of, IsPut}
 use Rattle.bulk_ops.specs.Queries.{Asks, PartAnswers}
 use Rattle.bulk_ops.specs.declared.closure.PairFn.{Ghosts}

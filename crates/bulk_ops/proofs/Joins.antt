@@ -1,22 +1,18 @@
 -- Parts that are joined answer the union.
-use Rattle.std.proofs.Common.{◌≡◌, ℕ, ◌+◌, ◌≤◌, ◌<◌, ◌^◌, Bool, true, false, ◌&&◌, ◌||◌, cond, length, T, [], ◌∷◌, refl, sym, ap, subst, ◌∙◌, arith, Option, None, Some}
-use Rattle.std.specs.Prelude.{option_map, Contains, max}
-use Rattle.std.specs.List.{list_any, list_all}
-use Rattle.std.proofs.Math.Logic.{∥∥₁_elim, ∥∥₁_map}
+use Rattle.std.proofs.Common.{◌≡◌, ℕ, ◌+◌, Bool, ◌&&◌, ◌||◌, T, sym, subst, ◌∙◌, arith, Option, None, Some}
+use Rattle.std.specs.Prelude.{option_map, max}
 use Rattle.std.specs.declared.cmp.Ordering.{Ordering}
 use Rattle.std.specs.Cmp.{IsTotalOrder}
 use Rattle.std.specs.FinMap.{is_sorted}
 use Rattle.versions.specs.Map.{Map, union}
 use Rattle.std.specs.Option.{option_or}
 use Rattle.versions.specs.Contents.{Contents}
-use Rattle.versions.specs.declared.version.TheConstants.{MOST_PAIRS}
 use Rattle.combiner.specs.Unions.{AreApart}
-use Rattle.combiner.specs.Bulks.{Apart, CanJoin, IsJoined}
+use Rattle.combiner.specs.Bulks.{IsJoined}
 use Rattle.combiner.specs.Monoids.{IsAssociative, IsCommutative, IsNeutral, IsClosed, folded}
-use Rattle.bulk_ops.specs.Meanings.{Means}
-use Rattle.bulk_ops.specs.Answers.{Question, count, exists, for_all, find, filtered, mapped, fold, Answer, answers, passes, passing, with_values, items_of}
-use Rattle.bulk_ops.specs.Parts.{pair_of, HasNumber, HasTruth, HasPair, HasMap, HasItem}
-use Rattle.bulk_ops.specs.Queries.{Asks, AnswersQuery, IsPartOf, PartAnswers, answer_of}
+use Rattle.bulk_ops.specs.Answers.{Question, count, exists, for_all, find, filtered, mapped, fold, Answer, answers, items_of}
+use Rattle.bulk_ops.specs.Parts.{pair_of}
+use Rattle.bulk_ops.specs.Queries.{Asks, PartAnswers}
 use Rattle.bulk_ops.specs.declared.closure.PairFn.{Ghosts}
 use Rattle.bulk_ops.specs.declared.query.Query.{Query}
 use Rattle.bulk_ops.specs.declared.query.Query.TheVariants.{Count, Exists, ForAll, Find, Filter, MapValues, Fold}

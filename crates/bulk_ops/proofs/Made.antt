@@ -1,6 +1,6 @@
 -- What the maps that are made of two maps are for their union.
-use Rattle.std.proofs.Common.{◌≡◌, ℕ, Bool, true, false, cond, length, T, [], ◌∷◌, ◌++◌, refl, sym, ap, subst, ◌∙◌, map, List, None, Some, inl, inr, zero, suc, arith}
-use Rattle.std.specs.Prelude.{filter, Contains, ◌⊎◌}
+use Rattle.std.proofs.Common.{◌≡◌, Bool, true, false, cond, T, [], ◌∷◌, ◌++◌, refl, sym, ap, subst, ◌∙◌, None, Some, inl, inr, zero, suc, arith}
+use Rattle.std.specs.Prelude.{Contains}
 use Rattle.std.proofs.lemmas.List.Elements.{Contains-append_left, Contains-append_right, Contains-append_cases}
 use Rattle.std.specs.declared.cmp.Ordering.{Ordering}
 use Rattle.std.specs.declared.cmp.Ordering.TheVariants.{Less, Equal, Greater}

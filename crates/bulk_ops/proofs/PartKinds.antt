@@ -1,5 +1,5 @@
 -- What is known of a part that answers some map.
-use Rattle.std.proofs.Common.{◌≡◌, ℕ, ◌+◌, ◌≤◌, ◌<◌, Bool, length, refl, sym, ap, subst, ◌∙◌, arith, cond, true, false, [], ◌∷◌}
+use Rattle.std.proofs.Common.{◌≡◌, ℕ, ◌+◌, ◌≤◌, ◌<◌, Bool, length, refl, ap, subst, arith, cond, true, false, [], ◌∷◌}
 use Rattle.std.proofs.lemmas.List.{length-map}
 use Rattle.std.proofs.Math.Nat.{ℕ_set}
 use Rattle.std.proofs.Math.Logic.{∥∥₁_elim, ∥∥₁_map}
@@ -10,7 +10,7 @@ use Rattle.versions.specs.Contents.{Contents}
 use Rattle.versions.specs.declared.version.TheConstants.{MOST_PAIRS}
 use Rattle.combiner.specs.Unions.{AreApart}
 use Rattle.combiner.specs.Bulks.{Apart, CanAdd, CanJoin}
-use Rattle.bulk_ops.specs.Answers.{Question, count, filtered, mapped, passes, passing, with_values}
+use Rattle.bulk_ops.specs.Answers.{count, filtered, mapped, passes, passing, with_values}
 use Rattle.bulk_ops.specs.Parts.{HasNumber, HasTruth, HasPair, HasMap, HasItem, HasRoom}
 use Rattle.bulk_ops.specs.Queries.{IsPartOf, PartAnswers}
 use Rattle.bulk_ops.specs.declared.closure.PairFn.{Ghosts}

@@ -1,5 +1,5 @@
 -- The answers of bulk operations.
-use Rattle.std.specs.Prelude.{◌≡◌, ℕ, Bool, true, false, List, [], ◌∷◌, length, map, filter, Option, Some, None, Contains}
+use Rattle.std.specs.Prelude.{◌≡◌, ℕ, Bool, true, false, List, [], length, map, filter, Option, Some, None, Contains}
 use Rattle.std.specs.List.{list_any, list_all}
 use Rattle.versions.specs.Map.{Map}
 use Rattle.combiner.specs.Monoids.{folded}

@@ -84,12 +84,7 @@ impl<K: PathKey + Drop, V: Drop, I> Part<K, V, I> {
     }
 
     /// Puts a pair into the map of a part that made one. After `NoMemory` the part is as before.
-    pub(crate) fn put(
-        &mut self,
-        alloc: Global,
-        key: Arc<K>,
-        value: Arc<V>,
-    ) -> Result<(), NoMemory>
+    pub(crate) fn put(&mut self, alloc: Global, key: Arc<K>, value: Arc<V>) -> Result<(), NoMemory>
         requires { HasRoom self.old }
         ensures put { OnOk result (IsPut K.cmp self.old key.value value.value self.new) }
         ensures err { OnErr result (self.new ≡ self.old) }

@@ -1,4 +1,4 @@
-use Rattle.std.proofs.Common.{◌≡◌, ◌≤◌, Bool, arith, length, sym, ap, subst, ◌∙◌}
+use Rattle.std.proofs.Common.{◌≡◌, ◌≤◌, Bool, arith, length, sym, subst, ◌∙◌}
 use Rattle.hash_path.specs.Digits.{position}
 use Rattle.iter.specs.Intervals.{lies_in, part}
 use Rattle.trie_node.specs.Map.{IsMap}
@@ -6,7 +6,7 @@ use Rattle.trie_node.specs.Order.{walked}
 use Rattle.versions.specs.declared.version.TheConstants.{MOST_PAIRS}
 use Rattle.bulk_ops.proofs.PartKinds.{passing_le}
 use Rattle.bulk_ops.proofs.Unions.{sorted_passing, true_of, truth_of}
-use Rattle.bulk_ops.proofs.Works.{Working, begun, can_add, ended, worked, worked_within}
+use Rattle.bulk_ops.proofs.Works.{Working, begun, can_add, worked, worked_within}
 use Rattle.bulk_ops.proofs.walking.work.Goals as goal
 
 -- the walk lists the map of the piece

@@ -1,5 +1,4 @@
-use Rattle.std.proofs.Common.{rules, ◌≡◌, ◌+◌, ◌||◌, ◌&&◌, arith, refl, sym, ap, ◌∙◌, subst, Bool, cond}
-use Rattle.bulk_ops.specs.Parts.{pair_of}
+use Rattle.std.proofs.Common.{rules, arith, ◌∙◌}
 use Rattle.bulk_ops.proofs.PartKinds as kinds
 use Rattle.bulk_ops.proofs.Additions as adds
 use Rattle.bulk_ops.proofs.working.QueryBulk.add.Goals as goal

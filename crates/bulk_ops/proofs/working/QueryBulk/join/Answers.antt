@@ -1,5 +1,4 @@
-use Rattle.std.proofs.Common.{rules, ◌≡◌, ◌+◌, ◌||◌, ◌&&◌, arith, refl, sym, ap, ◌∙◌, subst, Bool}
-use Rattle.bulk_ops.specs.declared.part.Part.TheVariants as parts
+use Rattle.std.proofs.Common.{rules, ◌≡◌, ◌||◌, ◌&&◌, arith, sym, ◌∙◌}
 use Rattle.bulk_ops.proofs.PartKinds as kinds
 use Rattle.bulk_ops.proofs.Joins as joins
 use Rattle.bulk_ops.proofs.working.QueryBulk.join.Goals as goal
