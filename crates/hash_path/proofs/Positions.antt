@@ -2,7 +2,7 @@
 use Rattle.std.proofs.Common.{◌≡◌, ℕ, ◌+◌, ◌-◌, ◌*◌, ◌/◌, ◌%◌, ◌^◌, ◌<◌, ◌≤◌, List, length, take, refl, sym, ◌∙◌, ap, arith}
 use Rattle.std.proofs.lemmas.Nat.{mul-le}
 use Rattle.std.proofs.Math.Nat.{pow-le-pow_right, div-one, mod-eq_of_lt}
-use Rattle.hash_path.specs.Digits.{breadth, weighed, digit, digits_after, word_of}
+use Rattle.hash_path.specs.Digits.{digit_bits, breadth, weighed, digit, digits_after, word_of}
 use Rattle.hash_path.proofs.Weights.{Fits, weighed-below, weighed-append, take-within, weighs}
 use Rattle.hash_path.proofs.Spelling.{length-digits_after, word_of-digits_after, digits_after-fit, digits_after-word_of, word_of-below, take-digits_after, split-digits_after}
 
@@ -21,6 +21,13 @@ placed-split bits count level rest w e =
 -- one digit more adds what it weighs
 pub placed-step : (bits level w : ℕ) → placed bits (level + 1) w ≡ placed bits level w + digit w level * breadth bits (level + 1)
 placed-step bits level w = omega (arith, placed-split bits (level + 1) level 1 w refl)
+
+-- a position has as many bits as its word
+pub placed-below : (bits count w : ℕ) → w < 2 ^ bits → placed bits count w < 2 ^ bits
+placed-below bits count w small =
+    let whole : 2 ^ bits ≡ breadth bits 0 = let all : bits ≡ bits - digit_bits * 0 = omega arith in ap (λ n. 2 ^ n) all in
+    let below = weighed-below bits 0 (digits_after 0 count w) (digits_after-fit bits 0 count w small) in
+    omega (arith, whole, below)
 
 -- words that share the digits below a level lie in one interval
 pub placed-within : (bits count level w v : ℕ) → level ≤ count → v < 2 ^ bits → digits_after 0 level v ≡ digits_after 0 level w →
@@ -54,11 +61,11 @@ placed-less bits count level w v deep small less same below =
     omega (arith, high.1, low.0, next, front, placed-step bits level w, placed-step bits level v)
 
 -- a word is the number that its digits spell
-pub word_of-digits : (bits count w : ℕ) → bits ≤ 5 * count → w < 2 ^ bits → word_of (digits_after 0 count w) ≡ w
+pub word_of-digits : (bits count w : ℕ) → bits ≤ digit_bits * count → w < 2 ^ bits → word_of (digits_after 0 count w) ≡ w
 word_of-digits bits count w enough small =
     let wide = pow-le-pow_right {n = 2} (omega arith) enough in
-    let whole : w / 2 ^ (5 * 0) ≡ w = div-one w in
-    word_of-digits_after 0 count w ∙ ap (λ n. n % 2 ^ (5 * count)) whole ∙ mod-eq_of_lt (omega (arith, wide, small))
+    let whole : w / 2 ^ (digit_bits * 0) ≡ w = div-one w in
+    word_of-digits_after 0 count w ∙ ap (λ n. n % 2 ^ (digit_bits * count)) whole ∙ mod-eq_of_lt (omega (arith, wide, small))
 
 -- the word that digits spell has the position that they weigh
 placed-word_of : (bits count : ℕ) (ds : List ℕ) → length ds ≡ count → Fits bits 0 ds → placed bits count (word_of ds) ≡ weighed bits 0 ds
@@ -67,9 +74,9 @@ placed-word_of bits count ds many fits =
     ap (λ n. placed bits n (word_of ds)) (sym many) ∙ ap (λ ys. weighed bits 0 ys) back
 
 -- each number of so many bits is the position of a word
-pub placed-onto : (bits count p : ℕ) → bits ≤ 5 * count → p < 2 ^ bits → (w : ℕ) × (w < 2 ^ bits) × (placed bits count w ≡ p)
+pub placed-onto : (bits count p : ℕ) → bits ≤ digit_bits * count → p < 2 ^ bits → (w : ℕ) × (w < 2 ^ bits) × (placed bits count w ≡ p)
 placed-onto bits count p enough small =
-    let whole : 2 ^ bits ≡ breadth bits 0 = let all : bits ≡ bits - 5 * 0 = omega arith in ap (λ n. 2 ^ n) all in
+    let whole : 2 ^ bits ≡ breadth bits 0 = let all : bits ≡ bits - digit_bits * 0 = omega arith in ap (λ n. 2 ^ n) all in
     let found = weighs bits 0 count p (omega (arith, enough)) (omega (arith, whole, small)) in (
       word_of found.digits,
       omega (arith, whole, word_of-below bits 0 found.digits found.fits),

@@ -3,30 +3,30 @@ use Rattle.std.proofs.Common.{◌≡◌, ℕ, zero, suc, ◌+◌, ◌-◌, ◌*�
 use Rattle.std.proofs.lemmas.Nat.{pow_pos, shr-shr, shr_below, mod-pow-add, mod_below, same_from_place, div-add-mod'}
 use Rattle.std.proofs.lemmas.Bool.{cases_lt}
 use Rattle.std.proofs.Math.Nat.{pow-le-pow_right, mod-le}
-use Rattle.hash_path.specs.Digits.{breadth, digit, digits_after, word_of}
-use Rattle.hash_path.proofs.Weights.{Fits, fits-below, fits-small, breadth-none, breadth-whole}
+use Rattle.hash_path.specs.Digits.{digit_bits, fan_out, breadth, digit, digits_after, word_of}
+use Rattle.hash_path.proofs.Weights.{kinds, Fits, fits-below, fits-small, breadth-none, breadth-whole}
 
 pub length-digits_after : (level count w : ℕ) → length (digits_after level count w) ≡ count
 length-digits_after level zero w = refl
 length-digits_after level (suc count) w = ap (λ n. suc n) (length-digits_after (level + 1) count w)
 
 -- what is left of a word above a level, one level further up
-pub shift-next : (w level : ℕ) → w / 2 ^ (5 * level) / 32 ≡ w / 2 ^ (5 * (level + 1))
+pub shift-next : (w level : ℕ) → w / 2 ^ (digit_bits * level) / fan_out ≡ w / 2 ^ (digit_bits * (level + 1))
 shift-next w level =
-    let more : 5 * level + 5 ≡ 5 * (level + 1) = omega arith in
-    shr-shr w (5 * level) 5 ∙ ap (λ n. w / 2 ^ n) more
+    let more : digit_bits * level + digit_bits ≡ digit_bits * (level + 1) = omega arith in
+    shr-shr w (digit_bits * level) digit_bits ∙ ap (λ n. w / 2 ^ n) more
 
 -- a word's digits spell what is left of it above their first level
 pub word_of-digits_after : (level count w : ℕ) →
-    word_of (digits_after level count w) ≡ w / 2 ^ (5 * level) % 2 ^ (5 * count)
-word_of-digits_after level zero w = omega (arith, mod_below (w / 2 ^ (5 * level)) 1 (omega arith))
+    word_of (digits_after level count w) ≡ w / 2 ^ (digit_bits * level) % 2 ^ (digit_bits * count)
+word_of-digits_after level zero w = omega (arith, mod_below (w / 2 ^ (digit_bits * level)) 1 (omega arith))
 word_of-digits_after level (suc count) w =
-    let here : ℕ = w / 2 ^ (5 * level) in
+    let here : ℕ = w / 2 ^ (digit_bits * level) in
     let rest = word_of-digits_after (level + 1) count w in
-    let next : here / 32 % 2 ^ (5 * count) ≡ w / 2 ^ (5 * (level + 1)) % 2 ^ (5 * count) = ap (λ n. n % 2 ^ (5 * count)) (shift-next w level) in
-    let split = mod-pow-add here (5 * count) 5 in
-    let exponent : 2 ^ (5 * count + 5) ≡ 2 ^ (5 * suc count) = ap (λ n. 2 ^ n) (omega arith) in
-    let whole : here % 2 ^ (5 * count + 5) ≡ here % 2 ^ (5 * suc count) = ap (λ n. here % n) exponent in
+    let next : here / fan_out % 2 ^ (digit_bits * count) ≡ w / 2 ^ (digit_bits * (level + 1)) % 2 ^ (digit_bits * count) = ap (λ n. n % 2 ^ (digit_bits * count)) (shift-next w level) in
+    let split = mod-pow-add here (digit_bits * count) digit_bits in
+    let exponent : 2 ^ (digit_bits * count + digit_bits) ≡ 2 ^ (digit_bits * suc count) = ap (λ n. 2 ^ n) (omega arith) in
+    let whole : here % 2 ^ (digit_bits * count + digit_bits) ≡ here % 2 ^ (digit_bits * suc count) = ap (λ n. here % n) exponent in
     omega (arith, rest, next, split, whole)
 
 -- a short word is short above each level
@@ -35,16 +35,16 @@ shift-below bits w k small =
     let wide : 2 ^ bits ≤ 2 ^ (bits - k + k) = pow-le-pow_right (omega arith) (omega arith) in
     shr_below w (bits - k) k (omega (arith, wide, small))
 
-pub digit-below : (bits level w : ℕ) → w < 2 ^ bits → digit w level < 2 ^ (bits - 5 * level - (bits - 5 * (level + 1)))
-digit-below bits level w small = elim (cases_lt bits (5 * (level + 1))) [
+pub digit-below : (bits level w : ℕ) → w < 2 ^ bits → digit w level < kinds bits level
+digit-below bits level w small = elim (cases_lt bits (digit_bits * (level + 1))) [
   | inl above ↦
-      let kinds : bits - 5 * level ≡ bits - 5 * level - (bits - 5 * (level + 1)) = omega (arith, above) in
-      let count : 2 ^ (bits - 5 * level) ≡ 2 ^ (bits - 5 * level - (bits - 5 * (level + 1))) = ap (λ n. 2 ^ n) kinds in
-      omega (arith, count, shift-below bits w (5 * level) small, mod-le (w / 2 ^ (5 * level)) 32)
+      let rest : bits - digit_bits * level ≡ bits - digit_bits * level - (bits - digit_bits * (level + 1)) = omega (arith, above) in
+      let count : 2 ^ (bits - digit_bits * level) ≡ kinds bits level = ap (λ n. 2 ^ n) rest in
+      omega (arith, count, shift-below bits w (digit_bits * level) small, mod-le (w / 2 ^ (digit_bits * level)) fan_out)
   | inr below ↦
-      let kinds : 5 ≡ bits - 5 * level - (bits - 5 * (level + 1)) = omega (arith, below) in
-      let count : 32 ≡ 2 ^ (bits - 5 * level - (bits - 5 * (level + 1))) = ap (λ n. 2 ^ n) kinds in
-      omega (arith, count, mod_below (w / 2 ^ (5 * level)) 32 (omega arith))
+      let whole : digit_bits ≡ bits - digit_bits * level - (bits - digit_bits * (level + 1)) = omega (arith, below) in
+      let count : fan_out ≡ kinds bits level = ap (λ n. 2 ^ n) whole in
+      omega (arith, count, mod_below (w / 2 ^ (digit_bits * level)) fan_out (omega arith))
 ]
 
 pub digits_after-fit : (bits level count w : ℕ) → w < 2 ^ bits → Fits bits level (digits_after level count w)
@@ -53,22 +53,22 @@ digits_after-fit bits level (suc count) w small =
     (fits-below bits level (digit w level) (digit-below bits level w small), digits_after-fit bits (level + 1) count w small)
 
 -- the digits from a level on are those of a number that agrees with the word above that level
-pub digits_after-word_of : (bits level : ℕ) (ds : List ℕ) (w : ℕ) → Fits bits level ds → w / 2 ^ (5 * level) ≡ word_of ds →
+pub digits_after-word_of : (bits level : ℕ) (ds : List ℕ) (w : ℕ) → Fits bits level ds → w / 2 ^ (digit_bits * level) ≡ word_of ds →
     digits_after level (length ds) w ≡ ds
 digits_after-word_of bits level [] w f e = refl
 digits_after-word_of bits level (d ∷ ds) w f e =
     let small = fits-small bits level d f.0 in
-    let split = same_from_place (word_of ds) d (w / 2 ^ (5 * level) / 32) (digit w level) 32 small (mod_below (w / 2 ^ (5 * level)) 32 (omega arith))
-    (omega (arith, e, div-add-mod' (w / 2 ^ (5 * level)) 32)) in
+    let split = same_from_place (word_of ds) d (w / 2 ^ (digit_bits * level) / fan_out) (digit w level) fan_out small (mod_below (w / 2 ^ (digit_bits * level)) fan_out (omega arith))
+    (omega (arith, e, div-add-mod' (w / 2 ^ (digit_bits * level)) fan_out)) in
     let rest = digits_after-word_of bits (level + 1) ds w f.1 (sym (shift-next w level) ∙ sym split.0) in
     ap (λ n. n ∷ digits_after (level + 1) (length ds) w) (sym split.1) ∙ ap (λ ys. d ∷ ys) rest
 
 pub word_of-below : (bits level : ℕ) (ds : List ℕ) → Fits bits level ds → word_of ds < breadth bits level
-word_of-below bits level [] f = pow_pos (bits - 5 * level)
+word_of-below bits level [] f = pow_pos (bits - digit_bits * level)
 word_of-below bits level (d ∷ ds) f =
     let rest = word_of-below bits (level + 1) ds f.1 in
     let small = fits-small bits level d f.0 in
-    elim (cases_lt bits (5 * (level + 1))) [
+    elim (cases_lt bits (digit_bits * (level + 1))) [
       | inl last ↦
           let none = breadth-none bits (level + 1) (omega (arith, last)) in
           omega (arith, rest, f.0, none, ap (λ n. d * n) none)

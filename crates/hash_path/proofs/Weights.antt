@@ -8,7 +8,11 @@ use Rattle.std.specs.declared.cmp.Ordering.TheVariants.{Less, Equal, Greater}
 use Rattle.std.specs.Ordering.{MatchOrdering, nat_cmp, ordering_then}
 use Rattle.std.specs.Cmp.{nat_cmp_is, ranks}
 use Rattle.std.specs.Cmp.Lexicographic.{slice_cmp}
-use Rattle.hash_path.specs.Digits.{breadth, weighed}
+use Rattle.hash_path.specs.Digits.{digit_bits, fan_out, breadth, weighed}
+
+-- how many digits there are at a level: fewer at the last, which has the bits that are left
+abbrev pub kinds : ℕ → ℕ → ℕ
+kinds bits level = 2 ^ (bits - digit_bits * level - (bits - digit_bits * (level + 1)))
 
 -- each digit leaves room for the digits after it
 abbrev pub Fits : ℕ → ℕ → List ℕ → Type 0
@@ -17,7 +21,7 @@ Fits bits level (d ∷ ds) =
     (d * breadth bits (level + 1) + breadth bits (level + 1) ≤ breadth bits level) × Fits bits (level + 1) ds
 
 pub breadth-positive : (bits level : ℕ) → 0 < breadth bits level
-breadth-positive bits level = pow_pos (bits - 5 * level)
+breadth-positive bits level = pow_pos (bits - digit_bits * level)
 
 -- the positions that begin with these digits end where those that share the level's digits end, or before
 pub weighed-within : (bits level end : ℕ) (ds : List ℕ) → level + length ds ≡ end → Fits bits level ds →
@@ -59,22 +63,21 @@ take-within bits level end (d ∷ ds) (x ∷ xs) e short f g low high =
 
 -- the digits of a level come in as many kinds as they leave room for
 pub breadth-splits : (bits level : ℕ) →
-    breadth bits level ≡ 2 ^ (bits - 5 * level - (bits - 5 * (level + 1))) * breadth bits (level + 1)
+    breadth bits level ≡ kinds bits level * breadth bits (level + 1)
 breadth-splits bits level =
-    let here : ℕ = bits - 5 * level in
-    let next : ℕ = bits - 5 * (level + 1) in
+    let here : ℕ = bits - digit_bits * level in
+    let next : ℕ = bits - digit_bits * (level + 1) in
     let whole : here ≡ here - next + next = omega arith in
     ap (λ n. 2 ^ n) whole ∙ pow-add 2 (here - next) next
 
-pub fits-below : (bits level d : ℕ) → d < 2 ^ (bits - 5 * level - (bits - 5 * (level + 1))) →
+pub fits-below : (bits level d : ℕ) → d < kinds bits level →
     d * breadth bits (level + 1) + breadth bits (level + 1) ≤ breadth bits level
 fits-below bits level d small =
-    let many : ℕ = 2 ^ (bits - 5 * level - (bits - 5 * (level + 1))) in
-    let more = mul-le (d + 1) (breadth bits (level + 1)) many (breadth bits (level + 1)) (omega (arith, small)) (omega arith) in
+    let more = mul-le (d + 1) (breadth bits (level + 1)) (kinds bits level) (breadth bits (level + 1)) (omega (arith, small)) (omega arith) in
     omega (arith, more, breadth-splits bits level)
 
-pub breadth-none : (bits level : ℕ) → bits ≤ 5 * level → breadth bits level ≡ 1
-breadth-none bits level end = let none : bits - 5 * level ≡ 0 = omega (arith, end) in ap (λ n. 2 ^ n) none
+pub breadth-none : (bits level : ℕ) → bits ≤ digit_bits * level → breadth bits level ≡ 1
+breadth-none bits level end = let none : bits - digit_bits * level ≡ 0 = omega (arith, end) in ap (λ n. 2 ^ n) none
 
 -- digits that weigh what is told
 pub record Weighs (bits level count p : ℕ) : Type 0 where
@@ -83,15 +86,14 @@ pub record Weighs (bits level count p : ℕ) : Type 0 where
   pub fits : Fits bits level digits
   pub weight : weighed bits level digits ≡ p
 
-pub weighs : (bits level count p : ℕ) → bits ≤ 5 * (level + count) → p < breadth bits level → Weighs bits level count p
+pub weighs : (bits level count p : ℕ) → bits ≤ digit_bits * (level + count) → p < breadth bits level → Weighs bits level count p
 weighs bits level zero p end small =
     let none = breadth-none bits level (omega (arith, end)) in
     record { digits = []; many = refl; fits = tt; weight = omega (arith, none, small) }
 weighs bits level (suc count) p end small =
     let unit : ℕ = breadth bits (level + 1) in
-    let many : ℕ = 2 ^ (bits - 5 * level - (bits - 5 * (level + 1))) in
     let rest = weighs bits (level + 1) count (p % unit) (omega (arith, end)) (mod_below p unit (breadth-positive bits (level + 1))) in
-    let first : p / unit < many = div_below p unit many (breadth-positive bits (level + 1)) (omega (arith, breadth-splits bits level, small)) in
+    let first : p / unit < kinds bits level = div_below p unit (kinds bits level) (breadth-positive bits (level + 1)) (omega (arith, breadth-splits bits level, small)) in
     record {
       digits = p / unit ∷ rest.digits;
       many = ap (λ n. suc n) rest.many;
@@ -99,24 +101,24 @@ weighs bits level (suc count) p end small =
       weight = omega (arith, rest.weight, div-add-mod' p unit);
     }
 
--- a digit is one of at most 32
-pub fits-small : (bits level d : ℕ) → d * breadth bits (level + 1) + breadth bits (level + 1) ≤ breadth bits level → d < 32
+-- a digit that fits is below the fan-out
+pub fits-small : (bits level d : ℕ) → d * breadth bits (level + 1) + breadth bits (level + 1) ≤ breadth bits level → d < fan_out
 fits-small bits level d fits =
     let unit : ℕ = breadth bits (level + 1) in
-    let five : bits - 5 * level - (bits - 5 * (level + 1)) ≤ 5 = omega arith in
-    let kinds : 2 ^ (bits - 5 * level - (bits - 5 * (level + 1))) ≤ 2 ^ 5 = pow-le-pow_right (omega arith) five in
-    let most = mul-le (2 ^ (bits - 5 * level - (bits - 5 * (level + 1)))) unit 32 unit kinds (omega arith) in
-    elim (cases_lt d 32) [
+    let whole : bits - digit_bits * level - (bits - digit_bits * (level + 1)) ≤ digit_bits = omega arith in
+    let few : kinds bits level ≤ fan_out = pow-le-pow_right (omega arith) whole in
+    let most = mul-le (kinds bits level) unit fan_out unit few (omega arith) in
+    elim (cases_lt d fan_out) [
       | inl small ↦ small
       | inr large ↦
-          absurd (omega (arith, fits, most, breadth-splits bits level, breadth-positive bits (level + 1), mul-le 32 unit d unit large (omega arith)))
+          absurd (omega (arith, fits, most, breadth-splits bits level, breadth-positive bits (level + 1), mul-le fan_out unit d unit large (omega arith)))
     ]
 
--- a level with a whole digit has 32 of the next level's intervals
-pub breadth-whole : (bits level : ℕ) → 5 * (level + 1) ≤ bits → breadth bits level ≡ 32 * breadth bits (level + 1)
+-- a level with a whole digit has as many of the next level's intervals as the fan-out
+pub breadth-whole : (bits level : ℕ) → digit_bits * (level + 1) ≤ bits → breadth bits level ≡ fan_out * breadth bits (level + 1)
 breadth-whole bits level room =
-    let kinds : bits - 5 * level - (bits - 5 * (level + 1)) ≡ 5 = omega (arith, room) in
-    breadth-splits bits level ∙ ap (λ n. 2 ^ n * breadth bits (level + 1)) kinds
+    let whole : bits - digit_bits * level - (bits - digit_bits * (level + 1)) ≡ digit_bits = omega (arith, room) in
+    breadth-splits bits level ∙ ap (λ n. 2 ^ n * breadth bits (level + 1)) whole
 
 -- numbers of two places compare by the first place, and then by the second
 nat_cmp-places : (a b c d unit : ℕ) → b < unit → d < unit →

@@ -2,6 +2,7 @@
 use Rattle.std.specs.Prelude.{ℕ, ℤ, ◌^◌, ◌<◌}
 use Rattle.std.specs.Int.{w64, cast_unsigned, to_le_bytes}
 use Rattle.hash_path.specs.Fnv.{fnv1a, fnv1a-below}
+use Rattle.hash_path.specs.Widths.{word_bits}
 
 -- the path word of a number of 64 bits: the hash of its eight bytes, little-endian
 abbrev pub unsigned_path : ℕ → ℕ
@@ -11,8 +12,8 @@ unsigned_path n = fnv1a (to_le_bytes w64 n)
 abbrev pub signed_path : ℤ → ℕ
 signed_path z = unsigned_path (cast_unsigned w64 z)
 
-pub unsigned_path-below : (n : ℕ) → unsigned_path n < 2 ^ 32
+pub unsigned_path-below : (n : ℕ) → unsigned_path n < 2 ^ word_bits
 unsigned_path-below n = fnv1a-below (to_le_bytes w64 n)
 
-pub signed_path-below : (z : ℤ) → signed_path z < 2 ^ 32
+pub signed_path-below : (z : ℤ) → signed_path z < 2 ^ word_bits
 signed_path-below z = unsigned_path-below (cast_unsigned w64 z)

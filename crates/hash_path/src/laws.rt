@@ -1,10 +1,11 @@
 //! Laws of words, digits and positions, for proofs about callers: each call does nothing, and its contract is the law.
 
 ghost use Rattle.std.specs.Prelude.{◌≡◌, ℕ, ◌<◌, ◌^◌, List, []};
-ghost use Rattle.hash_path.specs.Digits.{fnv1a};
+ghost use Rattle.hash_path.specs.Digits.{word_bits, fnv1a};
+ghost use Rattle.hash_path.specs.Fnv.{offset_basis};
 ghost use Rattle.hash_path.specs.Laws.{PositionIsBelow, PositionIsInjective, PositionIsOnto, PositionOrder, DigitOrder, DigitInterval, PrefixInterval, IntervalStep, WordOfSpelled, SpelledIsInjective, SpelledPrefix, SharedDigits};
 
-/// Position is a bijection of the numbers of 32 bits.
+/// Position is a bijection of the path words.
 pub fn position_is_bijection()
     ensures below { PositionIsBelow }
     ensures injective { PositionIsInjective }
@@ -32,8 +33,8 @@ pub fn digits_determine_word()
     ensures shared { SharedDigits }
 {}
 
-/// The hash of no bytes is the offset basis, and each hash has 32 bits.
+/// The hash of no bytes is the offset basis, and each hash is a path word.
 pub fn fnv1a_is_word()
-    ensures of_none { fnv1a [] ≡ 2166136261 }
-    ensures small { (bytes : List ℕ) → fnv1a bytes < 2 ^ 32 }
+    ensures of_none { fnv1a [] ≡ offset_basis }
+    ensures small { (bytes : List ℕ) → fnv1a bytes < 2 ^ word_bits }
 {}

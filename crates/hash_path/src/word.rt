@@ -1,45 +1,85 @@
 ghost use Rattle.std.specs.Prelude.{◌≡◌, ◌<◌, ◌≤◌};
-ghost use Rattle.hash_path.specs.Digits.{digit, position, fnv1a};
+ghost use Rattle.hash_path.specs.Digits.{last_level, fan_out, digit, weight, position, fnv1a};
+ghost use Rattle.hash_path.specs.Fnv.{fnv1a_with};
+
+/// The number of a path word: its width is here and in the definitions, and every other width follows from these.
+pub type Word = u32;
+
+/// How many bits a path word has.
+pub const WORD_BITS: u32 = Word::BITS;
+
+/// How many bits a digit has. A word's last digit has the bits that are left.
+pub const DIGIT_BITS: u32 = 5;
+
+/// How many digits a path word has.
+pub const WORD_DIGITS: u32 = (WORD_BITS + DIGIT_BITS - 1) / DIGIT_BITS;
+
+/// How many digits there are at one level: a branch has at most so many children.
+pub const FAN_OUT: u32 = 1 << DIGIT_BITS;
+
+/// Where FNV-1a starts, and what each of its steps multiplies by.
+const OFFSET_BASIS: Word = 0x811c_9dc5;
+
+const PRIME: Word = 0x0100_0193;
 
 /// The path word of a key.
 #[derive(Clone, Copy, Debug, PartialEq, Eq)]
-pub struct Path(pub u32);
+pub struct Path(pub Word);
 
 impl Path {
-    /// The digit by which a branch at `level` picks its child, from 0 to 31; at level 6 from 0 to 3.
-    /// The levels are 0 to 6, and the root is at level 0.
+    /// The digit by which a branch at `level` picks its child, below the fan-out; the last has fewer bits.
+    /// The levels are those of the word's digits, and the root is at level 0.
     ///
     /// After the hash trie of "Concurrent Tries with Efficient Non-Blocking Snapshots" (2012).
     pub fn digit(self, level: u32) -> u32
-        requires { level ≤ 6 }
+        requires { level ≤ last_level }
         ensures value { result ≡ digit self.0 level }
-        ensures small { result < 32 }
+        ensures small { result < fan_out }
     {
-        (self.0 >> (5 * level)) & 31
+        (self.0 >> (DIGIT_BITS * level)) & (FAN_OUT - 1)
     }
 
     /// The word's place in the order of a walk: its digits, with digit 0 as the most significant.
-    #[tactic(auto, unfolding(crate::specs::Digits::position))]
-    pub fn position(self) -> u32
+    pub fn position(self) -> Word
         ensures { result ≡ position self.0 }
     {
-        self.digit(0) * 0x0800_0000
-            + self.digit(1) * 0x0040_0000
-            + self.digit(2) * 0x0002_0000
-            + self.digit(3) * 0x1000
-            + self.digit(4) * 0x80
-            + self.digit(5) * 4
-            + self.digit(6)
+        position_of(self.0)
     }
 
-    /// The path word of a byte text: its FNV-1a hash of 32 bits, as Fowler, Noll and Vo publish it.
+    /// The path word of a byte text: its FNV-1a hash, as Fowler, Noll and Vo publish it.
     pub fn fnv1a(bytes: &[u8]) -> Path
         ensures { result.0 ≡ fnv1a bytes.now }
     {
-        let mut hash = 0x811c_9dc5u32;
+        let mut hash = OFFSET_BASIS;
         for byte in bytes {
-            hash = (hash ^ u32::from(*byte)).wrapping_mul(0x0100_0193);
+            hash = with_byte(hash, *byte);
         }
         Path(hash)
     }
+}
+
+// The hash so far with one byte more.
+fn with_byte(hash: Word, byte: u8) -> Word
+    ensures { result ≡ fnv1a_with hash byte }
+{
+    (hash ^ Word::from(byte)).wrapping_mul(PRIME)
+}
+
+// The digits, each times what it counts. A number's range is known where it is passed by value, and not in a struct.
+fn position_of(word: Word) -> Word
+    ensures { result ≡ position word }
+{
+    let mut position = 0;
+    for level in 0..WORD_DIGITS {
+        position += Path(word).digit(level) * weight_at(level);
+    }
+    position
+}
+
+// What a digit at a level counts in a position.
+fn weight_at(level: u32) -> Word
+    requires { level ≤ last_level }
+    ensures { result ≡ weight level }
+{
+    1 << WORD_BITS.saturating_sub(DIGIT_BITS * (level + 1))
 }

@@ -5,6 +5,7 @@ use Rattle.std.proofs.lemmas.Nat.{mod_below}
 use Rattle.std.specs.declared.cmp.Ordering.TheVariants.{Equal}
 use Rattle.std.specs.Ordering.{nat_cmp}
 use Rattle.std.proofs.lemmas.Map.Lookups.{exact_pairs, exact_unsigned}
+use Rattle.hash_path.specs.Widths.{word_bits}
 use Rattle.test_keys.specs.declared.chosen.ChosenKey.{ChosenKey}
 use Rattle.test_keys.specs.Order.{chosen_cmp}
 
@@ -14,6 +15,6 @@ chosen-exact a b h =
     ap (λ (p : ℕ × ℕ). record { path = p.0; id = p.1 })
     (exact_pairs nat_cmp nat_cmp exact_unsigned exact_unsigned (a.path, a.id) (b.path, b.id) h)
 
--- a chosen path is a number of 32 bits
-pub chosen-small : (k : ChosenKey) → k.path % 2 ^ 32 < 2 ^ 32
-chosen-small k = mod_below k.path (2 ^ 32) (lit< tt)
+-- a chosen path is a path word
+pub chosen-small : (k : ChosenKey) → k.path % 2 ^ word_bits < 2 ^ 32
+chosen-small k = mod_below k.path (2 ^ word_bits) (lit< tt)

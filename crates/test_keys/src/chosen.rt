@@ -1,12 +1,13 @@
 ghost use Rattle.std.specs.Prelude.{◌≡◌, ◌%◌, ◌^◌};
+ghost use Rattle.hash_path.specs.Widths.{word_bits};
 
-use hash_path::{Path, PathKey};
+use hash_path::{Path, PathKey, Word};
 
 /// A key whose path word is chosen. Keys are in the order of (path, id).
 #[derive(Clone, Copy, Debug, PartialEq, Eq, PartialOrd, Ord)]
 pub struct ChosenKey {
     /// The number of the path word.
-    pub path: u32,
+    pub path: Word,
     /// Tells keys of one path word apart.
     pub id: u32,
 }
@@ -14,7 +15,7 @@ pub struct ChosenKey {
 impl PathKey for ChosenKey {
     ghost use Rattle.test_keys.specs.Laws.{chosen-exact, chosen-small};
 
-    ghost path_of = { λ k. k.path % 2 ^ 32 };
+    ghost path_of = { λ k. k.path % 2 ^ word_bits };
 
     ghost exact = { chosen-exact };
 
@@ -26,8 +27,8 @@ impl PathKey for ChosenKey {
 }
 
 // The range of a number is known where it is passed by value, and not behind a `&self`.
-fn chosen_word(number: u32) -> Path
-    ensures { result.0 ≡ number % 2 ^ 32 }
+fn chosen_word(number: Word) -> Path
+    ensures { result.0 ≡ number % 2 ^ word_bits }
 {
     Path(number)
 }
