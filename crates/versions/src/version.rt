@@ -25,7 +25,7 @@ pub const MOST_PAIRS: u64 = 16_777_216;
 
 /// A finite map from `K` to `V` with a limit on its pairs, as a root of shared trie nodes.
 ///
-/// A write copies the nodes of one path, so a fork keeps the nodes that it shared.
+/// A write changes the nodes of one path, and copies those of them that forks and views share.
 #[derive(Drop)]
 pub struct Version<K: PathKey, V> {
     root: Node<K, V>,
@@ -138,7 +138,7 @@ impl<K: PathKey + Drop, V: Drop> Version<K, V> {
         &self.root
     }
 
-    /// How many nodes have the version's own stamp: those that no other version shares. It takes no memory.
+    /// How many nodes carry the version's own stamp. It takes no memory.
     pub fn own_nodes(&self) -> u64
         ensures { result ≡ own_count self.now.stamp self.now.nodes }
     {
