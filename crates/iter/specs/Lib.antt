@@ -1,0 +1,3 @@
+pub mod Intervals
+pub mod Walks
+pub mod Ranks

@@ -1,0 +1,13 @@
+-- What contracts see of a walk.
+use Rattle.std.specs.Prelude.{List}
+use Rattle.std.specs.declared.sync.Arc.{Arc}
+use Rattle.std.specs.declared.alloc.Global.{Global}
+use denote.Ref.{Bor}
+
+-- a walk: the pairs that are still to come, in order
+pub record Walk (K V : Type 0) : Type 0 where
+  pub rest : List (K × V)
+
+-- a pair that is lent, without where its parts lie
+abbrev pub item : {K V : Type 0} → Bor (Arc K Global) × Bor (Arc V Global) → K × V
+item x = (x.0.now.value, x.1.now.value)

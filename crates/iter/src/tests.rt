@@ -1,0 +1,67 @@
+//! Walks over maps of a few chosen path words.
+
+use crate::{pairs, pairs_of};
+use std::alloc::Global;
+use std::sync::Arc;
+use std::test::Fail;
+use test_keys::ChosenKey;
+use trie_node::Stamp;
+use versions::Version;
+
+// The path words of the keys a, b and c, whose positions rise from b over a to c.
+const WORDS: [u32; 3] = [0xe40c_292c, 0xe70c_2de5, 0xe60c_2c52];
+
+// A map that gives each of those words its number.
+fn three(alloc: Global) -> Result<Version<ChosenKey, i64>, Fail> {
+    let mut version = Version::empty(alloc, 100, Stamp(1))?;
+    for (word, number) in [(WORDS[0], 1), (WORDS[1], 2), (WORDS[2], 3)] {
+        version.put(
+            alloc,
+            Arc::new(alloc, ChosenKey { path: word, id: 0 })?,
+            Arc::new(alloc, number)?,
+        )?;
+    }
+    Ok(version)
+}
+
+#[test]
+fn walks_rise_by_position_and_show_no_later_put(rt: HostRuntime) -> Result<(), Fail> {
+    let alloc = rt.alloc();
+    let mut version = three(alloc)?;
+    let view = version.view()?;
+    let mut walk = pairs(alloc, &view)?;
+    version.put(
+        alloc,
+        Arc::new(alloc, ChosenKey { path: 0, id: 0 })?,
+        Arc::new(alloc, 9)?,
+    )?;
+    assert_eq!(rt; walk.left(), 3);
+    for (word, number) in [(WORDS[1], 2), (WORDS[0], 1), (WORDS[2], 3)] {
+        match walk.next() {
+            Some((key, value)) => {
+                assert_eq!(rt; key.path, word);
+                assert_eq!(rt; **value, number);
+            }
+            None => assert!(rt; false),
+        }
+    }
+    assert_eq!(rt; walk.len(), 0);
+    assert!(rt; walk.next().is_none());
+    let mut all = 0;
+    for (key, _) in pairs_of(alloc, &version)? {
+        all ^= key.path;
+    }
+    assert_eq!(rt; all, 0xe40c_292c ^ 0xe70c_2de5 ^ 0xe60c_2c52);
+    Ok(())
+}
+
+#[test]
+fn the_empty_map_has_an_empty_walk(rt: HostRuntime) -> Result<(), Fail> {
+    let alloc = rt.alloc();
+    let version: Version<ChosenKey, i64> = Version::empty(alloc, 100, Stamp(1))?;
+    let view = version.view()?;
+    let mut walk = pairs(alloc, &view)?;
+    assert_eq!(rt; walk.left(), 0);
+    assert!(rt; walk.next().is_none());
+    Ok(())
+}
