@@ -1,5 +1,5 @@
 -- The child of a digit, and the pairs below it.
-use Rattle.std.proofs.Common.{◌≡◌, ℕ, zero, suc, ◌+◌, ◌<◌, ◌≤◌, ◌≢◌, ◌==◌, ◌%◌, ◌^◌, Bool, true, false, cond, List, [], ◌∷◌, ◌++◌, length, get_or, nat_eq, nat_lt, Option, Some, None, is_some, refl, sym, ap, ◌∙◌, subst, arith, length-append, IfSome, inl, inr}
+use Rattle.std.proofs.Common.{◌≡◌, ℕ, ◌+◌, ◌<◌, ◌≤◌, ◌≢◌, ◌==◌, ◌%◌, ◌^◌, Bool, true, false, cond, List, [], ◌∷◌, ◌++◌, length, get_or, nat_lt, Option, Some, None, refl, sym, ap, ◌∙◌, subst, arith, length-append, IfSome, inl, inr}
 use Rattle.std.proofs.lemmas.Bool.{eqb-true, eq-eqb, false_from_ne_true}
 use Rattle.std.proofs.lemmas.Bool.Decides.{eqb_tells, nat_tests}
 use Rattle.std.specs.declared.cmp.Ordering.{Ordering}
@@ -15,7 +15,7 @@ use Rattle.trie_node.specs.Outline.{children, list_of}
 use Rattle.trie_node.specs.Shape.{Fits, Lacks}
 use Rattle.trie_node.specs.Tree.{Tree, branch, bucket, Trees, no_trees, more_trees, digits_of, entries, entries_of_all, KeysHaveDigit, IsTrie, AreTries}
 use Rattle.trie_node.proofs.Apart.{find_lacking_all}
-use Rattle.trie_node.proofs.Bits.{Digits, digits_around, IsOnceEach, length-digits_of}
+use Rattle.trie_node.proofs.Bits.{digits_around, IsOnceEach, length-digits_of}
 use Rattle.trie_node.proofs.Children.{length-children}
 use Rattle.trie_node.proofs.Tries.{or_else, or_none, find_append, find_other}
 

@@ -1,10 +1,10 @@
 -- The root of two maps together.
-use Rattle.std.proofs.Common.{◌≡◌, ℕ, ◌+◌, ◌*◌, ◌<◌, ◌≤◌, ◌^◌, ◌%◌, List, [], ◌∷◌, length, Some, refl, sym, ap, ◌∙◌, subst, arith}
+use Rattle.std.proofs.Common.{◌≡◌, ℕ, ◌+◌, ◌<◌, ◌≤◌, ◌^◌, List, [], ◌∷◌, length, Some, refl, sym, ap, ◌∙◌, arith}
 use Rattle.std.specs.Option.{option_or}
 use Rattle.std.specs.declared.cmp.Ordering.{Ordering}
 use Rattle.std.specs.declared.cmp.Ordering.TheVariants.{Equal}
 use Rattle.std.specs.Cmp.{IsTotalOrder}
-use Rattle.trie_node.specs.Map.{IsMap, union}
+use Rattle.trie_node.specs.Map.{union}
 use Rattle.trie_node.specs.Merges.{CanMerge, Merges}
 use Rattle.trie_node.specs.Roots.{IsRoot, map_of, word_of}
 use Rattle.trie_node.specs.Shape.{NoneAbove, nodes}

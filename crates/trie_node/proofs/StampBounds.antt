@@ -1,10 +1,10 @@
 -- That no node has a stamp above one, said of the tree and of the list of its nodes.
-use Rattle.std.proofs.Common.{◌≡◌, ℕ, zero, suc, ◌+◌, ◌<◌, ◌≤◌, Bool, true, false, ◌&&◌, List, [], ◌∷◌, ◌++◌, length, take, get_or, Option, refl, sym, ap, ◌∙◌, arith, nat_eq, length-append}
+use Rattle.std.proofs.Common.{◌≡◌, ℕ, zero, suc, ◌+◌, ◌≤◌, Bool, true, false, ◌&&◌, List, [], ◌∷◌, ◌++◌, take, get_or, Option, refl, ap, ◌∙◌, arith, nat_eq}
 use Rattle.std.specs.Bool.{MatchBool}
 use Rattle.std.specs.List.{All, Contains, starts_with}
 use Rattle.std.specs.declared.cmp.Ordering.{Ordering}
 use Rattle.std.proofs.lemmas.Bool.{eq-eqb}
-use Rattle.std.proofs.lemmas.List.{length-take-le, get_or-append-add, get_or_append_left}
+use Rattle.std.proofs.lemmas.List.{length-take-le}
 use Rattle.std.proofs.lemmas.List.Elements.{All-cons, All-nil, All-append, All-contains}
 use Rattle.hash_path.specs.Digits.{spelled}
 use Rattle.trie_node.specs.Merges.{StampsWithin, AllStampsWithin}
@@ -47,7 +47,6 @@ none_above_written newest stamp w old new le none restamps = λ k d lt. of_rule 
         go false inside = All-contains (λ x. x.1 ≤ newest) old n none inside
 
 module _ {K V : Type 0} (R : K → K → Ordering) (path : K → ℕ) (newest : ℕ) where
-
   mutual
     pub within_none : (p : List ℕ) (t : Tree K V) → StampsWithin newest t → NoneAbove newest (nodes_below (word_of path) p t)
     within_none p (branch stamp size bitmap ts) h = All-cons (λ n. n.1 ≤ newest) (p, stamp) (nodes_of_all (word_of path) p (digits_of bitmap) ts) h.0 (all_within_none p (digits_of bitmap) ts h.1)

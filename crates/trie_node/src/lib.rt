@@ -9,6 +9,7 @@
 
 mod basics;
 mod bitmap;
+mod bound_laws;
 mod branch_in_place;
 mod condition;
 mod copies;
@@ -30,6 +31,7 @@ mod union_laws;
 mod walk_laws;
 
 pub use basics::{NoMemory, Stamp};
+pub use bound_laws::root_has_bounded_nodes;
 pub use condition::{Always, Condition, IfAbsent, IfEqual, IfPresent};
 pub use laws::{
     bitmap_counts_children, map_determines_root, map_names_nodes, root_has_few_nodes, root_is_map,

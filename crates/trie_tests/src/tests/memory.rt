@@ -29,7 +29,7 @@ fn take_all_of(alloc: Global, taken: &mut Vec<Vec<u8>>, size: usize) {
 }
 
 // Takes all the memory that there is.
-pub(super) fn take_all(alloc: Global) -> Result<Vec<Vec<u8>>, AllocError> {
+fn take_all(alloc: Global) -> Result<Vec<Vec<u8>>, AllocError> {
     let mut taken = Vec::with_capacity(alloc, MOST_BLOCKS)?;
     let mut large = 1 << 46;
     for _ in 0..34 {
@@ -63,7 +63,12 @@ fn spare_blocks(alloc: Global, first: usize, second: usize) -> Result<Vec<Vec<u8
 }
 
 // The root is as it was.
-pub(super) fn assert_same(rt: &impl Abort, alloc: Global, trie: &Trie, before: &Outline) -> Result<(), Fail> {
+pub(super) fn assert_same(
+    rt: &impl Abort,
+    alloc: Global,
+    trie: &Trie,
+    before: &Outline,
+) -> Result<(), Fail> {
     let now = outline_of(alloc, trie.root())?;
     assert_eq!(rt; now.lines.as_slice(), before.lines.as_slice());
     assert_eq!(rt; now.stamps.as_slice(), before.stamps.as_slice());

@@ -1,4 +1,6 @@
-use super::memory::{NODE, assert_same, take_all};
+ghost use Rattle.std.specs.Prelude.{◌<◌};
+
+use super::memory::{NODE, assert_same};
 use super::random::{KEYS, Random, WORDS, assert_holds, in_walk_order};
 use super::{Trie, branch, key, pairs, put, trie_of};
 use crate::held::Held;
@@ -7,7 +9,7 @@ use std::alloc::{AllocError, Global};
 use std::collections::BTreeMap;
 use std::process::Abort;
 use std::test::Fail;
-use test_keys::ChosenKey;
+use test_keys::{ChosenKey, take_all};
 use trie_node::{Node, Stamp, union_of_maps, unions_of_maps};
 
 // The merged root has these nodes and pairs.
@@ -96,13 +98,13 @@ fn intervals_share_their_subtries(rt: HostRuntime) -> Result<(), Fail> {
     let mut right = Held::new(alloc, Stamp(1))?;
     let mut map = BTreeMap::new(alloc);
     for word in 0..1024 {
-        let side = if (word % 32, word / 32) < (10, 5) {
-            &mut left
+        let at = key(word, 0);
+        if (word % 32, word / 32) < (10, 5) {
+            left = put(alloc, &left, at, word, 1)?;
         } else {
-            &mut right
-        };
-        *side = put(alloc, side, key(word, 0), word, 1)?;
-        map.insert(key(word, 0), word)?;
+            right = put(alloc, &right, at, word, 1)?;
+        }
+        map.insert(at, word)?;
     }
     let both = left.merged(alloc, &right, Stamp(2))?;
     let all = in_walk_order(alloc, &map)?;
@@ -167,7 +169,10 @@ fn refused_merges_leave_the_roots(rt: HostRuntime) -> Result<(), Fail> {
     let alloc = rt.alloc();
     let left = trie_of(alloc, &[(key(32, 0), 1), (key(64, 0), 2)])?;
     let right = trie_of(alloc, &[(key(96, 0), 3), (key(128, 0), 4)])?;
-    let (left_before, right_before) = (outline_of(alloc, left.root())?, outline_of(alloc, right.root())?);
+    let (left_before, right_before) = (
+        outline_of(alloc, left.root())?,
+        outline_of(alloc, right.root())?,
+    );
     for given in 0..5 {
         let mut spare = requested(alloc)?;
         let taken = take_all(alloc)?;

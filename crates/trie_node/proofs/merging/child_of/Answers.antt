@@ -1,4 +1,4 @@
-use Rattle.std.proofs.Common.{◌≡◌, ◌<◌, length, sym, ap, ◌∙◌, subst, arith, get_or}
+use Rattle.std.proofs.Common.{sym, ap, ◌∙◌, arith, get_or}
 use Rattle.trie_node.specs.Outline.{children}
 use Rattle.trie_node.specs.View.{tree}
 use Rattle.trie_node.proofs.ChildAt.{place_in, child_in, child_out}

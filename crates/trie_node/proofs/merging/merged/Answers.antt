@@ -1,7 +1,5 @@
-use Rattle.std.proofs.Common.{◌≡◌, ◌<◌, ◌^◌, length, sym, ap, ◌∙◌, subst}
-use Rattle.trie_node.specs.Roots.{IsRoot, map_of, word_of}
-use Rattle.trie_node.specs.Map.{union}
-use Rattle.trie_node.specs.Shape.{NoneAbove, nodes}
+use Rattle.std.proofs.Common.{sym, ap, ◌∙◌}
+use Rattle.trie_node.specs.Roots.{map_of}
 use Rattle.trie_node.specs.View.{tree}
 use Rattle.trie_node.proofs.MergedRoots.{only_left, only_right, can_merge_roots, merged_root, merged_map, merged_stamps}
 use Rattle.trie_node.proofs.Views.{on_ok}

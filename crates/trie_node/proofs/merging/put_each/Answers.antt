@@ -3,7 +3,7 @@ use Rattle.std.proofs.lemmas.List.{length-map, get_or-map}
 use Rattle.trie_node.specs.Merges.{PutsEach}
 use Rattle.trie_node.specs.View.{tree, pair_values}
 use Rattle.trie_node.specs.Writes.{WritesWhere}
-use Rattle.trie_node.proofs.EachPut.{agree_next, room_next, each_written, each_kept}
+use Rattle.trie_node.proofs.EachPut.{agree_next, each_written, each_kept}
 use Rattle.trie_node.proofs.merging.put_each.Goals as goal
 use Rattle.trie_node.proofs.merging.put_each.Goals.{in-Some, in_default}
 
