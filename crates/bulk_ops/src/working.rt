@@ -114,7 +114,8 @@ impl<
                 Ok(())
             }
             Query::Filter(test, _) => {
-                if test.at(key, value) {
+                let passes = test.at(key, value);
+                if passes {
                     let (key, value) = copy_of(key, value)?;
                     part.put(alloc, key, value)?;
                 }

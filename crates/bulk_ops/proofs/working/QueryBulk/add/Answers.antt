@@ -57,14 +57,14 @@ returns-else-at-clause-added g c =
 pub returns-in_ok-put-in-Filter-clause-added : goal.returns-in_ok-put-in-Filter-clause-added
 returns-in_ok-put-in-Filter-clause-added g c =
     let pair = c.in_ok-key-in-Filter in
-    adds.filter_added g.M.Monoid.combine g.M.Monoid.unit_of g.K.Ord.cmp g.met.K.Ord.total c.args.key.now.value c.args.value.now.value c.args.self.now c.in-Filter.test c.in-Filter.field-1 c.at-in-Filter.result c.args.part.now c.put.new.self c.in-Filter.is c.if-at-2.true
-    (λ p means. c.at-in-Filter.ensures p means ∙ (λ i. p (c.deref-in-Filter.ensures i) (c.deref-in-Filter-2.ensures i)))
+    adds.filter_added g.M.Monoid.combine g.M.Monoid.unit_of g.K.Ord.cmp g.met.K.Ord.total c.args.key.now.value c.args.value.now.value c.args.self.now c.in-Filter.test c.in-Filter.field-1 c.at-passes.result c.args.part.now c.put.new.self c.in-Filter.is c.if-passes.true
+    (λ p means. c.at-passes.ensures p means ∙ (λ i. p (c.deref-in-Filter.ensures i) (c.deref-in-Filter-2.ensures i)))
     (adds.put_at g.K.Ord.cmp c.args.part.now c.put.new.self pair.key.value c.args.key.now.value pair.value.value c.args.value.now.value c.in_ok-put-in-Filter.ensures.put pair.ensures.0 pair.ensures.1)
 
-pub returns-else-at-2-clause-added : goal.returns-else-at-2-clause-added
-returns-else-at-2-clause-added g c =
-    adds.filter_passed g.M.Monoid.combine g.M.Monoid.unit_of g.K.Ord.cmp g.met.K.Ord.total c.args.key.now.value c.args.value.now.value c.args.self.now c.in-Filter.test c.in-Filter.field-1 c.at-in-Filter.result c.args.part.now c.in-Filter.is c.if-at-2.false
-    (λ p means. c.at-in-Filter.ensures p means ∙ (λ i. p (c.deref-in-Filter.ensures i) (c.deref-in-Filter-2.ensures i)))
+pub returns-else-passes-clause-added : goal.returns-else-passes-clause-added
+returns-else-passes-clause-added g c =
+    adds.filter_passed g.M.Monoid.combine g.M.Monoid.unit_of g.K.Ord.cmp g.met.K.Ord.total c.args.key.now.value c.args.value.now.value c.args.self.now c.in-Filter.test c.in-Filter.field-1 c.at-passes.result c.args.part.now c.in-Filter.is c.if-passes.false
+    (λ p means. c.at-passes.ensures p means ∙ (λ i. p (c.deref-in-Filter.ensures i) (c.deref-in-Filter-2.ensures i)))
 
 pub returns-in_ok-put-in-MapValues-clause-added : goal.returns-in_ok-put-in-MapValues-clause-added
 returns-in_ok-put-in-MapValues-clause-added g c =
