@@ -82,7 +82,13 @@ pub fn expired(now: u64) -> Question
 pub fn live(now: u64, handle: u32) -> Question
     ensures { IsReady result }
 {
-    Query::Filter(stored(At { now, expired: false }), handle)
+    Query::Filter(
+        stored(At {
+            now,
+            expired: false,
+        }),
+        handle,
+    )
 }
 
 /// How many seconds all leases have left.
