@@ -18,16 +18,12 @@ use Rattle.trie_node.specs.Merges.{CanMerge, Merges, StampsWithin, AllStampsWith
 use Rattle.trie_node.specs.Outline.{children}
 use Rattle.trie_node.specs.Shape.{Fits, Lacks}
 use Rattle.trie_node.specs.Tree.{Tree, branch, bucket, Trees, no_trees, more_trees, trees, digits_from, digits_of, entries, entries_of_all, HasTwoWords, IsTrie, AreTries}
-use Rattle.trie_node.proofs.Bits.{agree_more, once_each}
+use Rattle.trie_node.proofs.Bits.{agree_more, cond_append, once_each}
 use Rattle.trie_node.proofs.ChildAt.{IsBelow, child_in, child_out, child_known, child_fewer, count_under, count_most, count_next, find_digit, place_in}
 use Rattle.trie_node.proofs.Divides.{trie_fits}
 use Rattle.trie_node.proofs.Tries.{or_else, or_none, entries_append, find_append, find_lacking, find_other, join}
 
 -- the set bits among one more of the lowest
-next_append : (b : Bool) (d : ℕ) (xs ys : List ℕ) → cond b (d ∷ (xs ++ ys)) (xs ++ ys) ≡ cond b (d ∷ xs) xs ++ ys
-next_append true d xs ys = refl
-next_append false d xs ys = refl
-
 digits_suc : (k d m : ℕ) → digits_from (suc k) d m ≡ digits_from k d m ++ cond (bit_at m k == 1) ((d + k) ∷ []) []
 digits_suc zero d m =
     let here : d ≡ d + 0 = omega arith in
@@ -36,7 +32,7 @@ digits_suc (suc k) d m =
     let up : d + 1 + k ≡ d + suc k = omega arith in
     let tail : digits_from (suc k) (d + 1) (m / 2) ≡ digits_from k (d + 1) (m / 2) ++ cond (bit_at m (suc k) == 1) ((d + suc k) ∷ []) [] =
     digits_suc k (d + 1) (m / 2) ∙ (λ i. digits_from k (d + 1) (m / 2) ++ cond (sym (bit_at-suc m k) i == 1) (up i ∷ []) []) in
-    (λ i. cond (m % 2 == 1) (d ∷ tail i) (tail i)) ∙ next_append (m % 2 == 1) d (digits_from k (d + 1) (m / 2)) (cond (bit_at m (suc k) == 1) ((d + suc k) ∷ []) [])
+    (λ i. cond (m % 2 == 1) (d ∷ tail i) (tail i)) ∙ cond_append (m % 2 == 1) d (digits_from k (d + 1) (m / 2)) (cond (bit_at m (suc k) == 1) ((d + suc k) ∷ []) [])
 
 digits_next : (k m : ℕ) → digits_from (k + 1) 0 m ≡ digits_from k 0 m ++ cond (bit_at m k == 1) (k ∷ []) []
 digits_next k m =
@@ -122,10 +118,6 @@ pub record IsRow {K V : Type 0} (R : K → K → Ordering) (path : K → ℕ) (l
   pub finds : (q : K) → digit (path q) level < k → find R q (entries_of_all (trees row)) ≡ option_or (find R q (entries left)) (find R q (entries right))
   pub most : length (entries_of_all (trees row)) ≤ under k left + under k right
   pub stamps : (newest : ℕ) → stamp ≤ newest → StampsWithin newest left → StampsWithin newest right → AllStampsWithin newest (trees row)
-
--- at first there are none
-pub no_row : {K V : Type 0} (R : K → K → Ordering) (path : K → ℕ) (level stamp bitmap : ℕ) (left right : Tree K V) → IsRow R path level stamp bitmap left right 0 []
-no_row R path level stamp bitmap left right = record { ok = tt; finds = λ q lt. absurd (omega arith); most = omega arith; stamps = λ newest le left_in right_in. tt }
 
 module _ {K V : Type 0} (R : K → K → Ordering) (path : K → ℕ) (exact : (x y : K) → R x y ≡ Equal → x ≡ y) (level : ℕ) where
   -- a branch as one of the two
