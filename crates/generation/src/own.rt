@@ -1,24 +1,25 @@
 //! The nodes that carry a stamp.
 
-ghost use Rattle.std.specs.Prelude.{◌≡◌, ◌<◌, ◌^◌, length};
+ghost use Rattle.std.specs.Prelude.{◌≡◌, ◌<◌, ◌^◌};
 ghost use Rattle.trie_node.specs.Counts.{node_count};
 ghost use Rattle.trie_node.specs.Shape.{Fits, nodes, own_count};
-ghost use Rattle.trie_node.specs.Roots.{IsRoot, map_of, word_of};
+ghost use Rattle.trie_node.specs.Roots.{IsRoot, word_of};
 ghost use Rattle.trie_node.specs.View.{tree};
 ghost use Rattle.generation.specs.Owned.{own_below};
 
 use hash_path::PathKey;
 use trie_node::{
-    Look, Node, Stamp, bitmap_counts_children, child, look, root_has_few_nodes, stamp,
+    Look, Node, Stamp, bitmap_counts_children, child, look, root_has_bounded_nodes,
+    root_has_few_nodes, stamp,
 };
 
 /// How many nodes of a root carry the stamp. It walks over all of them and takes no memory.
 pub fn own_nodes<K: PathKey, V>(root: &Node<K, V>, own: Stamp) -> u64
     requires root { IsRoot K.cmp K.path_of (tree root.now) }
-    requires few { length (map_of K.cmp (tree root.now)) < 2 ^ 32 }
     ensures { result ≡ own_count own.0 (nodes (word_of K.path_of) (tree root.now)) }
 {
     root_has_few_nodes::<K, V>();
+    root_has_bounded_nodes::<K, V>();
     count_own(root, own)
 }
 

@@ -28,6 +28,13 @@ impl Source {
         Source { issued: 0 }
     }
 
+    /// A source that goes on after the stamp: it is taken to have issued that stamp and all before it.
+    pub fn after(stamp: Stamp) -> Source
+        ensures { result ≡ stamp.0 }
+    {
+        Source { issued: stamp.0 }
+    }
+
     /// The next stamp.
     pub fn next(&mut self) -> Stamp
         requires { self.old < 2 ^ 63 }

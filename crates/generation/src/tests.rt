@@ -13,6 +13,8 @@ fn stamps_rise_from_one(rt: HostRuntime) {
     assert_eq!(rt; source.next(), Stamp(2));
     assert_eq!(rt; source.next(), Stamp(3));
     assert_eq!(rt; source.issued(), 3);
+    let mut later = Source::after(Stamp(41));
+    assert_eq!(rt; (later.issued(), later.next()), (41, Stamp(42)));
 }
 
 #[test]

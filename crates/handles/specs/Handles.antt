@@ -1,7 +1,8 @@
 -- The live handles, as they stand in the places of a table.
-use Rattle.std.specs.Prelude.{◌≡◌, ◌≤◌, ℕ, ◌+◌, List, [], ◌∷◌, Option, Some, None, option_map, map, unwrap_or, slice_get}
+use Rattle.std.specs.Prelude.{◌≡◌, ◌≤◌, ℕ, ◌+◌, List, [], ◌∷◌, Option, Some, None, option_map, map, length, slice_index_or}
 use Rattle.versions.specs.Map.{Map}
 use Rattle.versions.specs.Contents.{Contents}
+use Rattle.handles.specs.Machine.{State}
 
 -- the maps in the places, each under the number of its place, where the first has this number
 abbrev pub live_from : {M : Type 0} → ℕ → List (Option M) → Map ℕ M
@@ -23,10 +24,27 @@ maps_in places = map map_in places
 
 -- the version in the place of a handle, if there is one
 abbrev pub version_in : {K V : Type 0} → List (Option (Contents K V)) → ℕ → Option (Contents K V)
-version_in places h = unwrap_or (slice_get places h) None
+version_in places h = slice_index_or places h None
 
--- each version in the places has this limit, and a stamp that was issued
-abbrev pub AllWithin : {K V : Type 0} → ℕ → ℕ → List (Option (Contents K V)) → Type 0
-AllWithin limit issued [] = Unit {0}
-AllWithin limit issued (None ∷ places) = AllWithin limit issued places
-AllWithin limit issued (Some v ∷ places) = (v.limit ≡ limit) × (v.stamp ≤ issued) × AllWithin limit issued places
+-- a version with this limit, and a stamp that was issued
+pub record IsWithin {K V : Type 0} (limit issued : ℕ) (v : Contents K V) : Type 0 where
+  pub same_limit : v.limit ≡ limit
+  pub some_stamp : 1 ≤ v.stamp
+  pub old_stamp : v.stamp ≤ issued
+
+-- 1,024 places; the versions in them have this limit, and stamps that were issued, no two of them the same
+pub record IsKept {K V : Type 0} (limit issued : ℕ) (places : List (Option (Contents K V))) : Type 0 where
+  pub count : length places ≡ 1024
+  pub each : (h : ℕ) (v : Contents K V) → version_in places h ≡ Some v → IsWithin limit issued v
+  pub apart : (h k : ℕ) (v w : Contents K V) → version_in places h ≡ Some v → version_in places k ≡ Some w → v.stamp ≡ w.stamp → h ≡ k
+
+-- what contracts see of the places: the map of each live handle number, the limit of each map, and how many stamps were issued
+pub record Held (K V : Type 0) : Type 0 where
+  pub live : Map ℕ (Map K V)
+  pub limit : ℕ
+  pub issued : ℕ
+
+-- the places have the maps of the state's live handles, and its limit on pairs
+pub record AreThoseOf {K V Q : Type 0} (s : State K V Q) (places : Held K V) : Type 0 where
+  pub same_live : places.live ≡ s.live
+  pub same_limit : places.limit ≡ s.limits.pairs

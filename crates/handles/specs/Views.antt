@@ -12,9 +12,11 @@ use Rattle.handles.specs.declared.reply.Reply.{Reply}
 use Rattle.handles.specs.declared.reply.Reply.TheVariants as replies
 use Rattle.handles.specs.declared.call.Call.{Call}
 use Rattle.handles.specs.declared.call.Call.TheVariants.{Open, Snapshot, Drop, On}
+use Rattle.handles.specs.declared.demand.Demand.{Demand}
+use Rattle.handles.specs.declared.demand.Demand.TheVariants as demands
 use Rattle.handles.specs.declared.call_reply.CallReply.{CallReply}
 use Rattle.handles.specs.declared.call_reply.CallReply.TheVariants as call_replies
-use Rattle.handles.specs.Machine.{Kind, State, Request, open_handle, snapshot, drop_handle, on, takes_no_memory, Outcome, Step, made, replied, refused}
+use Rattle.handles.specs.Machine.{Kind, State, Request, open_handle, snapshot, drop_handle, on, view, takes_no_memory, Outcome, Step, made, replied, viewed, refused, refusal, is_entry}
 
 -- a command, wherever its key and values lie
 abbrev pub command_of : {K V : Type 0} → Command K V → commands.Command K V
@@ -55,6 +57,10 @@ told_itself a = a
 abbrev pub without_queries : {K V : Type 0} → (K → K → Ordering) → (V → V → Bool) → Kind K V (Unit {0}) (Unit {0}) (Unit {0})
 without_queries R E = record { order = R; equal = E; target = no_target; answers = no_answer; map_of = no_map; told = told_itself }
 
+-- the machine of a table
+abbrev pub machine : {K V : Type 0} → (K → K → Ordering) → (V → V → Bool) → Kind K V (Unit {0}) (Unit {0}) (Unit {0})
+machine R E = without_queries R E
+
 -- the outcome of a call that opened or closed a handle
 abbrev pub unit_outcome : {K V B : Type 0} → Unit {0} → Outcome K V B
 unit_outcome u = made
@@ -63,12 +69,24 @@ unit_outcome u = made
 abbrev pub reply_outcome : {K V B : Type 0} → Reply V → Outcome K V B
 reply_outcome y = replied (reply_of y)
 
+-- the outcome of a call that showed this map
+abbrev pub view_outcome : {K V B : Type 0} → Map K V → Outcome K V B
+view_outcome m = viewed m
+
 -- the request that a call is
 abbrev pub request_of : {K V Q : Type 0} → Call K V → Request K V Q
 request_of (Open h) = open_handle h
 request_of (Snapshot h to) = snapshot h to
 request_of (Drop h) = drop_handle h
 request_of (On h c) = on h (command_of c)
+
+-- the request whose refusal is asked for
+abbrev pub demanded : {K V Q : Type 0} → Demand K V → Request K V Q
+demanded (demands.Open h) = open_handle h
+demanded (demands.Snapshot h to) = snapshot h to
+demanded (demands.Drop h) = drop_handle h
+demanded (demands.On h c) = on h (command_of c.now)
+demanded (demands.View h) = view h
 
 -- the outcome of a call that was answered so
 abbrev pub call_outcome : {K V B : Type 0} → CallReply V → Outcome K V B
@@ -88,6 +106,11 @@ requests_of calls = map request_of calls
 abbrev pub outcomes_of : {K V B : Type 0} → List (Result (CallReply V) Refusal) → List (Outcome K V B)
 outcomes_of answers = map outcome_of answers
 
+-- whether a call that was answered so is an entry
+abbrev pub is_counted : {T : Type 0} → Result T Refusal → Bool
+is_counted (Ok x) = true
+is_counted (Err e) = is_entry e
+
 -- whether a call failed for want of memory
 abbrev pub lacks_memory : {T : Type 0} → Result T Refusal → Bool
 lacks_memory (Err NoMemory) = true
@@ -103,3 +126,7 @@ module _ {K V Q A B T : Type 0} (kind : Kind K V Q A B) where
   -- a call that takes no memory does not fail for want of it
   abbrev pub AnswersWithoutMemory : Request K V Q → Result T Refusal → Type 0
   AnswersWithoutMemory r result = takes_no_memory r ≡ true → lacks_memory result ≡ false
+
+  -- a call that fails for want of memory is not refused for another reason
+  abbrev pub IsDue : State K V Q → Request K V Q → Result T Refusal → Type 0
+  IsDue s r result = lacks_memory result ≡ true → refusal kind s r ≡ None

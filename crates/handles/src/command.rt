@@ -38,6 +38,19 @@ pub enum Command<K, V> {
 }
 
 impl<K: PathKey + Drop, V: Eq + Drop> Command<K, V> {
+    /// Whether the command would put a new key into a map that holds as many pairs as it may. The key is looked up
+    /// only where the map is full.
+    pub(crate) fn lacks_place(&self, version: &Version<K, V>) -> bool
+        ensures { result ≡ is_full K.cmp version.now.limit version.now.entries (command_of self.now) }
+    {
+        match self {
+            Command::Put(key, _) | Command::PutIfAbsent(key, _) => {
+                version.len() == version.limit() && version.get(key).is_none()
+            }
+            _ => false,
+        }
+    }
+
     /// Makes the command on a map, by one walk.
     ///
     /// It is refused as `Full` where it would put a new key into a map that holds as many pairs as it may, and as

@@ -7,6 +7,7 @@
 mod call;
 mod call_reply;
 mod command;
+mod demand;
 mod laws;
 mod limits;
 mod places;

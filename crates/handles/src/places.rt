@@ -1,96 +1,176 @@
 //! The places of a table, each of which has a version where its handle is live.
-ghost use Rattle.std.specs.Prelude.{◌≡◌, ℕ, ◌<◌, ◌≤◌, ◌+◌, ◌^◌, length, [], IfOk, IsSome, IsSomeAnd, OnErr, OnOk, false, true, option_map, unwrap_or};
+ghost use Rattle.std.specs.Prelude.{◌≡◌, ◌<◌, ◌≤◌, ◌+◌, ◌^◌, length, [], IfErr, IfOk, IfSome, IsSome, OnErr, OnOk, false, true, option_map, unwrap_or};
 ghost use Rattle.std.specs.Ordering.{nat_cmp};
-ghost use Rattle.handles.specs.Handles.{AllWithin, live_from, maps_in, version_in};
+ghost use Rattle.handles.specs.Handles.{IsKept, live_from, maps_in};
 ghost use Rattle.handles.specs.Views.{command_of, lacks_memory, reply_of};
 ghost use Rattle.versions.specs.Commands.{after, is_full, needs_no_memory, reply};
 ghost use Rattle.versions.specs.Map.{value_at, with_pair, without};
 ghost use Rattle.versions.specs.Puts.{FullExactly};
+ghost use Rattle.versions.specs.declared.version.TheConstants.{MOST_PAIRS};
 
 use crate::command::Command;
 use crate::reply::Reply;
 use generation::Source;
 use hash_path::PathKey;
 use std::alloc::Global;
-use versions::{NoMemory, Refusal, Version};
+use std::marker::Model;
+use trie_node::Stamp;
+use versions::{MOST_PAIRS, NoMemory, Refusal, Version, View};
 
-/// The version in the place of the handle.
-pub fn version_at<K: PathKey, V>(
-    places: &[Option<Version<K, V>>],
-    handle: u32,
-) -> Option<&Version<K, V>>
-    requires { handle < length places.now }
-    ensures { option_map (λ v. v.now.entries) result ≡ value_at nat_cmp (live_from 0 (maps_in places.now)) handle }
-{
-    match &places[handle as usize] {
-        Some(version) => Some(version),
-        None => None,
+// How many handle numbers there are.
+const HANDLES: usize = 1024;
+
+/// A place for each handle number, and the source of the stamps of the versions in them.
+///
+/// The versions have one limit. Their stamps were issued by the source, and no two of them are the same.
+#[derive(Drop)]
+pub struct Places<K: PathKey, V> {
+    versions: Vec<Option<Version<K, V>>>,
+    limit: u64,
+    source: Source,
+}
+
+impl<K: PathKey, V> Model for Places<K, V> {
+    ghost use Rattle.std.specs.Prelude.{◌≤◌};
+    ghost use Rattle.handles.specs.Handles.{Held, IsKept, live_from, maps_in};
+    ghost use Rattle.versions.specs.declared.version.TheConstants.{MOST_PAIRS};
+
+    ghost Value = { Held K V };
+
+    ghost view = { λ p. record { live = live_from 0 (maps_in p.versions.items); limit = p.limit; issued = p.source } };
+
+    ghost invariant = { λ p. IsKept p.limit p.source p.versions.items × (1 ≤ p.limit) × (p.limit ≤ MOST_PAIRS) };
+}
+
+impl<K: PathKey + Drop, V: Eq + Drop> Places<K, V> {
+    /// Places with no version, whose versions may have so many pairs each.
+    pub fn new(alloc: Global, limit: u64) -> Result<Places<K, V>, NoMemory>
+        requires least { 1 ≤ limit }
+        requires most { limit ≤ MOST_PAIRS }
+        ensures { IfOk result (λ places. places ≡ record { live = []; limit = limit; issued = 0 }) }
+    {
+        let mut versions = Vec::with_capacity(alloc, HANDLES)?;
+        'places: while versions.len() < HANDLES {
+            versions.push(None)?;
+        }
+        Ok(Places {
+            versions,
+            limit,
+            source: Source::new(),
+        })
     }
-}
 
-/// Puts the version in the place of the handle.
-pub fn put_version<K: PathKey + Drop, V: Drop>(
-    places: &mut [Option<Version<K, V>>],
-    handle: u32,
-    version: Version<K, V>,
-)
-    requires { handle < length places.old }
-    ensures live { live_from 0 (maps_in places.new) ≡ with_pair nat_cmp (live_from 0 (maps_in places.old)) handle version.entries }
-    ensures within { (n s : ℕ) → AllWithin n s places.old → version.limit ≡ n → version.stamp ≤ s → AllWithin n s places.new }
-{
-    places[handle as usize] = Some(version);
-}
-
-/// Takes the version out of the place of the handle.
-pub fn drop_version<K: PathKey + Drop, V: Drop>(places: &mut [Option<Version<K, V>>], handle: u32)
-    requires { handle < length places.old }
-    ensures live { live_from 0 (maps_in places.new) ≡ without nat_cmp (live_from 0 (maps_in places.old)) handle }
-    ensures within { (n s : ℕ) → AllWithin n s places.old → AllWithin n s places.new }
-{
-    places[handle as usize] = None;
-}
-
-/// Makes the command on the version in the place of the handle.
-pub fn run_at<K: PathKey + Drop, V: Eq + Drop>(
-    alloc: Global,
-    places: &mut [Option<Version<K, V>>],
-    handle: u32,
-    command: Command<K, V>,
-) -> Result<Reply<V>, Refusal>
-    requires place { handle < length places.old }
-    requires live { IsSome (version_in places.old handle) }
-    ensures reply { IfOk result (λ y. reply_of y ≡ reply K.cmp V.eq (unwrap_or (value_at nat_cmp (live_from 0 (maps_in places.old)) handle) []) (command_of command)) }
-    ensures live { OnOk result (live_from 0 (maps_in places.new) ≡ with_pair nat_cmp (live_from 0 (maps_in places.old)) handle (after K.cmp V.eq (unwrap_or (value_at nat_cmp (live_from 0 (maps_in places.old)) handle) []) (command_of command))) }
-    ensures within { (n s : ℕ) → AllWithin n s places.old → AllWithin n s places.new }
-    ensures full { (n s : ℕ) → AllWithin n s places.old → FullExactly result (is_full K.cmp n (unwrap_or (value_at nat_cmp (live_from 0 (maps_in places.old)) handle) []) (command_of command)) }
-    ensures memory { needs_no_memory (command_of command) ≡ true → lacks_memory result ≡ false }
-    ensures err { OnErr result (live_from 0 (maps_in places.new) ≡ live_from 0 (maps_in places.old)) }
-{
-    match &mut places[handle as usize] {
-        Some(version) => command.run_on(alloc, version),
-        None => unreachable!(),
+    /// The places one after another.
+    pub fn as_slice(&self) -> &[Option<Version<K, V>>]
+        ensures live { live_from 0 (maps_in result.now) ≡ self.now.live }
+        ensures kept { IsKept self.now.limit self.now.issued result.now }
+    {
+        self.versions.as_slice()
     }
-}
 
-/// A fork of the version in the place of the handle. Both get a stamp of the source.
-pub fn fork_at<K: PathKey + Drop, V: Drop>(
-    places: &mut [Option<Version<K, V>>],
-    handle: u32,
-    source: &mut Source,
-) -> Result<Version<K, V>, NoMemory>
-    requires place { handle < length places.old }
-    requires live { IsSomeAnd (version_in places.old handle) (λ v. v.stamp ≤ source.old) }
-    requires room { source.old + 2 ≤ 2 ^ 63 }
-    ensures map { IfOk result (λ v. v.entries ≡ unwrap_or (value_at nat_cmp (live_from 0 (maps_in places.old)) handle) []) }
-    ensures live { live_from 0 (maps_in places.new) ≡ live_from 0 (maps_in places.old) }
-    ensures within { (n : ℕ) → AllWithin n source.old places.old → AllWithin n source.new places.new }
-    ensures limit { (n : ℕ) → AllWithin n source.old places.old → IfOk result (λ v. v.limit ≡ n) }
-    ensures stamp { IfOk result (λ v. v.stamp ≤ source.new) }
-    ensures issued { source.new ≤ source.old + 2 }
-    ensures source_err { OnErr result (source.new ≡ source.old) }
-{
-    match &mut places[handle as usize] {
-        Some(version) => version.fork(source),
-        None => unreachable!(),
+    /// The version of the handle, if it is live.
+    pub fn version(&self, handle: u32) -> Option<&Version<K, V>>
+        ensures map { option_map (λ v. v.now.entries) result ≡ value_at nat_cmp self.now.live handle }
+        ensures limit { IfSome result (λ v. v.now.limit ≡ self.now.limit) }
+        ensures least { 1 ≤ self.now.limit }
+    {
+        if handle as usize >= self.versions.len() {
+            return None;
+        }
+        match &self.versions[handle as usize] {
+            Some(version) => Some(version),
+            None => None,
+        }
+    }
+
+    /// Whether the command on the handle would put a new key into a map that holds as many pairs as it may.
+    pub fn lacks_place(&self, handle: u32, command: &Command<K, V>) -> bool
+        ensures { result ≡ is_full K.cmp self.now.limit (unwrap_or (value_at nat_cmp self.now.live handle) []) (command_of command.now) }
+    {
+        match self.version(handle) {
+            Some(version) => command.lacks_place(version),
+            None => false,
+        }
+    }
+
+    /// Opens the handle, with no pairs.
+    pub fn open(&mut self, alloc: Global, handle: u32) -> Result<(), Refusal>
+        requires place { handle < 1024 }
+        requires room { self.old.issued < 2 ^ 63 }
+        ensures live { OnOk result (self.new.live ≡ with_pair nat_cmp self.old.live handle []) }
+        ensures limit { self.new.limit ≡ self.old.limit }
+        ensures issued { self.new.issued ≤ self.old.issued + 1 }
+        ensures memory { IfErr result (λ e. e ≡ Refusal.NoMemory) }
+        ensures err { OnErr result (self.new ≡ self.old) }
+    {
+        // The stamp that the source issues next, which is taken once there is memory for the root.
+        let stamp = Stamp(self.source.issued() + 1);
+        let version = Version::empty(alloc, self.limit, stamp)?;
+        self.source.next();
+        self.versions[handle as usize] = Some(version);
+        Ok(())
+    }
+
+    /// Closes the handle: it is not live then.
+    pub fn close(&mut self, handle: u32)
+        requires { handle < 1024 }
+        ensures { self.new ≡ record self.old { live = without nat_cmp self.old.live handle } }
+    {
+        self.versions[handle as usize] = None;
+    }
+
+    /// Opens the handle `to`, with the pairs of the other handle. It makes no request for memory.
+    pub fn fork(&mut self, handle: u32, to: u32) -> Result<(), Refusal>
+        requires place { handle < 1024 }
+        requires target { to < 1024 }
+        requires live { IsSome (value_at nat_cmp self.old.live handle) }
+        requires room { self.old.issued + 2 ≤ 2 ^ 63 }
+        ensures live { OnOk result (self.new.live ≡ with_pair nat_cmp self.old.live to (unwrap_or (value_at nat_cmp self.old.live handle) [])) }
+        ensures limit { self.new.limit ≡ self.old.limit }
+        ensures issued { self.new.issued ≤ self.old.issued + 2 }
+        ensures memory { IfErr result (λ e. e ≡ Refusal.NoMemory) }
+        ensures err { OnErr result (self.new ≡ self.old) }
+    {
+        let version = match &mut self.versions[handle as usize] {
+            Some(version) => version.fork(&mut self.source)?,
+            None => unreachable!(),
+        };
+        self.versions[to as usize] = Some(version);
+        Ok(())
+    }
+
+    /// The map of the handle as it stands now. It makes no request for memory.
+    pub fn view(&self, handle: u32) -> Result<View<K, V>, Refusal>
+        requires { IsSome (value_at nat_cmp self.now.live handle) }
+        ensures map { IfOk result (λ v. v ≡ unwrap_or (value_at nat_cmp self.now.live handle) []) }
+        ensures memory { IfErr result (λ e. e ≡ Refusal.NoMemory) }
+    {
+        match self.version(handle) {
+            Some(version) => Ok(version.view()?),
+            None => unreachable!(),
+        }
+    }
+
+    /// Makes the command on the map of the handle.
+    pub fn run(
+        &mut self,
+        alloc: Global,
+        handle: u32,
+        command: Command<K, V>,
+    ) -> Result<Reply<V>, Refusal>
+        requires place { handle < 1024 }
+        requires live { IsSome (value_at nat_cmp self.old.live handle) }
+        ensures reply { IfOk result (λ y. reply_of y ≡ reply K.cmp V.eq (unwrap_or (value_at nat_cmp self.old.live handle) []) (command_of command)) }
+        ensures live { OnOk result (self.new.live ≡ with_pair nat_cmp self.old.live handle (after K.cmp V.eq (unwrap_or (value_at nat_cmp self.old.live handle) []) (command_of command))) }
+        ensures limit { self.new.limit ≡ self.old.limit }
+        ensures issued { self.new.issued ≡ self.old.issued }
+        ensures full { FullExactly result (is_full K.cmp self.old.limit (unwrap_or (value_at nat_cmp self.old.live handle) []) (command_of command)) }
+        ensures memory { needs_no_memory (command_of command) ≡ true → lacks_memory result ≡ false }
+        ensures err { OnErr result (self.new ≡ self.old) }
+    {
+        match &mut self.versions[handle as usize] {
+            Some(version) => command.run_on(alloc, version),
+            None => unreachable!(),
+        }
     }
 }

@@ -1,55 +1,49 @@
 //! The table of handles.
-ghost use Rattle.std.specs.Prelude.{◌≡◌, ◌+◌, ◌<◌, ◌≤◌, IfOk, OnErr, if◌then◌else◌, false, true};
-ghost use Rattle.handles.specs.Machine.{IsRunOfSome, Run, drop_handle, is_entry, nothing, on, open_handle, snapshot};
-ghost use Rattle.handles.specs.Views.{AnswersWithoutMemory, IsStep, command_of, lacks_memory, unit_outcome, reply_outcome, call_outcome, outcomes_of, request_of, requests_of, without_queries};
+ghost use Rattle.std.specs.Prelude.{◌≡◌, ◌+◌, ◌<◌, ◌≤◌, ◌*◌, ◌^◌, IfOk, OnErr, if◌then◌else◌, false, true};
+ghost use Rattle.handles.specs.Handles.{IsKept, live_from, maps_in};
+ghost use Rattle.handles.specs.Machine.{IsRunOfSome, Run, drop_handle, is_entry, nothing, on, open_handle, snapshot, view};
+ghost use Rattle.handles.specs.Views.{AnswersWithoutMemory, IsDue, IsStep, call_outcome, command_of, is_counted, lacks_memory, machine, outcomes_of, reply_outcome, request_of, requests_of, unit_outcome, view_outcome};
 
 use crate::call::Call;
 use crate::call_reply::CallReply;
 use crate::command::Command;
+use crate::demand::Demand;
 use crate::limits::{Limits, MOST_ENTRIES};
-use crate::places::{drop_version, fork_at, put_version, run_at};
+use crate::places::Places;
 use crate::reply::Reply;
-use generation::Source;
 use hash_path::PathKey;
 use std::alloc::Global;
 use std::marker::Model;
-use trie_node::Stamp;
-use versions::{MOST_PAIRS, NoMemory, Refusal, Version};
+use versions::{MOST_PAIRS, NoMemory, Refusal, Version, View};
 
-mod conditions;
-
-// How many handle numbers there are.
-const HANDLES: usize = 1024;
+mod refusals;
 
 /// Maps under handle numbers from 0 to 1023.
 ///
-/// Each call but `entries` is one step of the machine. Where several refusals are due, the first of this order is
-/// the answer: `JournalFull`, `BadNumber`, `NoHandle`, `Taken`, `Full`. After any refusal all handles are as
-/// before. Each call is one entry of the journal, unless it is refused as `JournalFull` or `NoMemory`.
+/// Each call but `entries` and `places` is one step of the machine. Where several refusals are due, the first of this
+/// order is the answer: `JournalFull`, `BadNumber`, `NoHandle`, `Taken`, `Full`. A refusal that is due is told
+/// whatever the memory. After any refusal all handles are as before. Each call is one entry of the journal, unless it
+/// is refused as `JournalFull` or `NoMemory`.
 #[derive(Drop)]
 pub struct Table<K: PathKey, V> {
     limits: Limits,
-    places: Vec<Option<Version<K, V>>>,
+    places: Places<K, V>,
     entries: u32,
-    source: Source,
 }
 
 impl<K: PathKey, V> Model for Table<K, V> {
-    ghost use Rattle.std.specs.Prelude.{◌≡◌, ◌≤◌, ◌*◌, length, []};
-    ghost use Rattle.handles.specs.Handles.{AllWithin, live_from, maps_in};
+    ghost use Rattle.std.specs.Prelude.{◌≡◌, ◌≤◌, ◌*◌, []};
     ghost use Rattle.handles.specs.Machine.{State};
-    ghost use Rattle.versions.specs.declared.version.TheConstants.{MOST_PAIRS};
 
     ghost Value = { State K V (Unit {0}) };
 
-    ghost view = { λ t. record { limits = t.limits; live = live_from 0 (maps_in t.places.items); jobs = []; next = 0; entries = t.entries } };
+    ghost view = { λ t. record { limits = t.limits; live = t.places.live; jobs = []; next = 0; entries = t.entries } };
 
-    ghost invariant = { λ t. (length t.places.items ≡ 1024) × (t.entries ≤ t.limits.entries) × AllWithin t.limits.pairs t.source t.places.items × (1 ≤ t.limits.pairs) × (t.limits.pairs ≤ MOST_PAIRS) × (t.source ≤ 2 * t.entries) };
+    ghost invariant = { λ t. (t.entries ≤ t.limits.entries) × (t.places.limit ≡ t.limits.pairs) × (t.places.issued ≤ 2 * t.entries) };
 }
 
 impl<K: PathKey + Drop, V: Eq + Drop> Table<K, V> {
     /// A table with no handles and no entries.
-    #[tactic(auto, using(crate::proofs::Live::none_more, crate::proofs::Live::all_within_more))]
     pub fn new(alloc: Global, limits: Limits) -> Result<Table<K, V>, NoMemory>
         requires least_pairs { 1 ≤ limits.pairs }
         requires most_pairs { limits.pairs ≤ MOST_PAIRS }
@@ -57,15 +51,10 @@ impl<K: PathKey + Drop, V: Eq + Drop> Table<K, V> {
         requires most_entries { limits.entries ≤ MOST_ENTRIES }
         ensures { IfOk result (λ t. t ≡ nothing limits) }
     {
-        let mut places = Vec::with_capacity(alloc, HANDLES)?;
-        'places: while places.len() < HANDLES {
-            places.push(None)?;
-        }
         Ok(Table {
             limits,
-            places,
+            places: Places::new(alloc, limits.pairs)?,
             entries: 0,
-            source: Source::new(),
         })
     }
 
@@ -76,84 +65,101 @@ impl<K: PathKey + Drop, V: Eq + Drop> Table<K, V> {
         self.entries
     }
 
+    /// The place of each handle number, with the version of its map where it is live. It makes no entry and takes no
+    /// memory.
+    ///
+    /// The versions have the table's limit on pairs. Each has a stamp that was issued, and no two have the same.
+    pub fn places(&self) -> &[Option<Version<K, V>>]
+        ensures live { live_from 0 (maps_in result.now) ≡ self.now.live }
+        ensures kept { IsKept self.now.limits.pairs (2 * self.now.entries) result.now }
+    {
+        self.places.as_slice()
+    }
+
     /// Opens the handle, with no pairs.
     ///
     /// It is refused as `JournalFull`, `BadNumber`, `Taken` or `NoMemory`.
     pub fn open(&mut self, alloc: Global, handle: u32) -> Result<(), Refusal>
-        ensures { IsStep (without_queries K.cmp V.eq) self.old (open_handle handle) unit_outcome result self.new }
+        ensures step { IsStep (machine K.cmp V.eq) self.old (open_handle handle) unit_outcome result self.new }
+        ensures due { IsDue (machine K.cmp V.eq) self.old (open_handle handle) result }
     {
-        if let Some(refusal) = self.refusal_of_open(handle) {
-            return Err(self.refused(refusal));
-        }
-        // The stamp that the source issues next, which is taken once there is memory for the root.
-        let stamp = Stamp(self.source.issued() + 1);
-        let version = Version::empty(alloc, self.limits.pairs, stamp)?;
-        self.source.next();
-        put_version(&mut self.places, handle, version);
-        self.entries += 1;
-        Ok(())
+        let answer = match self.refusal_of(&Demand::Open(handle)) {
+            Some(refusal) => Err(refusal),
+            None => self.places.open(alloc, handle),
+        };
+        counted(&mut self.entries, answer)
     }
 
     /// Opens the handle `to`, with the pairs of the other handle. It makes no request for memory.
     ///
     /// It is refused as `JournalFull`, `BadNumber`, `NoHandle`, `Taken` or `NoMemory`.
-    #[tactic(auto, using(crate::proofs::Live::live_here))]
     pub fn snapshot(&mut self, handle: u32, to: u32) -> Result<(), Refusal>
-        ensures { IsStep (without_queries K.cmp V.eq) self.old (snapshot handle to) unit_outcome result self.new }
+        ensures step { IsStep (machine K.cmp V.eq) self.old (snapshot handle to) unit_outcome result self.new }
+        ensures due { IsDue (machine K.cmp V.eq) self.old (snapshot handle to) result }
     {
-        if let Some(refusal) = self.refusal_of_snapshot(handle, to) {
-            return Err(self.refused(refusal));
-        }
-        let version = fork_at(&mut self.places, handle, &mut self.source)?;
-        put_version(&mut self.places, to, version);
-        self.entries += 1;
-        Ok(())
+        let answer = match self.refusal_of(&Demand::Snapshot(handle, to)) {
+            Some(refusal) => Err(refusal),
+            None => self.places.fork(handle, to),
+        };
+        counted(&mut self.entries, answer)
+    }
+
+    /// The map of the handle as it stands now, which no later call changes. It makes no request for memory.
+    ///
+    /// It is refused as `JournalFull`, `BadNumber`, `NoHandle` or `NoMemory`.
+    pub fn view(&mut self, handle: u32) -> Result<View<K, V>, Refusal>
+        ensures step { IsStep (machine K.cmp V.eq) self.old (view handle) view_outcome result self.new }
+        ensures due { IsDue (machine K.cmp V.eq) self.old (view handle) result }
+    {
+        let answer = match self.refusal_of(&Demand::View(handle)) {
+            Some(refusal) => Err(refusal),
+            None => self.places.view(handle),
+        };
+        counted(&mut self.entries, answer)
     }
 
     /// Makes the command on the handle. `Get` makes no request for memory, and `Size` is never `NoMemory`.
     ///
     /// It is refused as `JournalFull`, `BadNumber`, `NoHandle`, `Full` or `NoMemory`.
-    #[tactic(auto, using(crate::proofs::Live::live_here))]
     pub fn call(
         &mut self,
         alloc: Global,
         handle: u32,
         command: Command<K, V>,
     ) -> Result<Reply<V>, Refusal>
-        ensures step { IsStep (without_queries K.cmp V.eq) self.old (on handle (command_of command)) reply_outcome result self.new }
-        ensures memory { AnswersWithoutMemory (without_queries K.cmp V.eq) (on handle (command_of command)) result }
+        ensures step { IsStep (machine K.cmp V.eq) self.old (on handle (command_of command)) reply_outcome result self.new }
+        ensures memory { AnswersWithoutMemory (machine K.cmp V.eq) (on handle (command_of command)) result }
+        ensures due { IsDue (machine K.cmp V.eq) self.old (on handle (command_of command)) result }
     {
-        if let Some(refusal) = self.refusal_of_use(handle) {
-            return Err(self.refused(refusal));
-        }
-        match run_at(alloc, &mut self.places, handle, command) {
-            Ok(reply) => {
-                self.entries += 1;
-                Ok(reply)
-            }
-            Err(refusal) => Err(self.refused(refusal)),
-        }
+        let answer = match self.refusal_of(&Demand::On(handle, &command)) {
+            Some(refusal) => Err(refusal),
+            None => self.places.run(alloc, handle, command),
+        };
+        counted(&mut self.entries, answer)
     }
 
     /// Closes the handle: it is not live then. It takes no memory and is never `NoMemory`.
     ///
     /// It is refused as `JournalFull`, `BadNumber` or `NoHandle`.
     pub fn drop_handle(&mut self, handle: u32) -> Result<(), Refusal>
-        ensures step { IsStep (without_queries K.cmp V.eq) self.old (drop_handle handle) unit_outcome result self.new }
+        ensures step { IsStep (machine K.cmp V.eq) self.old (drop_handle handle) unit_outcome result self.new }
         ensures memory { lacks_memory result ≡ false }
     {
-        if let Some(refusal) = self.refusal_of_use(handle) {
-            return Err(self.refused(refusal));
-        }
-        drop_version(&mut self.places, handle);
-        self.entries += 1;
-        Ok(())
+        let answer = match self.refusal_of(&Demand::Drop(handle)) {
+            Some(refusal) => Err(refusal),
+            None => {
+                self.places.close(handle);
+                Ok(())
+            }
+        };
+        counted(&mut self.entries, answer)
     }
 
     /// Makes the call, as `open`, `snapshot`, `drop_handle` and `call` do.
     pub fn serve(&mut self, alloc: Global, call: Call<K, V>) -> Result<CallReply<V>, Refusal>
-        ensures step { IsStep (without_queries K.cmp V.eq) self.old (request_of call) call_outcome result self.new }
-        ensures memory { AnswersWithoutMemory (without_queries K.cmp V.eq) (request_of call) result }
+        ensures step { IsStep (machine K.cmp V.eq) self.old (request_of call) call_outcome result self.new }
+        ensures memory { AnswersWithoutMemory (machine K.cmp V.eq) (request_of call) result }
+        ensures due { IsDue (machine K.cmp V.eq) self.old (request_of call) result }
     {
         match call {
             Call::Open(handle) => match self.open(alloc, handle) {
@@ -183,8 +189,8 @@ impl<K: PathKey + Drop, V: Eq + Drop> Table<K, V> {
         alloc: Global,
         calls: Vec<Call<K, V>>,
     ) -> Result<Vec<Result<CallReply<V>, Refusal>>, NoMemory>
-        ensures run { IfOk result (λ answers. Run (without_queries K.cmp V.eq) self.old (requests_of calls.items) (outcomes_of answers.items) self.new) }
-        ensures err { OnErr result (IsRunOfSome (without_queries K.cmp V.eq) self.old (requests_of calls.items) self.new) }
+        ensures run { IfOk result (λ answers. Run (machine K.cmp V.eq) self.old (requests_of calls.items) (outcomes_of answers.items) self.new) }
+        ensures err { OnErr result (IsRunOfSome (machine K.cmp V.eq) self.old (requests_of calls.items) self.new) }
     {
         let mut answers = Vec::new(alloc);
         for call in calls {
@@ -197,28 +203,28 @@ impl<K: PathKey + Drop, V: Eq + Drop> Table<K, V> {
         }
         Ok(answers)
     }
-
-    // Counts a refusal that is an entry.
-    fn refused(&mut self, refusal: Refusal) -> Refusal
-        requires { is_entry refusal ≡ true → self.old.entries < self.old.limits.entries }
-        ensures count { self.new ≡ record self.old { entries = if is_entry refusal then self.old.entries + 1 else self.old.entries } }
-        ensures same { result ≡ refusal }
-    {
-        if is_an_entry(refusal) {
-            self.entries += 1;
-        }
-        refusal
-    }
 }
 
-// Whether a call that is refused so is an entry.
-fn is_an_entry(refusal: Refusal) -> bool
-    ensures { result ≡ is_entry refusal }
+// Counts the entry that a call makes which is answered so.
+fn counted<T>(entries: &mut u32, answer: Result<T, Refusal>) -> Result<T, Refusal>
+    requires { is_counted answer ≡ true → entries.old + 1 < 2 ^ 32 }
+    ensures count { entries.new ≡ (if is_counted answer then entries.old + 1 else entries.old) }
+    ensures same { result ≡ answer }
 {
-    match refusal {
-        Refusal::NoJob | Refusal::Unfinished | Refusal::JournalFull | Refusal::NoMemory => false,
-        _ => true,
+    if is_counted(&answer) {
+        *entries += 1;
     }
+    answer
+}
+
+// Whether a call that is answered so is an entry.
+fn is_counted<T>(answer: &Result<T, Refusal>) -> bool
+    ensures { result ≡ is_counted answer.now }
+{
+    !matches!(
+        answer,
+        Err(Refusal::NoJob | Refusal::Unfinished | Refusal::JournalFull | Refusal::NoMemory)
+    )
 }
 
 // Whether memory was wanting.

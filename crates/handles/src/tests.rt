@@ -1,11 +1,9 @@
 //! What calls of a table answer, by hand.
 mod memory;
 mod operations;
+mod refusals;
 
-use crate::{
-    Call, CallReply, Command, Limits, Reply, Table, law_of_answers, law_of_other_handles,
-    law_of_refusals,
-};
+use crate::{Call, CallReply, Command, Limits, Reply, Table};
 use std::alloc::Global;
 use std::sync::Arc;
 use std::test::Fail;
@@ -85,56 +83,36 @@ fn a_snapshot_keeps_its_pairs(rt: HostRuntime) -> Result<(), Fail> {
 }
 
 #[test]
-fn handles_that_are_refused(rt: HostRuntime) -> Result<(), Fail> {
+fn a_view_keeps_its_pairs(rt: HostRuntime) -> Result<(), Fail> {
     let alloc = rt.alloc();
     let mut table = Table::new(alloc, LARGEST)?;
-    assert_eq!(rt; get(alloc, &mut table, 7, 97), Err(Refusal::NoHandle));
-    assert_eq!(rt; table.open(alloc, 1024), Err(Refusal::BadNumber));
-    assert_eq!(rt; table.open(alloc, 1023), Ok(()));
-    assert_eq!(rt; table.open(alloc, 1), Ok(()));
-    assert_eq!(rt; table.open(alloc, 1), Err(Refusal::Taken));
-    assert_eq!(rt; table.snapshot(7, 1), Err(Refusal::NoHandle));
-    assert_eq!(rt; table.snapshot(1, 1023), Err(Refusal::Taken));
-    assert_eq!(rt; table.snapshot(7, 1024), Err(Refusal::BadNumber));
-    assert_eq!(rt; table.entries(), 8);
-    Ok(())
-}
-
-#[test]
-fn two_pairs_are_full(rt: HostRuntime) -> Result<(), Fail> {
-    let alloc = rt.alloc();
-    let limits = Limits {
-        pairs: 2,
-        entries: 1_048_576,
-    };
-    let mut table = Table::new(alloc, limits)?;
     table.open(alloc, 1)?;
     assert_eq!(rt; put(alloc, &mut table, 1, 97, 1), none());
+    let view = table.view(1)?;
+    assert_eq!(rt; put(alloc, &mut table, 1, 97, 9), some(alloc, 1));
     assert_eq!(rt; put(alloc, &mut table, 1, 98, 2), none());
-    assert_eq!(rt; put(alloc, &mut table, 1, 99, 3), Err(Refusal::Full));
-    assert_eq!(rt; put(alloc, &mut table, 1, 97, 4), some(alloc, 1));
-    assert_eq!(rt; table.call(alloc, 1, Command::Size), Ok(Reply::Size(2)));
+    assert_eq!(rt; table.drop_handle(1), Ok(()));
+    assert_eq!(rt; view.len(), 1);
+    let one = Arc::new(alloc, 1)?;
+    assert_eq!(rt; view.get(&*of_path(alloc, 97)?), Some(&one));
     assert_eq!(rt; table.entries(), 6);
     Ok(())
 }
 
 #[test]
-fn a_full_journal_comes_before_every_other_refusal(rt: HostRuntime) -> Result<(), Fail> {
+fn each_live_handle_has_a_stamp_of_its_own(rt: HostRuntime) -> Result<(), Fail> {
     let alloc = rt.alloc();
-    let limits = Limits {
-        pairs: 1,
-        entries: 4,
-    };
-    let mut table = Table::new(alloc, limits)?;
-    assert_eq!(rt; table.open(alloc, 1), Ok(()));
-    assert_eq!(rt; put(alloc, &mut table, 1, 97, 1), none());
-    assert_eq!(rt; put(alloc, &mut table, 1, 98, 1), Err(Refusal::Full));
-    assert_eq!(rt; put(alloc, &mut table, 1, 98, 1), Err(Refusal::JournalFull));
-    assert_eq!(rt; table.open(alloc, 1024), Err(Refusal::JournalFull));
-    assert_eq!(rt; table.open(alloc, 1), Err(Refusal::JournalFull));
-    assert_eq!(rt; table.snapshot(7, 1), Err(Refusal::JournalFull));
-    assert_eq!(rt; get(alloc, &mut table, 1, 97), Err(Refusal::JournalFull));
-    assert_eq!(rt; table.entries(), 3);
+    let mut table = Table::<ChosenKey, i64>::new(alloc, LARGEST)?;
+    table.open(alloc, 1)?;
+    table.snapshot(1, 2)?;
+    table.snapshot(1, 3)?;
+    let places = table.places();
+    assert_eq!(rt; places.len(), 1024);
+    let mut stamps = Vec::new(alloc);
+    for version in places.iter().flatten() {
+        stamps.push(version.stamp().0)?;
+    }
+    assert_eq!(rt; stamps.as_slice(), [4, 3, 5].as_slice());
     Ok(())
 }
 
@@ -155,11 +133,4 @@ fn calls_as_values(rt: HostRuntime) -> Result<(), Fail> {
     assert_eq!(rt; answers[0], Ok(CallReply::Reply(Reply::Size(0))));
     assert_eq!(rt; answers[1], Err(Refusal::Taken));
     Ok(())
-}
-
-#[test]
-fn laws_are_calls_that_do_nothing() {
-    law_of_other_handles::<ChosenKey, i64>();
-    law_of_refusals::<ChosenKey, i64>();
-    law_of_answers::<ChosenKey, i64>();
 }

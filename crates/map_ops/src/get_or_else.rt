@@ -37,7 +37,11 @@ pub fn get_or_else_update<K: PathKey + Drop, V: Eq + Drop, F: FnOnce() -> V>(
     if let Some(found) = version.get(&key) {
         return Ok(Arc::try_clone(found)?);
     }
-    let made = Arc::new(alloc, make()).map_err(AllocError::from)?;
+    let made = make();
+    if version.len() == version.limit() {
+        return Err(Refusal::Full);
+    }
+    let made = Arc::new(alloc, made).map_err(AllocError::from)?;
     let answer = Arc::try_clone(&made)?;
     put_if_absent(version, alloc, key, made)?;
     Ok(answer)

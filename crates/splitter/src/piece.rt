@@ -4,6 +4,7 @@ ghost use Rattle.std.specs.Prelude.{◌≡◌, ◌≤◌, ◌^◌, length, IfOk}
 ghost use Rattle.trie_node.specs.Map.{IsMap};
 ghost use Rattle.trie_node.specs.Order.{walked};
 ghost use Rattle.trie_node.specs.View.{tree};
+ghost use Rattle.versions.specs.declared.version.TheConstants.{MOST_PAIRS};
 ghost use Rattle.iter.specs.Intervals.{part, whole};
 ghost use Rattle.splitter.specs.Places.{IsPlace};
 
@@ -88,8 +89,11 @@ impl<K: PathKey, V> Piece<K, V> {
 
     /// A walk over the pairs of the piece.
     pub fn pairs(&self) -> Result<Pairs<'_, K, V>, NoMemory>
-        ensures { IfOk result (λ walk. walk.rest ≡ walked K.cmp K.path_of (part K.path_of self.now.map self.now.interval)) }
+        ensures sorted { IsMap K.cmp self.now.map }
+        ensures few { length self.now.map ≤ MOST_PAIRS }
+        ensures walk { IfOk result (λ walk. walk.rest ≡ walked K.cmp K.path_of (part K.path_of self.now.map self.now.interval)) }
     {
+        self.view.len();
         parts_follow_intervals::<K, V>();
         trie_follows_digits::<K, V>();
         walk_lists_map::<K, V>();

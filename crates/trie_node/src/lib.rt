@@ -9,11 +9,13 @@
 
 mod basics;
 mod bitmap;
+mod bound_laws;
 mod branch_in_place;
 mod condition;
 mod copies;
 mod drawing;
 mod laws;
+mod merging;
 mod node;
 mod outcome;
 mod pairs;
@@ -29,11 +31,13 @@ mod union_laws;
 mod walk_laws;
 
 pub use basics::{NoMemory, Stamp};
+pub use bound_laws::root_has_bounded_nodes;
 pub use condition::{Always, Condition, IfAbsent, IfEqual, IfPresent};
 pub use laws::{
     bitmap_counts_children, map_determines_root, map_names_nodes, root_has_few_nodes, root_is_map,
     root_walks_in_order, writes_keep_stamps_below,
 };
+pub use merging::merged;
 pub use node::{Node, empty_root};
 pub use put::{Written, put_where, with_put};
 pub use put_in_place::{Done, put_in, put_in_where};

@@ -2,8 +2,9 @@
 //!
 //! Contracts see a version as the list of its pairs in strictly rising order of keys, beside its limit, its stamp and
 //! the names and stamps of the nodes of its trie. Keys and values are shared: an `Arc` goes in, and the same `Arc`
-//! comes out of this version and of each of its forks. A fork shares every node of its source, and a later write
-//! copies the nodes of one path and puts its version's stamp on them.
+//! comes out of this version and of each of its forks. A fork or a view shares every node of its source. A later write
+//! puts its version's stamp on the nodes of one path: it writes those where they stand that nobody else holds, and
+//! copies the others.
 #![tactic(auto)]
 
 mod change;

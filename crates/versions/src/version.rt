@@ -18,16 +18,14 @@ use hash_path::PathKey;
 use std::alloc::Global;
 use std::marker::Model;
 use std::sync::Arc;
-use trie_node::{
-    Always, Condition, NoMemory, Node, Stamp, Written, root_is_map, writes_keep_stamps_below,
-};
+use trie_node::{Always, Condition, NoMemory, Node, Stamp, root_is_map, writes_keep_stamps_below};
 
 /// The most pairs that a map may be limited to.
 pub const MOST_PAIRS: u64 = 16_777_216;
 
 /// A finite map from `K` to `V` with a limit on its pairs, as a root of shared trie nodes.
 ///
-/// A write copies the nodes of one path, so a fork keeps the nodes that it shared.
+/// A write changes the nodes of one path, and copies those of them that forks and views share.
 #[derive(Drop)]
 pub struct Version<K: PathKey, V> {
     root: Node<K, V>,
@@ -140,7 +138,7 @@ impl<K: PathKey + Drop, V: Drop> Version<K, V> {
         &self.root
     }
 
-    /// How many nodes have the version's own stamp: those that no other version shares. It takes no memory.
+    /// How many nodes carry the version's own stamp. It takes no memory.
     pub fn own_nodes(&self) -> u64
         ensures { result ≡ own_count self.now.stamp self.now.nodes }
     {
@@ -192,25 +190,21 @@ impl<K: PathKey + Drop, V: Drop> Version<K, V> {
         writes_keep_stamps_below();
         let full = self.len() == self.limit;
         let room = WithinRoom { condition, full };
-        let Written {
-            root,
-            previous: found,
-        } = trie_node::put_where(alloc, &self.root, key, value, self.stamp, &room)?;
-        let previous = shared(found)?;
-        match root {
-            Some(root) => {
-                self.root = root;
-                Ok(Change {
-                    previous,
-                    done: true,
-                })
-            }
-            None if full && found.is_none() && condition.holds(found) => Err(Refusal::Full),
-            None => Ok(Change {
-                previous,
-                done: false,
-            }),
+        let done = trie_node::put_in_where(alloc, &mut self.root, key, value, self.stamp, &room)?;
+        if done.written {
+            return Ok(Change {
+                previous: done.previous,
+                done: true,
+            });
         }
+        let found = done.previous.as_ref();
+        if full && found.is_none() && condition.holds(found) {
+            return Err(Refusal::Full);
+        }
+        Ok(Change {
+            previous: done.previous,
+            done: false,
+        })
     }
 
     /// Removes the key, and answers the value before, or none. It is refused for want of memory alone, and the map
@@ -246,24 +240,17 @@ impl<K: PathKey + Drop, V: Drop> Version<K, V> {
     {
         root_is_map::<K, V>();
         writes_keep_stamps_below();
-        let Written {
-            root,
-            previous: found,
-        } = trie_node::removed_where(alloc, &self.root, key, self.stamp, condition)?;
-        let previous = shared(found)?;
-        match root {
-            Some(root) => {
-                self.root = root;
-                Ok(Change {
-                    previous,
-                    done: true,
-                })
-            }
-            None => Ok(Change {
-                previous,
-                done: false,
-            }),
+        let done = trie_node::remove_in_where(alloc, &mut self.root, key, self.stamp, condition)?;
+        if done.written {
+            return Ok(Change {
+                previous: done.previous,
+                done: true,
+            });
         }
+        Ok(Change {
+            previous: done.previous,
+            done: false,
+        })
     }
 
     /// Removes all pairs, which leaves one node, with the version's stamp. It is refused for want of memory alone,
@@ -341,15 +328,5 @@ impl<K: PathKey + Drop, V: Drop> Version<K, V> {
         ensures issued { source.new ≡ source.old + 1 }
     {
         self.stamp = source.next();
-    }
-}
-
-// Another handle on the value, where there is one.
-fn shared<V>(value: Option<&Arc<V>>) -> Result<Option<Arc<V>>, NoMemory>
-    ensures { IfOk result (λ shared. option_map arc_value shared ≡ option_map (λ v. v.now.value) value.entry) }
-{
-    match value {
-        Some(value) => Ok(Some(Arc::try_clone(value)?)),
-        None => Ok(None),
     }
 }

@@ -1,6 +1,6 @@
 //! All commands of a table, and drops.
 use super::{LARGEST, get, none, of_path, put, some};
-use crate::{Call, CallReply, Command, Limits, Reply, Table};
+use crate::{Call, CallReply, Command, Reply, Table};
 use std::alloc::Global;
 use std::sync::Arc;
 use std::test::Fail;
@@ -8,10 +8,10 @@ use test_keys::ChosenKey;
 use versions::Refusal;
 
 // A table of maps from chosen keys to numbers.
-type Numbers = Table<ChosenKey, i64>;
+pub(super) type Numbers = Table<ChosenKey, i64>;
 
 // Makes the command of a key and a value on handle 1.
-fn with_pair<F: FnOnce(Arc<ChosenKey>, Arc<i64>) -> Command<ChosenKey, i64>>(
+pub(super) fn with_pair<F: FnOnce(Arc<ChosenKey>, Arc<i64>) -> Command<ChosenKey, i64>>(
     alloc: Global,
     table: &mut Numbers,
     command: F,
@@ -37,7 +37,7 @@ fn replace_if(
 }
 
 // Removes the key on handle 1.
-fn remove(alloc: Global, table: &mut Numbers, key: u32) -> Result<Reply<i64>, Refusal> {
+pub(super) fn remove(alloc: Global, table: &mut Numbers, key: u32) -> Result<Reply<i64>, Refusal> {
     let command = Command::Remove(of_path(alloc, key)?);
     table.call(alloc, 1, command)
 }
@@ -76,30 +76,6 @@ fn conditional_writes_of_one_key(rt: HostRuntime) -> Result<(), Fail> {
 }
 
 #[test]
-fn two_pairs_are_full_until_one_is_removed(rt: HostRuntime) -> Result<(), Fail> {
-    let alloc = rt.alloc();
-    let limits = Limits {
-        pairs: 2,
-        entries: 1_048_576,
-    };
-    let mut table = Table::new(alloc, limits)?;
-    table.open(alloc, 1)?;
-    assert_eq!(rt; put(alloc, &mut table, 1, 98, 1), none());
-    assert_eq!(rt; put(alloc, &mut table, 1, 99, 2), none());
-    assert_eq!(rt;
-        with_pair(alloc, &mut table, |k, v| Command::PutIfAbsent(k, v), 3),
-        Err(Refusal::Full)
-    );
-    assert_eq!(rt; put(alloc, &mut table, 1, 97, 3), Err(Refusal::Full));
-    assert_eq!(rt; put(alloc, &mut table, 1, 98, 4), some(alloc, 1));
-    assert_eq!(rt; remove(alloc, &mut table, 99), some(alloc, 2));
-    assert_eq!(rt; remove(alloc, &mut table, 99), none());
-    assert_eq!(rt; put(alloc, &mut table, 1, 97, 3), none());
-    assert_eq!(rt; table.entries(), 9);
-    Ok(())
-}
-
-#[test]
 fn a_clear_removes_all_pairs(rt: HostRuntime) -> Result<(), Fail> {
     let alloc = rt.alloc();
     let mut table = Table::new(alloc, LARGEST)?;
@@ -116,8 +92,6 @@ fn a_clear_removes_all_pairs(rt: HostRuntime) -> Result<(), Fail> {
 fn a_dropped_handle_is_not_live(rt: HostRuntime) -> Result<(), Fail> {
     let alloc = rt.alloc();
     let mut table = Table::new(alloc, LARGEST)?;
-    assert_eq!(rt; table.drop_handle(1), Err(Refusal::NoHandle));
-    assert_eq!(rt; table.drop_handle(1024), Err(Refusal::BadNumber));
     table.open(alloc, 1)?;
     assert_eq!(rt; put(alloc, &mut table, 1, 97, 1), none());
     table.snapshot(1, 2)?;
@@ -127,20 +101,6 @@ fn a_dropped_handle_is_not_live(rt: HostRuntime) -> Result<(), Fail> {
     table.open(alloc, 1)?;
     assert_eq!(rt; get(alloc, &mut table, 1, 97), none());
     assert_eq!(rt; table.serve(alloc, Call::Drop(2)), Ok(CallReply::Unit));
-    assert_eq!(rt; table.entries(), 11);
-    Ok(())
-}
-
-#[test]
-fn a_drop_needs_room_in_the_journal(rt: HostRuntime) -> Result<(), Fail> {
-    let alloc = rt.alloc();
-    let limits = Limits {
-        pairs: 1,
-        entries: 2,
-    };
-    let mut table = Numbers::new(alloc, limits)?;
-    table.open(alloc, 1)?;
-    assert_eq!(rt; table.drop_handle(1), Err(Refusal::JournalFull));
-    assert_eq!(rt; table.entries(), 1);
+    assert_eq!(rt; table.entries(), 9);
     Ok(())
 }

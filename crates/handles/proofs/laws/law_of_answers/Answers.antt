@@ -1,6 +1,6 @@
-use Rattle.handles.specs.Views.{without_queries}
+use Rattle.handles.specs.Views.{machine}
 use Rattle.handles.proofs.Runs.{step_of}
 use Rattle.handles.proofs.laws.law_of_answers.Goals as goal
 
 pub returns : goal.returns
-returns g c = λ s t r answer had_memory step. step_of (without_queries g.K.Ord.cmp g.V.PartialEq.eq) s r answer t had_memory step
+returns g c = λ s t r answer had_memory step. step_of (machine g.K.Ord.cmp g.V.PartialEq.eq) s r answer t had_memory step

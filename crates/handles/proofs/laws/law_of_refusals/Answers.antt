@@ -1,6 +1,6 @@
-use Rattle.handles.specs.Views.{without_queries}
+use Rattle.handles.specs.Views.{machine}
 use Rattle.handles.proofs.Keeps.{refusals_keep_all}
 use Rattle.handles.proofs.laws.law_of_refusals.Goals as goal
 
 pub returns : goal.returns
-returns g c = refusals_keep_all (without_queries g.K.Ord.cmp g.V.PartialEq.eq)
+returns g c = refusals_keep_all (machine g.K.Ord.cmp g.V.PartialEq.eq)

@@ -3,14 +3,14 @@ use Rattle.std.specs.Prelude.{Result, Ok, Err, OnErr}
 use Rattle.versions.specs.declared.refusal.Refusal.{Refusal}
 use Rattle.handles.specs.declared.call_reply.CallReply.{CallReply}
 use Rattle.handles.specs.Machine.{Run}
-use Rattle.handles.specs.Views.{request_of, requests_of, outcomes_of, lacks_memory, without_queries}
+use Rattle.handles.specs.Views.{request_of, requests_of, outcomes_of, lacks_memory, machine}
 use Rattle.handles.proofs.Runs.{run_more, unchanged}
 use Rattle.std.proofs.lemmas.List.{append_assoc, map-append}
 use Rattle.handles.proofs.table.Table.run.Goals as goal
 
 pub loop-call-preserved : goal.loop-call-preserved
 loop-call-preserved g c =
-    let kind = without_queries g.K.Ord.cmp g.V.PartialEq.eq in
+    let kind = machine g.K.Ord.cmp g.V.PartialEq.eq in
     let answer = c.serve-answer.result in
     let longer : c.push_reserved.new.self.items ≡ c.loop-call.answers.items ++ answer ∷ [] = search rules in
     let made : lacks_memory answer ≡ false = search rules in
@@ -39,7 +39,7 @@ returns-in_err-reserve-clause-err g c =
 
 pub returns-then-lacks_memory-clause-err : goal.returns-then-lacks_memory-clause-err
 returns-then-lacks_memory-clause-err g c =
-    let kind = without_queries g.K.Ord.cmp g.V.PartialEq.eq in
+    let kind = machine g.K.Ord.cmp g.V.PartialEq.eq in
     let split = c.loop-call.invariant.split in
     let lacking : lacks_memory c.serve-answer.result ≡ true = search rules in
     let same = unchanged kind c.loop-call.self (request_of c.in-Some.call) c.serve-answer.result c.serve-answer.new.self lacking c.serve-answer.ensures.step in

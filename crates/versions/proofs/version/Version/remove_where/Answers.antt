@@ -1,4 +1,4 @@
-use Rattle.std.proofs.Common.{rules, ◌≤◌, sym, subst, length}
+use Rattle.std.proofs.Common.{◌≤◌, sym, subst, length}
 use Rattle.trie_node.specs.Changes.{IsRemoval}
 use Rattle.trie_node.specs.Roots.{map_of, word_of}
 use Rattle.trie_node.specs.Shape.{Restamps, nodes}
@@ -7,15 +7,15 @@ use Rattle.versions.specs.Map.{IsMap}
 use Rattle.versions.proofs.Maps.{without_fits}
 use Rattle.versions.proofs.version.Version.remove_where.Goals as goal
 
-pub invariant_of-self : goal.invariant_of-self
-invariant_of-self g c =
+pub invariant_of-self-then-done : goal.invariant_of-self-then-done
+invariant_of-self-then-done g c =
     let R = g.K.Ord.cmp in
     let path = g.K.PathKey.path_of in
     let key = c.args.key.now in
     let limit = c.self.inside.limit in
     let old = tree c.self.inside.root in
-    let new = tree c.in-Some.root in
-    let removal : IsRemoval R path c.self.inside.stamp.0 key old new = search rules in
+    let new = tree c.remove_in_where.new.node in
+    let removal : IsRemoval R path c.self.inside.stamp.0 key old new = c.in_ok-done.ensures.removed c.if-done.true in
     let sorted : IsMap R (map_of R old) = c.root_is_map.ensures.sorted old in
     let fits = without_fits R g.met.K.Ord.total limit (map_of R old) key sorted c.self.invariant.1 in (
       removal.root,
@@ -25,7 +25,7 @@ invariant_of-self g c =
       c.writes_keep_stamps_below.ensures c.self.inside.stamp.0 (word_of path key) (nodes (word_of path) old) (nodes (word_of path) new) c.self.invariant.4 removal.stamps,
     )
 
-pub returns-in-Some-clause-nodes : goal.returns-in-Some-clause-nodes
-returns-in-Some-clause-nodes g c =
-    let removal : IsRemoval g.K.Ord.cmp g.K.PathKey.path_of c.self.inside.stamp.0 c.args.key.now (tree c.self.inside.root) (tree c.in-Some.root) = search rules in
-    subst (λ h. Restamps h.stamp (word_of g.K.PathKey.path_of c.args.key.now) h.nodes (nodes (word_of g.K.PathKey.path_of) (tree c.in-Some.root))) c.self.view_is removal.stamps
+pub returns-then-done-clause-nodes : goal.returns-then-done-clause-nodes
+returns-then-done-clause-nodes g c =
+    let removal : IsRemoval g.K.Ord.cmp g.K.PathKey.path_of c.self.inside.stamp.0 c.args.key.now (tree c.self.inside.root) (tree c.remove_in_where.new.node) = c.in_ok-done.ensures.removed c.if-done.true in
+    subst (λ h. Restamps h.stamp (word_of g.K.PathKey.path_of c.args.key.now) h.nodes (nodes (word_of g.K.PathKey.path_of) (tree c.remove_in_where.new.node))) c.self.view_is removal.stamps

@@ -1,0 +1,14 @@
+use Rattle.std.proofs.Common.{rules, ◌≡◌, ◌++◌, ◌∷◌, [], None, subst, sym, ◌∙◌, ap, ℕ, length, arith}
+use Rattle.handles.specs.Handles.{live_from, maps_in, version_in}
+use Rattle.handles.proofs.Live.{none_more}
+use Rattle.handles.proofs.Kept.{none_added, empty_kept}
+use Rattle.handles.proofs.places.Places.new.Goals as goal
+
+pub places-preserved : goal.places-preserved
+places-preserved g c =
+    let longer : c.push.new.self.items ≡ c.places.versions.items ++ None ∷ [] = search rules in
+    record {
+      live = ap (λ vs. live_from 0 (maps_in vs)) longer ∙ none_more 0 c.places.versions.items ∙ c.places.invariant.live;
+      count = search rules;
+      none = λ h. ap (λ vs. version_in vs h) longer ∙ none_added c.places.versions.items c.places.invariant.none h;
+    }
