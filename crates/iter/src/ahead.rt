@@ -78,7 +78,8 @@ impl<'a, K: PathKey, V> Ahead<'a, K, V> {
                 Look::Pairs(pairs) => return Some(pairs),
                 Look::Branch(bitmap) => {
                     let below = Children::between(node, 0, bitmap.count_ones());
-                    self.above.push_reserved(mem::replace(&mut self.here, below));
+                    self.above
+                        .push_reserved(mem::replace(&mut self.here, below));
                     self.level += 1;
                 }
             }

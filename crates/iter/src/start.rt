@@ -47,9 +47,7 @@ fn walk_of_root<K: PathKey, V>(alloc: Global, root: &Node<K, V>) -> Pairs<'_, K,
     root_walks_in_order::<K, V>();
     trie_follows_digits::<K, V>();
     match look(root) {
-        Look::Branch(bitmap) => {
-            Pairs::below(alloc, root, 0, 0, bitmap.count_ones(), size(root))
-        }
+        Look::Branch(bitmap) => { Pairs::below(alloc, root, 0, 0, bitmap.count_ones(), size(root)) }
         Look::Pairs(_) => unreachable!(),
     }
 }

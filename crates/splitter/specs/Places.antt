@@ -1,5 +1,5 @@
 -- Where the pairs of a piece stand in a trie.
-use Rattle.std.specs.Prelude.{◌≡◌, ℕ, ◌<◌, ◌≤◌, All, length}
+use Rattle.std.specs.Prelude.{◌≡◌, ℕ, ◌≤◌, All, length}
 use Rattle.std.specs.declared.cmp.Ordering.{Ordering}
 use Rattle.hash_path.specs.Digits.{digits_after, lowest}
 use Rattle.trie_node.specs.Looks.{Shows}

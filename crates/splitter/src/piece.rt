@@ -104,9 +104,7 @@ impl<K: PathKey, V> Piece<K, V> {
             to,
             ..
         } = self.spot();
-        Ok(Pairs::below(
-            self.alloc, branch, level, from, to, self.count,
-        ))
+        Ok(Pairs::below(self.alloc, branch, level, from, to, self.count))
     }
 
     /// Where the pairs of the piece stand: of the whole, below the root.

@@ -1,4 +1,4 @@
-use Rattle.std.proofs.Common.{◌≡◌, ◌+◌, ◌<◌, ◌≤◌, length, arith}
+use Rattle.std.proofs.Common.{◌+◌, ◌<◌, length, arith}
 use Rattle.trie_node.specs.Outline.{children}
 use Rattle.trie_node.specs.View.{tree}
 use Rattle.splitter.proofs.Rows.{count_more, fewer_between}

@@ -1,7 +1,6 @@
-use Rattle.std.proofs.Common.{rules, ◌≡◌, ◌+◌, ◌*◌, ◌-◌, ◌/◌, ◌<◌, ◌≤◌, ℕ, [], ◌∷◌, Some, length, get_or, refl, sym, ap, ◌∙◌, subst, arith}
+use Rattle.std.proofs.Common.{rules, ◌≡◌, ◌+◌, ◌*◌, ◌-◌, ◌/◌, ℕ, [], ◌∷◌, Some, length, get_or, sym, ap, ◌∙◌, subst, arith}
 use Rattle.hash_path.specs.Digits.{word_bits, breadth}
 use Rattle.trie_node.specs.Map.{Map, IsMap}
-use Rattle.trie_node.specs.Outline.{children}
 use Rattle.trie_node.specs.Tree.{digits_of}
 use Rattle.trie_node.specs.View.{tree}
 use Rattle.iter.specs.Intervals.{part}
