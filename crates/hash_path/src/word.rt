@@ -36,7 +36,7 @@ impl Path {
         ensures value { result ≡ digit self.0 level }
         ensures small { result < fan_out }
     {
-        (self.0 >> (DIGIT_BITS * level)) & (FAN_OUT - 1)
+        ((self.0 >> (DIGIT_BITS * level)) & Word::from(FAN_OUT - 1)) as u32
     }
 
     /// The word's place in the order of a walk: its digits, with digit 0 as the most significant.
@@ -71,7 +71,7 @@ fn position_of(word: Word) -> Word
 {
     let mut position = 0;
     for level in 0..WORD_DIGITS {
-        position += Path(word).digit(level) * weight_at(level);
+        position += Word::from(Path(word).digit(level)) * weight_at(level);
     }
     position
 }

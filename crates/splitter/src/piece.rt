@@ -1,7 +1,9 @@
 //! A piece of a view.
 
 ghost use Rattle.std.specs.Prelude.{◌≡◌, ◌≤◌, ◌<◌, ◌^◌, length, IfOk, OnErr, MatchResult};
+ghost use Rattle.trie_node.specs.Map.{IsMap};
 ghost use Rattle.trie_node.specs.Order.{walked};
+ghost use Rattle.versions.specs.declared.version.TheConstants.{MOST_PAIRS};
 ghost use Rattle.iter.specs.Intervals.{part};
 ghost use Rattle.splitter.specs.Cuts.{middle_of, words_of};
 ghost use Rattle.splitter.specs.Laws.{below, from};
@@ -60,8 +62,11 @@ impl<K: PathKey, V> Piece<K, V> {
 
     /// A walk over the pairs of the piece.
     pub fn pairs(&self) -> Result<Pairs<'_, K, V>, NoMemory>
-        ensures { IfOk result (λ walk. walk.rest ≡ walked K.cmp K.path_of (part K.path_of self.now.map self.now.interval)) }
+        ensures sorted { IsMap K.cmp self.now.map }
+        ensures few { length self.now.map ≤ MOST_PAIRS }
+        ensures walk { IfOk result (λ walk. walk.rest ≡ walked K.cmp K.path_of (part K.path_of self.now.map self.now.interval)) }
     {
+        self.view.len();
         pairs_in(self.alloc, &self.view, self.interval)
     }
 

@@ -1,4 +1,5 @@
-//! Times a map of byte-text keys: filling, reading, replacing, snapshots and emptying it.
+//! Times a map of byte-text keys: filling, reading in order and at random, replacing, the same on a heap that dropped
+//! maps have left, snapshots and emptying it; and tells the memory of a pair.
 //!
 //! `trie_bench [PAIRS [ROUNDS]]` (1,000 pairs and one round where left out) writes a line a
 //! measurement to standard error, `tambyulo NAME THREADS NANOSECONDS`, the best of the rounds, and
@@ -8,6 +9,7 @@
 mod arguments;
 mod fault;
 mod maps;
+mod memory;
 mod rounds;
 mod stopwatch;
 

@@ -4,9 +4,11 @@ ghost use Rattle.std.specs.Prelude.{◌≡◌, ◌≤◌, ◌<◌, ◌+◌, ◌*
 
 use crate::fault::Fault;
 use generation::Source;
+use keys::ByteText;
+use rand::seq::SliceRandom;
+use rand_pcg::Pcg32;
 use std::alloc::Global;
 use std::sync::Arc;
-use keys::ByteText;
 use versions::{MOST_PAIRS, Version};
 
 /// A map of the benchmark.
@@ -22,6 +24,16 @@ pub fn keys(alloc: Global, count: u32) -> Result<Vec<Arc<ByteText>>, Fault> {
     Ok(keys)
 }
 
+/// The keys in an order of no order, the same in each run.
+pub fn shuffled(alloc: Global, keys: &[Arc<ByteText>]) -> Result<Vec<Arc<ByteText>>, Fault> {
+    let mut shuffled = Vec::with_capacity(alloc, keys.len())?;
+    for key in keys {
+        shuffled.push(Arc::try_clone(key)?)?;
+    }
+    shuffled.as_mut_slice().shuffle(&mut Pcg32::new(1, 1));
+    Ok(shuffled)
+}
+
 /// The empty map, with a stamp of the source.
 pub fn empty(alloc: Global, source: &mut Source) -> Result<Map, Fault>
     requires { source.old < 2 ^ 63 }
@@ -32,7 +44,12 @@ pub fn empty(alloc: Global, source: &mut Source) -> Result<Map, Fault>
 }
 
 /// Maps each key to its number plus `more`, and answers the sum of the values before.
-pub fn put_all(alloc: Global, map: &mut Map, keys: &[Arc<ByteText>], more: i64) -> Result<i64, Fault>
+pub fn put_all(
+    alloc: Global,
+    map: &mut Map,
+    keys: &[Arc<ByteText>],
+    more: i64,
+) -> Result<i64, Fault>
     ensures { map.new.stamp ≡ map.old.stamp }
 {
     let mut sum = 0i64;

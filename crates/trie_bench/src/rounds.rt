@@ -2,14 +2,15 @@
 
 use crate::arguments::{Arguments, arguments_of};
 use crate::fault::Fault;
-use crate::maps::{Map, empty, get_all, keys, put_all, remove_all, snapshot_all};
+use crate::maps::{Map, empty, get_all, keys, put_all, remove_all, shuffled, snapshot_all};
+use crate::memory::{resident_bytes, show_bytes};
 use crate::stopwatch::Best;
 use generation::Source;
+use keys::ByteText;
 use std::env;
 use std::rt::Runtime;
 use std::sync::Arc;
 use std::time::Instant;
-use keys::ByteText;
 
 /// How many snapshots a round takes, each with a put after it.
 const SNAPSHOTS: u32 = 1000;
@@ -25,38 +26,66 @@ pub fn run<R: Runtime + AllocGlobal>(rt: &R) -> Result<(), Fault> {
         .collect(alloc)?;
     let Arguments { pairs, rounds } = arguments_of(words.as_slice())?;
     let keys = keys(alloc, pairs)?;
-    fill(rt, rounds, keys.as_slice())?;
-    let mut map = filled(rt, keys.as_slice())?;
-    read(rt, rounds, &map, keys.as_slice())?;
-    replace(rt, rounds, &mut map, keys.as_slice())?;
+    let mut puts = Best::new();
+    fresh(rt, rounds, &mut puts, keys.as_slice())?;
+    scattered(rt, rounds, &mut puts, keys.as_slice())?;
     snapshot(rt, rounds, keys.as_slice())?;
     remove(rt, rounds, keys.as_slice())
 }
 
-/// A map of all keys.
-fn filled<R: Runtime + AllocGlobal>(rt: &R, keys: &[Arc<ByteText>]) -> Result<Map, Fault> {
+/// Puts all keys into an empty map, and counts the time.
+fn fill<R: Runtime + AllocGlobal>(
+    rt: &R,
+    best: &mut Best,
+    keys: &[Arc<ByteText>],
+) -> Result<Map, Fault> {
+    let start = Instant::now(rt)?;
     let mut map = empty(rt.alloc(), &mut Source::new())?;
     put_all(rt.alloc(), &mut map, keys, 0)?;
+    best.count(start.elapsed(rt)?);
     Ok(map)
 }
 
-/// Puts into an empty map until all keys are there.
-fn fill<R: Runtime + AllocGlobal>(rt: &R, rounds: u32, keys: &[Arc<ByteText>]) -> Result<(), Fault> {
-    let mut best = Best::new();
-    let mut count = 0;
+/// The first map of the process, on a heap that nothing has left in pieces.
+fn fresh<R: Runtime + AllocGlobal>(
+    rt: &R,
+    rounds: u32,
+    puts: &mut Best,
+    keys: &[Arc<ByteText>],
+) -> Result<(), Fault> {
+    let in_random_order = shuffled(rt.alloc(), keys)?;
+    let before = resident_bytes(rt);
+    let mut map = fill(rt, puts, keys)?;
+    show_bytes(rt, before, resident_bytes(rt), map.len())?;
+    read(rt, rounds, "get", &map, keys)?;
+    read(rt, rounds, "get_random", &map, in_random_order.as_slice())?;
+    replace(rt, rounds, "replace", &mut map, keys)
+}
+
+/// Maps on the heap that dropped maps have left, whose free blocks are scattered.
+fn scattered<R: Runtime + AllocGlobal>(
+    rt: &R,
+    rounds: u32,
+    puts: &mut Best,
+    keys: &[Arc<ByteText>],
+) -> Result<(), Fault> {
+    let mut again = Best::new();
     for _ in 0..rounds {
-        let start = Instant::now(rt)?;
-        let map = filled(rt, keys)?;
-        best.count(start.elapsed(rt)?);
-        count = map.len();
+        drop(fill(rt, &mut again, keys)?);
     }
-    best.show(rt, "put", 1, i128::from(count))
+    let mut map = fill(rt, &mut again, keys)?;
+    puts.count(again.shortest());
+    puts.show(rt, "put", 1, i128::from(map.len()))?;
+    again.show(rt, "scattered_put", 1, i128::from(map.len()))?;
+    read(rt, rounds, "scattered_get", &map, keys)?;
+    replace(rt, rounds, "scattered_replace", &mut map, keys)
 }
 
 /// Gets each key once.
 fn read<R: Runtime + AllocGlobal>(
     rt: &R,
     rounds: u32,
+    name: &str,
     map: &Map,
     keys: &[Arc<ByteText>],
 ) -> Result<(), Fault> {
@@ -67,13 +96,14 @@ fn read<R: Runtime + AllocGlobal>(
         sum = get_all(map, keys);
         best.count(start.elapsed(rt)?);
     }
-    best.show(rt, "get", 1, i128::from(sum))
+    best.show(rt, name, 1, i128::from(sum))
 }
 
 /// Puts a new value at each key once.
 fn replace<R: Runtime + AllocGlobal>(
     rt: &R,
     rounds: u32,
+    name: &str,
     map: &mut Map,
     keys: &[Arc<ByteText>],
 ) -> Result<(), Fault> {
@@ -84,7 +114,7 @@ fn replace<R: Runtime + AllocGlobal>(
         sum = put_all(rt.alloc(), map, keys, 0)?;
         best.count(start.elapsed(rt)?);
     }
-    best.show(rt, "replace", 1, i128::from(sum))
+    best.show(rt, name, 1, i128::from(sum))
 }
 
 /// Takes snapshots, each with a put after it: the time of one.
@@ -116,7 +146,7 @@ fn remove<R: Runtime + AllocGlobal>(
     let mut best = Best::new();
     let mut sum = 0;
     for _ in 0..rounds {
-        let mut map = filled(rt, keys)?;
+        let mut map = fill(rt, &mut Best::new(), keys)?;
         let start = Instant::now(rt)?;
         sum = remove_all(rt.alloc(), &mut map, keys)?;
         best.count(start.elapsed(rt)?);

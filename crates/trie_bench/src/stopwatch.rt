@@ -25,6 +25,11 @@ impl Best {
         }
     }
 
+    /// The shortest time that was counted.
+    pub fn shortest(&self) -> Duration {
+        self.shortest
+    }
+
     /// Prints the nanoseconds of one piece of the work, on one thread, to standard error, and the
     /// checksum to standard output.
     pub fn show<R: Runtime>(

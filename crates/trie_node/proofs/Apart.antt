@@ -40,7 +40,7 @@ module _ {K V : Type 0} (R : K → K → Ordering) (path : K → ℕ) (exact : (
         let rest = find_below q es (right_of (is_lt (R q e.0)) (below_all R q es) h) in
         elim (R q e.0) as (λ r. T (is_lt r) → cond (is_eq r) (Some e.1) (find R q es) ≡ None) [ Less ↦ λ _. rest | Equal ↦ λ n. absurd n | Greater ↦ λ n. absurd n ] (left_of (is_lt (R q e.0)) (below_all R q es) h)
 
-    apart_sorted : (es : List (K × V)) → T (is_sorted R es) → IsApart R total es
+    pub apart_sorted : (es : List (K × V)) → T (is_sorted R es) → IsApart R total es
     apart_sorted [] h = tt
     apart_sorted (e ∷ es) h = (find_below e.0 es (left_of (below_all R e.0 es) (is_sorted R es) h), apart_sorted es (right_of (below_all R e.0 es) (is_sorted R es) h))
 

@@ -4,12 +4,14 @@ use Rattle.std.specs.Option.{option_or}
 use Rattle.std.specs.declared.cmp.Ordering.{Ordering}
 use Rattle.std.specs.Ordering.{eq_by_cmp}
 use Rattle.std.specs.Cmp.{IsTotalOrder}
+use Rattle.std.specs.FinMap.{is_sorted}
 use Rattle.std.specs.FinMap.Entries.{same_entries, find-put, is_sorted-put, length-put}
 use Rattle.trie_node.specs.Map.{Map, IsMap, IsAntisymmetric, ShareNoKey, value_at, with_pair, union}
 use Rattle.trie_node.proofs.Roots.{holds}
 
-sorted : (b : Bool) → b ≡ true → T b
-sorted b e = subst T (sym e) tt
+-- std's word for a list in strictly rising order
+pub is_sorted_of : {K V : Type 0} (R : K → K → Ordering) (m : Map K V) → IsMap R m → T (is_sorted R m)
+is_sorted_of R m h = subst T (sym h) tt
 
 pub or_none : {A : Type 0} (a : Option A) → option_or a None ≡ a
 or_none (Some x) = refl
@@ -39,13 +41,13 @@ module _ {K V : Type 0} (R : K → K → Ordering) (total : IsTotalOrder R) wher
 
   pub IsMap-union : (m n : Map K V) → IsMap R n → IsMap R (union R m n)
   IsMap-union [] n h = h
-  IsMap-union (x ∷ m) n h = holds _ (is_sorted-put R total x.0 x.1 (union R m n) (sorted _ (IsMap-union m n h)))
+  IsMap-union (x ∷ m) n h = holds _ (is_sorted-put R total x.0 x.1 (union R m n) (is_sorted_of R (union R m n) (IsMap-union m n h)))
 
   pub length-union : (m n : Map K V) → IsMap R n → length (union R m n) ≤ length m + length n
   length-union [] n h = omega arith
   length-union (x ∷ m) n h =
       let rest = length-union m n h in
-      let more = length-put R total x.0 x.1 (union R m n) (sorted _ (IsMap-union m n h)) in
+      let more = length-put R total x.0 x.1 (union R m n) (is_sorted_of R (union R m n) (IsMap-union m n h)) in
       elim (is_some (value_at R (union R m n) x.0)) as (λ b. length (with_pair R (union R m n) x.0 x.1) ≡ cond b (length (union R m n)) (length (union R m n) + 1) → length (union R (x ∷ m) n) ≤ length (x ∷ m) + length n) [
         | true ↦ λ e. omega arith
         | false ↦ λ e. omega arith
@@ -54,7 +56,7 @@ module _ {K V : Type 0} (R : K → K → Ordering) (total : IsTotalOrder R) wher
   module _ (exact : IsAntisymmetric R) where
     -- maps with the same value at each key are one
     same_map : (m n : Map K V) → IsMap R m → IsMap R n → ((q : K) → value_at R m q ≡ value_at R n q) → m ≡ n
-    same_map m n g h same = same_entries R total exact m n (sorted _ g) (sorted _ h) same
+    same_map m n g h same = same_entries R total exact m n (is_sorted_of R m g) (is_sorted_of R n h) same
 
     pub union-empty : (m : Map K V) → IsMap R m → union R m [] ≡ m
     union-empty m h = same_map (union R m []) m (IsMap-union m [] refl) h (λ q. value_at-union m [] q ∙ or_none (value_at R m q))

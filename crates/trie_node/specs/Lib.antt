@@ -11,6 +11,7 @@ pub mod Changes
 pub mod Removals
 pub mod Order
 pub mod Counts
+pub mod Merges
 pub mod PutInPlace
 pub mod RemovalInPlace
 pub mod Listings

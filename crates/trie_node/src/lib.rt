@@ -15,6 +15,7 @@ mod condition;
 mod copies;
 mod drawing;
 mod laws;
+mod merging;
 mod node;
 mod outcome;
 mod pairs;
@@ -36,6 +37,7 @@ pub use laws::{
     bitmap_counts_children, map_determines_root, map_names_nodes, root_has_few_nodes, root_is_map,
     root_walks_in_order, writes_keep_stamps_below,
 };
+pub use merging::merged;
 pub use node::{Node, empty_root};
 pub use put::{Written, put_where, with_put};
 pub use put_in_place::{Done, put_in, put_in_where};

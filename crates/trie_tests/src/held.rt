@@ -7,7 +7,7 @@ use hash_path::PathKey;
 use std::alloc::Global;
 use std::marker::Model;
 use std::sync::Arc;
-use trie_node::{Condition, NoMemory, Node, Stamp, Written, root_is_map};
+use trie_node::{Condition, NoMemory, Node, Stamp, Written, root_is_map, union_of_maps};
 
 /// No test holds more pairs.
 const MOST_PAIRS: u64 = 1 << 40;
@@ -90,6 +90,24 @@ impl<K: PathKey + Drop, V: Drop> Held<K, V> {
         Ok(Held {
             root: trie_node::with_removed(alloc, &self.root, key, stamp)?,
             most: self.most,
+        })
+    }
+
+    /// The root of both maps together, where the value of this one wins.
+    pub fn merged(
+        &self,
+        alloc: Global,
+        other: &Held<K, V>,
+        stamp: Stamp,
+    ) -> Result<Held<K, V>, NoMemory> {
+        if self.most >= MOST_PAIRS || other.most >= MOST_PAIRS {
+            return Err(NoMemory);
+        }
+        union_of_maps::<K, V>();
+        root_is_map::<K, V>();
+        Ok(Held {
+            root: trie_node::merged(alloc, &self.root, &other.root, stamp)?,
+            most: self.most + other.most,
         })
     }
 

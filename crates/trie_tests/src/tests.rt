@@ -2,6 +2,7 @@
 
 mod conditions;
 mod memory;
+mod merged;
 mod random;
 mod shapes;
 mod stamps;

@@ -48,7 +48,7 @@ fn take_all(alloc: Global) -> Result<Vec<Vec<u8>>, AllocError> {
 const MOST_GIVEN: usize = 24;
 
 // A block for a node, and one for the children of a branch.
-const NODE: usize = 64;
+pub(super) const NODE: usize = 64;
 
 const CHILDREN: usize = 16;
 
@@ -63,7 +63,12 @@ fn spare_blocks(alloc: Global, first: usize, second: usize) -> Result<Vec<Vec<u8
 }
 
 // The root is as it was.
-fn assert_same(rt: &impl Abort, alloc: Global, trie: &Trie, before: &Outline) -> Result<(), Fail> {
+pub(super) fn assert_same(
+    rt: &impl Abort,
+    alloc: Global,
+    trie: &Trie,
+    before: &Outline,
+) -> Result<(), Fail> {
     let now = outline_of(alloc, trie.root())?;
     assert_eq!(rt; now.lines.as_slice(), before.lines.as_slice());
     assert_eq!(rt; now.stamps.as_slice(), before.stamps.as_slice());

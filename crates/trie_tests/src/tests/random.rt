@@ -10,7 +10,7 @@ use test_keys::ChosenKey;
 use trie_node::{Stamp, size};
 
 // Few words, so that buckets and branches that are drawn up are frequent.
-const WORDS: [u32; 8] = [
+pub(super) const WORDS: [u32; 8] = [
     0,
     0xc000_0000,
     0x4000_0000,
@@ -22,15 +22,15 @@ const WORDS: [u32; 8] = [
 ];
 
 // How many keys have one word.
-const KEYS: u32 = 3;
+pub(super) const KEYS: u32 = 3;
 
 // A linear congruential generator.
 #[derive(Drop)]
-struct Random(u64);
+pub(super) struct Random(pub u64);
 
 impl Random {
     // A number below a bound.
-    fn next(&mut self, below: u32) -> u32 {
+    pub fn next(&mut self, below: u32) -> u32 {
         let state = self
             .0
             .wrapping_mul(6_364_136_223_846_793_005)
@@ -41,7 +41,7 @@ impl Random {
 }
 
 // The pairs of a map in the order of their positions.
-fn in_walk_order(
+pub(super) fn in_walk_order(
     alloc: Global,
     map: &BTreeMap<ChosenKey, u32>,
 ) -> Result<Vec<(ChosenKey, u32)>, AllocError> {
@@ -54,7 +54,7 @@ fn in_walk_order(
 }
 
 // The trie has these pairs and the shape that they have.
-fn assert_holds(
+pub(super) fn assert_holds(
     rt: &impl Abort,
     alloc: Global,
     trie: &Trie,

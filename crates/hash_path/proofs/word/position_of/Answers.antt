@@ -17,16 +17,16 @@ counted-below level w d u is_digit is_weight small =
 pub overflow_mul-position : goal.overflow_mul-position
 overflow_mul-position c =
     let small : c.args.word < 2 ^ word_bits = omega (arith, c.ranges.word) in
-    omega (arith, counted-below c.loop-level.level c.args.word _ _ c.digit.ensures.value c.weight_at.ensures small)
+    omega (arith, counted-below c.loop-level.level c.args.word _ _ (c.from.ensures ∙ c.digit.ensures.value) c.weight_at.ensures small)
 
 pub overflow_add-position : goal.overflow_add-position
 overflow_add-position c =
     let small : c.args.word < 2 ^ word_bits = omega (arith, c.ranges.word) in
-    omega (arith, counted-below c.loop-level.level c.args.word _ _ c.digit.ensures.value c.weight_at.ensures small, c.loop-level.invariant)
+    omega (arith, counted-below c.loop-level.level c.args.word _ _ (c.from.ensures ∙ c.digit.ensures.value) c.weight_at.ensures small, c.loop-level.invariant)
 
 pub loop-level-preserved : goal.loop-level-preserved
 loop-level-preserved c =
-    omega (arith, counted c.loop-level.level c.args.word _ _ c.digit.ensures.value c.weight_at.ensures, c.loop-level.invariant)
+    omega (arith, counted c.loop-level.level c.args.word _ _ (c.from.ensures ∙ c.digit.ensures.value) c.weight_at.ensures, c.loop-level.invariant)
 
 pub returns : goal.returns
 unfolding position

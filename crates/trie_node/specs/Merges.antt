@@ -1,0 +1,65 @@
+-- What the merging of two subtries makes. A subtrie may be absent on a side, which then has no pairs there.
+use Rattle.std.specs.Prelude.{◌≡◌, ℕ, ◌+◌, ◌*◌, ◌%◌, ◌^◌, ◌<◌, ◌≤◌, ◌||◌, ◌==◌, Bool, true, cond, if◌then◌else◌, List, [], ◌∷◌, length, Option, Some, None, is_some, IfSome}
+use Rattle.std.specs.Option.{option_or}
+use Rattle.std.specs.declared.cmp.Ordering.{Ordering}
+use Rattle.std.specs.FinMap.{find}
+use Rattle.trie_node.specs.Tree.{Tree, branch, bucket, Trees, no_trees, more_trees, entries, digits_of, IsTrie}
+
+module _ {K V : Type 0} where
+  -- the subtrie of a digit
+  abbrev pub child_among : List ℕ → Trees K V → ℕ → Option (Tree K V)
+  child_among [] ts d = None
+  child_among (x ∷ xs) no_trees d = None
+  child_among (x ∷ xs) (more_trees t ts) d = if x == d then Some t else child_among xs ts d
+
+  abbrev pub child_at : Tree K V → ℕ → Option (Tree K V)
+  child_at (branch stamp size bitmap ts) d = child_among (digits_of bitmap) ts d
+  child_at (bucket stamp es) d = None
+
+  -- the pairs of a subtrie, if there is one
+  abbrev pub pairs_of : Option (Tree K V) → List (K × V)
+  pairs_of (Some t) = entries t
+  pairs_of None = []
+
+  abbrev mutual
+    -- no node has a stamp above
+    pub StampsWithin : ℕ → Tree K V → Type 0
+    StampsWithin newest (branch stamp size bitmap ts) = (stamp ≤ newest) × AllStampsWithin newest ts
+    StampsWithin newest (bucket stamp es) = stamp ≤ newest
+
+    pub AllStampsWithin : ℕ → Trees K V → Type 0
+    AllStampsWithin newest no_trees = Unit {0}
+    AllStampsWithin newest (more_trees t ts) = StampsWithin newest t × AllStampsWithin newest ts
+
+-- what a key has once a value, if there is one, was put where the test holds of what it had
+abbrev pub written_over : {V : Type 0} → (Option V → Bool) → Option V → Option V → Option V
+written_over holds None found = found
+written_over holds (Some v) found = cond (holds found) (Some v) found
+
+module _ {K V : Type 0} (R : K → K → Ordering) (path : K → ℕ) (level : ℕ) where
+  -- the words of the keys of both agree in the digits below the level
+  abbrev pub WordsAgree : List (K × V) → List (K × V) → Type 0
+  WordsAgree es fs = (q r : K) → is_some (find R q es) ≡ true → is_some (find R r fs) ≡ true → path q % 2 ^ (5 * level) ≡ path r % 2 ^ (5 * level)
+
+  -- two subtries that can stand at one place of a trie
+  pub record CanMerge (left right : Option (Tree K V)) : Type 0 where
+    pub depth : level ≤ 7
+    pub left_trie : IfSome left (IsTrie R path level)
+    pub right_trie : IfSome right (IsTrie R path level)
+    pub agree : WordsAgree (pairs_of left) (pairs_of right)
+    pub room : length (pairs_of left) + length (pairs_of right) < 2 ^ 63
+
+  -- the new subtrie has the pairs of both, where the left value wins, and its new nodes have the stamp
+  pub record Merges (stamp : ℕ) (left right new : Option (Tree K V)) : Type 0 where
+    pub there : is_some new ≡ (is_some left || is_some right)
+    pub trie : IfSome new (IsTrie R path level)
+    pub finds : (q : K) → find R q (pairs_of new) ≡ option_or (find R q (pairs_of left)) (find R q (pairs_of right))
+    pub most : length (pairs_of new) ≤ length (pairs_of left) + length (pairs_of right)
+    pub stamps : (newest : ℕ) → stamp ≤ newest → IfSome left (StampsWithin newest) → IfSome right (StampsWithin newest) → IfSome new (StampsWithin newest)
+
+  -- the new subtrie is the old one with each of the pairs put where the test holds of what its key has
+  pub record PutsEach (stamp : ℕ) (holds : Option V → Bool) (es : List (K × V)) (old new : Tree K V) : Type 0 where
+    pub trie : IsTrie R path level new
+    pub finds : (q : K) → find R q (entries new) ≡ written_over holds (find R q es) (find R q (entries old))
+    pub most : length (entries new) ≤ length es + length (entries old)
+    pub stamps : (newest : ℕ) → stamp ≤ newest → StampsWithin newest old → StampsWithin newest new
