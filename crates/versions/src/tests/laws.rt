@@ -57,7 +57,12 @@ fn laws_tell_of_versions(rt: HostRuntime) -> Result<(), Fail> {
     has_a_root(&version);
     let key = Arc::new(alloc, chosen(0, 0))?;
     let one = Arc::new(alloc, 1)?;
-    put_and_removed(alloc, &mut version, Arc::try_clone(&key)?, Arc::try_clone(&one)?)?;
+    put_and_removed(
+        alloc,
+        &mut version,
+        Arc::try_clone(&key)?,
+        Arc::try_clone(&one)?,
+    )?;
     assert!(rt; version.is_empty());
     put_there(alloc, &mut version, key, one)?;
     assert!(rt; version.contains_key(&chosen(0, 0)));
