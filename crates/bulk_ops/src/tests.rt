@@ -1,0 +1,285 @@
+//! What a small map answers, by hand. Its keys have chosen path words; its values are at the ends of `i64`.
+
+use crate::{
+    Answer, Pair, PairFn, Part, Query, Stored, StoredItem, StoredMap, StoredTest, ask, work,
+};
+use combiner::{Both, Bulk, Greatest, Least, Sum};
+use hash_path::PathKey;
+use iter::parts_follow_intervals;
+use splitter::{Cut, cut, law_of_cuts, whole};
+use std::alloc::Global;
+use std::sync::Arc;
+use std::test::Fail;
+use test_keys::ChosenKey;
+use trie_node::{NoMemory, Stamp};
+use versions::{Version, View};
+
+// Keys with numbers below one pass.
+#[derive(Drop)]
+struct IdsBelow(u32);
+
+impl PairFn<ChosenKey, i64, bool> for IdsBelow {
+    ghost use Rattle.std.specs.Prelude.{◌≡◌, nat_lt};
+
+    ghost can = { λ t. Unit {0} };
+
+    ghost gives = { λ t k v r. r ≡ nat_lt k.id t.0 };
+
+    fn answer(&self, key: &ChosenKey, _value: &i64) -> bool {
+        key.id < self.0
+    }
+}
+
+// One new value for all keys.
+#[derive(Drop)]
+struct OneValue(u32);
+
+impl PairFn<ChosenKey, i64, i64> for OneValue {
+    ghost use Rattle.std.specs.Prelude.{◌≡◌, pos};
+
+    ghost can = { λ t. Unit {0} };
+
+    ghost gives = { λ t k v r. r ≡ pos t.0 };
+
+    fn answer(&self, _key: &ChosenKey, _value: &i64) -> i64 {
+        i64::from(self.0)
+    }
+}
+
+// The sum, the least and the greatest of all values.
+type Three = Both<Sum, Both<Least, Greatest>>;
+
+type ThreeItems = (i128, (Option<i64>, Option<i64>));
+
+// The value, for each of the three.
+#[derive(Drop)]
+struct EachValue;
+
+impl PairFn<ChosenKey, i64, ThreeItems> for EachValue {
+    ghost use Rattle.std.specs.Prelude.{◌≡◌, Some};
+
+    ghost can = { λ t. Unit {0} };
+
+    ghost gives = { λ t k v r. r ≡ (v, (Some v, Some v)) };
+
+    fn answer(&self, _key: &ChosenKey, value: &i64) -> ThreeItems {
+        (i128::from(*value), (Some(*value), Some(*value)))
+    }
+}
+
+type Asked = Query<ChosenKey, i64, IdsBelow, OneValue, Three, EachValue>;
+
+fn below(id: u32) -> StoredTest<ChosenKey, i64, IdsBelow> {
+    Stored::new(IdsBelow(id))
+}
+
+fn instead(value: u32) -> StoredMap<ChosenKey, i64, OneValue> {
+    Stored::new(OneValue(value))
+}
+
+fn values() -> StoredItem<ChosenKey, i64, ThreeItems, EachValue> {
+    Stored::new(EachValue)
+}
+
+fn chosen(path: u32, id: u32) -> ChosenKey {
+    ChosenKey { path, id }
+}
+
+// The first pairs of three: key 2 at position 0 and key 3 at position 3 have the greatest value, key 1 at position 2^27
+// has the least.
+fn first(alloc: Global, number: usize) -> Result<View<ChosenKey, i64>, Fail> {
+    let mut version = Version::empty(alloc, 100, Stamp(1))?;
+    let pairs = [
+        (chosen(0, 2), i64::MAX),
+        (chosen(0xc000_0000, 3), i64::MAX),
+        (chosen(1, 1), i64::MIN),
+    ];
+    for (key, value) in pairs.into_iter().take(number) {
+        version.put(alloc, Arc::new(alloc, key)?, Arc::new(alloc, value)?)?;
+    }
+    Ok(version.view()?)
+}
+
+// What the map has at the three keys.
+fn at_three(made: &Version<ChosenKey, i64>) -> (Option<i64>, Option<i64>, Option<i64>) {
+    (
+        at(made, chosen(0, 2)),
+        at(made, chosen(0xc000_0000, 3)),
+        at(made, chosen(1, 1)),
+    )
+}
+
+fn at(made: &Version<ChosenKey, i64>, key: ChosenKey) -> Option<i64> {
+    match made.get(&key) {
+        Some(value) => Some(**value),
+        None => None,
+    }
+}
+
+// The parts of the two pieces of a cut, joined; none where the map is not cut.
+fn joined<K: PathKey + Drop, V: Drop, B: Bulk<K, V>>(
+    alloc: Global,
+    view: View<K, V>,
+    bulk: &B,
+) -> Result<Option<B::Part>, NoMemory>
+    requires { B.ready bulk.now }
+{
+    law_of_cuts::<K, V>();
+    parts_follow_intervals::<K, V>();
+    view.len();
+    let Ok(Cut::Two(lower, upper)) = cut(whole(alloc, view), 1) else {
+        return Ok(None);
+    };
+    if lower.len() > 100 || upper.len() > 100 {
+        return Ok(None);
+    }
+    let (below, above) = (work(alloc, &lower, bulk)?, work(alloc, &upper, bulk)?);
+    Ok(Some(bulk.join(alloc, &below, &above)?))
+}
+
+// Of three pairs, those with keys below a number: how many there are, whether there are some, whether they are all.
+#[test]
+fn numbers_and_truths(rt: HostRuntime) -> Result<(), Fail> {
+    let alloc = rt.alloc();
+    let table = [
+        (1, 0, false, false),
+        (2, 1, true, false),
+        (3, 2, true, false),
+        (4, 3, true, true),
+    ];
+    for (id, count, exists, for_all) in table {
+        let query = Asked::Count(below(id));
+        let (told, made) = ask(alloc, first(alloc, 3)?, &query)?;
+        assert!(rt;
+            matches!(&told, Answer::Count(number) if *number == count),
+            "count at {id}"
+        );
+        assert!(rt; made.is_none());
+        let part = joined(alloc, first(alloc, 3)?, &query)?;
+        assert!(rt;
+            matches!(&part, Some(Part::Number(number)) if *number == count),
+            "count at {id}"
+        );
+
+        let query = Asked::Exists(below(id));
+        let (told, _) = ask(alloc, first(alloc, 3)?, &query)?;
+        assert!(rt;
+            matches!(&told, Answer::Truth(truth) if *truth == exists),
+            "exists at {id}"
+        );
+        let part = joined(alloc, first(alloc, 3)?, &query)?;
+        assert!(rt;
+            matches!(&part, Some(Part::Truth(truth)) if *truth == exists),
+            "exists at {id}"
+        );
+
+        let query = Asked::ForAll(below(id));
+        let (told, _) = ask(alloc, first(alloc, 3)?, &query)?;
+        assert!(rt;
+            matches!(&told, Answer::Truth(truth) if *truth == for_all),
+            "for_all at {id}"
+        );
+        let part = joined(alloc, first(alloc, 3)?, &query)?;
+        assert!(rt;
+            matches!(&part, Some(Part::Truth(truth)) if *truth == for_all),
+            "for_all at {id}"
+        );
+    }
+    let (told, _) = ask(alloc, first(alloc, 0)?, &Asked::ForAll(below(0)))?;
+    assert!(rt; matches!(&told, Answer::Truth(true)));
+    let (told, _) = ask(alloc, first(alloc, 0)?, &Asked::Exists(below(4)))?;
+    assert!(rt; matches!(&told, Answer::Truth(false)));
+    Ok(())
+}
+
+// The key and the value of a pair that was found, if one was.
+fn plainly(found: &Option<Pair<ChosenKey, i64>>) -> Option<(u32, i64)> {
+    match found {
+        Some((key, value)) => Some((key.id, **value)),
+        None => None,
+    }
+}
+
+// Key 1 alone passes below 2, in the upper piece; no key passes below 1.
+#[test]
+fn pairs_that_pass(rt: HostRuntime) -> Result<(), Fail> {
+    let alloc = rt.alloc();
+    for (id, want) in [(1, None), (2, Some((1, i64::MIN)))] {
+        let query = Asked::Find(below(id));
+        let (told, _) = ask(alloc, first(alloc, 3)?, &query)?;
+        let found = match &told {
+            Answer::Found(found) => plainly(found),
+            _ => Some((0, 0)),
+        };
+        assert_eq!(rt; found, want, "find at {id}");
+        let part = joined(alloc, first(alloc, 3)?, &query)?;
+        let found = match &part {
+            Some(Part::Found(found)) => plainly(found),
+            _ => Some((0, 0)),
+        };
+        assert_eq!(rt; found, want, "find at {id}, joined");
+    }
+    Ok(())
+}
+
+#[test]
+fn maps_that_are_made(rt: HostRuntime) -> Result<(), Fail> {
+    let alloc = rt.alloc();
+    let table = [
+        (
+            Asked::Filter(below(3), 9),
+            2,
+            (Some(i64::MAX), None, Some(i64::MIN)),
+        ),
+        (
+            Asked::MapValues(instead(4), 9),
+            3,
+            (Some(4), Some(4), Some(4)),
+        ),
+    ];
+    for (query, count, want) in table {
+        let (told, made) = ask(alloc, first(alloc, 3)?, &query)?;
+        assert!(rt; matches!(&told, Answer::Made(number) if *number == count));
+        let contents = match &made {
+            Some(map) => at_three(map),
+            None => (None, None, None),
+        };
+        assert_eq!(rt; contents, want);
+        let part = joined(alloc, first(alloc, 3)?, &query)?;
+        let contents = match &part {
+            Some(Part::Made(map)) => at_three(map),
+            _ => (None, None, None),
+        };
+        assert_eq!(rt; contents, want);
+    }
+    Ok(())
+}
+
+#[test]
+fn sums_and_extremes(rt: HostRuntime) -> Result<(), Fail> {
+    let alloc = rt.alloc();
+    let query = Asked::Fold(Both(Sum, Both(Least, Greatest)), values());
+    let table = [
+        (0, (0, (None, None))),
+        (
+            2,
+            (18_446_744_073_709_551_614, (Some(i64::MAX), Some(i64::MAX))),
+        ),
+        (
+            3,
+            (9_223_372_036_854_775_806, (Some(i64::MIN), Some(i64::MAX))),
+        ),
+    ];
+    for (number, want) in table {
+        let (told, _) = ask(alloc, first(alloc, number)?, &query)?;
+        assert!(rt;
+            matches!(&told, Answer::Item(item) if *item == want),
+            "of {number}"
+        );
+    }
+    let part = joined(alloc, first(alloc, 3)?, &query)?;
+    assert!(rt;
+        matches!(&part, Some(Part::Item(item)) if *item == (9_223_372_036_854_775_806, (Some(i64::MIN), Some(i64::MAX))))
+    );
+    Ok(())
+}
