@@ -7,12 +7,14 @@
 mod both;
 mod bulk;
 mod extremes;
+mod merging;
 mod monoid;
 mod sum;
 
 pub use both::Both;
 pub use bulk::Bulk;
 pub use extremes::{Greatest, Least};
+pub use merging::merge;
 pub use monoid::Monoid;
 pub use sum::Sum;
 

@@ -5,6 +5,7 @@ use crate::fault::Fault;
 use crate::maps::{Map, empty, get_all, keys, put_all, remove_all, shuffled, snapshot_all};
 use crate::memory::{resident_bytes, show_bytes};
 use crate::stopwatch::Best;
+use crate::walks::{cut_all, walk_all};
 use generation::Source;
 use keys::ByteText;
 use std::env;
@@ -14,6 +15,9 @@ use std::time::Instant;
 
 /// How many snapshots a round takes, each with a put after it.
 const SNAPSHOTS: u32 = 1000;
+
+/// How many pairs a piece may have that is not cut.
+const GRAIN: u64 = 1024;
 
 /// Measures what the words after the program's name ask for.
 pub fn run<R: Runtime + AllocGlobal>(rt: &R) -> Result<(), Fault> {
@@ -59,7 +63,35 @@ fn fresh<R: Runtime + AllocGlobal>(
     show_bytes(rt, before, resident_bytes(rt), map.len())?;
     read(rt, rounds, "get", &map, keys)?;
     read(rt, rounds, "get_random", &map, in_random_order.as_slice())?;
-    replace(rt, rounds, "replace", &mut map, keys)
+    replace(rt, rounds, "replace", &mut map, keys)?;
+    walk(rt, rounds, &map)?;
+    cut(rt, rounds, &map)
+}
+
+/// Reads all pairs in the order of a walk.
+fn walk<R: Runtime + AllocGlobal>(rt: &R, rounds: u32, map: &Map) -> Result<(), Fault> {
+    let view = map.view()?;
+    let mut best = Best::new();
+    let mut sum = 0;
+    for _ in 0..rounds {
+        let start = Instant::now(rt)?;
+        sum = walk_all(rt.alloc(), &view)?;
+        best.count(start.elapsed(rt)?);
+    }
+    best.show(rt, "walk", 1, i128::from(sum))
+}
+
+/// Cuts the whole map down to the grain.
+fn cut<R: Runtime + AllocGlobal>(rt: &R, rounds: u32, map: &Map) -> Result<(), Fault> {
+    let view = map.view()?;
+    let mut best = Best::new();
+    let mut pieces = 0;
+    for _ in 0..rounds {
+        let start = Instant::now(rt)?;
+        pieces = cut_all(rt.alloc(), &view, GRAIN)?;
+        best.count(start.elapsed(rt)?);
+    }
+    best.show(rt, "cut", 1, i128::from(pieces))
 }
 
 /// Maps on the heap that dropped maps have left, whose free blocks are scattered.

@@ -48,7 +48,7 @@ cond_lacks : (b : Bool) (d x : ℕ) (xs : List ℕ) → d ≢ x → Lacks x xs �
 cond_lacks true d x xs ne h = (ne, h)
 cond_lacks false d x xs ne h = h
 
-cond_append : (b : Bool) (d : ℕ) (xs ys : List ℕ) → cond b (d ∷ (xs ++ ys)) (xs ++ ys) ≡ cond b (d ∷ xs) xs ++ ys
+pub cond_append : (b : Bool) (d : ℕ) (xs ys : List ℕ) → cond b (d ∷ (xs ++ ys)) (xs ++ ys) ≡ cond b (d ∷ xs) xs ++ ys
 cond_append true d xs ys = refl
 cond_append false d xs ys = refl
 

@@ -1,68 +1,24 @@
 -- Pairs put one after another where a test holds.
 use Rattle.std.proofs.Common.{◌≡◌, ℕ, zero, suc, ◌+◌, ◌*◌, ◌<◌, ◌≤◌, ◌%◌, ◌^◌, Bool, true, false, cond, ◌⊎◌, inl, inr, List, [], ◌∷◌, ◌++◌, length, take, get_or, Option, Some, None, is_some, IfSome, refl, sym, ap, ◌∙◌, subst, arith, length-append}
 use mathlib.Core.Bool.{false≢true}
-use Rattle.std.specs.Option.{option_or}
-use Rattle.std.specs.Prelude.{is_none}
 use Rattle.std.specs.declared.cmp.Ordering.{Ordering}
 use Rattle.std.specs.declared.cmp.Ordering.TheVariants.{Equal}
 use Rattle.std.specs.Ordering.{eq_by_cmp}
 use Rattle.std.specs.Cmp.{IsTotalOrder}
 use Rattle.std.specs.FinMap.{find}
-use Rattle.std.proofs.lemmas.List.{take_more, length-take}
-use Rattle.trie_node.specs.Merges.{CanMerge, Merges, PutsEach, StampsWithin, written_over}
+use Rattle.std.proofs.lemmas.List.{take_more}
+use Rattle.trie_node.specs.Merges.{CanMerge, PutsEach, StampsPass, written_over}
 use Rattle.trie_node.specs.Tree.{Tree, bucket, entries, IsTrie}
 use Rattle.trie_node.specs.Writes.{Writes, WritesWhere, KeysAgree}
 use Rattle.trie_node.proofs.Apart.{apart_sorted}
 use Rattle.trie_node.proofs.Finds.{tied, found_first}
 use Rattle.trie_node.proofs.Listings.{IsApart}
-use Rattle.trie_node.proofs.StampBounds.{written_within}
+use Rattle.trie_node.proofs.StampTests.{written_within}
 use Rattle.trie_node.proofs.Tries.{or_else, or_none, find_append}
 
 either_found : {V : Type 0} (holds : Option V → Bool) (given found : Option V) → is_some (written_over holds given found) ≡ true → (is_some given ≡ true) ⊎ (is_some found ≡ true)
 either_found holds None found e = inr e
 either_found holds (Some v) found e = inl refl
-
--- a put of each pair, and a put where there was none
-put_always : {V : Type 0} (given found : Option V) → written_over (λ _. true) given found ≡ option_or given found
-put_always None found = refl
-put_always (Some v) found = refl
-
-put_absent : {V : Type 0} (given found : Option V) → written_over is_none given found ≡ option_or found given
-put_absent None None = refl
-put_absent None (Some x) = refl
-put_absent (Some v) None = refl
-put_absent (Some v) (Some x) = refl
-
-module _ {K V : Type 0} (R : K → K → Ordering) (path : K → ℕ) (level stamp : ℕ) where
-  -- the pairs of the left side put into the right one
-  pub merges_over : (left right new : Tree K V) → PutsEach R path level stamp (λ _. true) (entries left) right new → Merges R path level stamp (Some left) (Some right) (Some new)
-  merges_over left right new p = record {
-    there = refl;
-    trie = p.trie;
-    finds = λ q. p.finds q ∙ put_always (find R q (entries left)) (find R q (entries right));
-    most = p.most;
-    stamps = λ newest le within_left within_right. p.stamps newest le within_right;
-  }
-
-  -- those of the right side put into the left one, where they are absent
-  pub merges_under : (left right new : Tree K V) → PutsEach R path level stamp is_none (entries right) left new → Merges R path level stamp (Some left) (Some right) (Some new)
-  merges_under left right new p = record {
-    there = refl;
-    trie = p.trie;
-    finds = λ q. p.finds q ∙ put_absent (find R q (entries right)) (find R q (entries left));
-    most = omega (arith, p.most);
-    stamps = λ newest le within_left within_right. p.stamps newest le within_left;
-  }
-
-  -- it does not matter on which side a subtrie stands
-  pub turned : (left right : Option (Tree K V)) → CanMerge R path level left right → CanMerge R path level right left
-  turned left right c = record {
-    depth = c.depth;
-    left_trie = c.right_trie;
-    right_trie = c.left_trie;
-    agree = λ q r q_in r_in. sym (c.agree r q r_in q_in);
-    room = omega (arith, c.room);
-  }
 
 module _ {K V : Type 0} (R : K → K → Ordering) (path : K → ℕ) (total : IsTotalOrder R) (exact : (x y : K) → R x y ≡ Equal → x ≡ y) where
   -- the pair at a place is found
@@ -99,14 +55,14 @@ module _ {K V : Type 0} (R : K → K → Ordering) (path : K → ℕ) (total : I
       pub trie : IsTrie R path level new
       pub finds : (q : K) → find R q (entries new) ≡ cond (eq_by_cmp R q k) (written_over holds (Some v) (find R k (entries old))) (find R q (entries old))
       pub most : length (entries new) ≤ length (entries old) + 1
-      pub stamps : (newest : ℕ) → stamp ≤ newest → StampsWithin newest old → StampsWithin newest new
+      pub stamps : (test : ℕ → Bool) → test stamp ≡ true → StampsPass test old → StampsPass test new
 
     one_written : (k : K) (v : V) (old new : Tree K V) → level ≤ 7 → Writes R path level stamp k (Some v) old new → holds (find R k (entries old)) ≡ true → PutsOne k v old new
     one_written k v old new depth w passes = record {
       trie = w.trie;
       finds = λ q. w.finds q ∙ ap (λ b. cond (eq_by_cmp R q k) (cond b (Some v) (find R k (entries old))) (find R q (entries old))) (sym passes);
       most = w.most;
-      stamps = λ newest le within. written_within R path newest level stamp k (Some v) old new depth le w within;
+      stamps = λ test stamped within. written_within R path test level stamp k (Some v) old new depth stamped w within;
     }
 
     one_kept : (k : K) (v : V) (old : Tree K V) → IsTrie R path level old → holds (find R k (entries old)) ≡ false → PutsOne k v old old
@@ -114,16 +70,12 @@ module _ {K V : Type 0} (R : K → K → Ordering) (path : K → ℕ) (total : I
       trie = trie;
       finds = λ q. of_tie q (eq_by_cmp R q k) refl ∙ ap (λ b. cond (eq_by_cmp R q k) (cond b (Some v) (find R k (entries old))) (find R q (entries old))) (sym fails);
       most = omega arith;
-      stamps = λ newest le within. within;
+      stamps = λ test stamped within. within;
     }
       where
         of_tie : (q : K) (b : Bool) → eq_by_cmp R q k ≡ b → find R q (entries old) ≡ cond (eq_by_cmp R q k) (find R k (entries old)) (find R q (entries old))
         of_tie q true tie = ap (λ x. find R x (entries old)) (exact q k (tied (R q k) tie)) ∙ ap (λ b. cond b (find R k (entries old)) (find R q (entries old))) (sym tie)
         of_tie q false tie = ap (λ b. cond b (find R k (entries old)) (find R q (entries old))) (sym tie)
-
-    -- no pair is put
-    pub each_none : (old : Tree K V) → IsTrie R path level old → PutsEach R path level stamp holds [] old old
-    each_none old trie = record { trie = trie; finds = λ q. refl; most = omega arith; stamps = λ newest le within. within }
 
     -- one more is put
     each_more : (es : List (K × V)) (k : K) (v : V) (old now new : Tree K V) → find R k es ≡ None → PutsEach R path level stamp holds es old now → PutsOne k v now new → PutsEach R path level stamp holds (es ++ (k, v) ∷ []) old new
@@ -131,7 +83,7 @@ module _ {K V : Type 0} (R : K → K → Ordering) (path : K → ℕ) (total : I
       trie = one.trie;
       finds = λ q. of_tie q (eq_by_cmp R q k) refl;
       most = omega (arith, one.most, each.most, length-append es ((k, v) ∷ []));
-      stamps = λ newest le within. one.stamps newest le (each.stamps newest le within);
+      stamps = λ test stamped within. one.stamps test stamped (each.stamps test stamped within);
     }
       where
         of_tie : (q : K) (b : Bool) → eq_by_cmp R q k ≡ b → find R q (entries new) ≡ written_over holds (find R q (es ++ (k, v) ∷ [])) (find R q (entries old))
@@ -154,9 +106,6 @@ module _ {K V : Type 0} (R : K → K → Ordering) (path : K → ℕ) (total : I
         | inl given ↦ ap (λ w. w % 2 ^ (5 * level)) (can.left_trie.2.1 q (found_in_all q i es given) ∙ sym (can.left_trie.2.1 e.0 (found_at es i e lt is)))
         | inr there ↦ sym (can.agree e.0 q (found_at es i e lt is) there)
       ]
-
-      pub room_next : length (entries now) < 2 ^ 63
-      room_next = omega (arith, each.most, can.room, length-take i es)
 
       more : take i es ++ e ∷ [] ≡ take (i + 1) es
       more = (λ j. take i es ++ is j ∷ []) ∙ sym (take_more es i e lt)

@@ -1,8 +1,9 @@
 //! A map as it stood at one moment.
-ghost use Rattle.std.specs.Prelude.{◌≡◌, ◌↔◌, [], length, option_map, is_some, IfOk, IsTrue};
+ghost use Rattle.std.specs.Prelude.{◌≡◌, ◌≤◌, ◌↔◌, [], length, option_map, is_some, IfOk, IsTrue};
 ghost use Rattle.trie_node.specs.Roots.{IsRoot, map_of};
 ghost use Rattle.trie_node.specs.View.{tree};
 ghost use Rattle.versions.specs.Map.{IsMap, value_at};
+ghost use Rattle.versions.specs.declared.version.TheConstants.{MOST_PAIRS};
 
 use hash_path::PathKey;
 use std::marker::Model;
@@ -16,15 +17,17 @@ pub struct View<K: PathKey, V> {
 }
 
 impl<K: PathKey, V> Model for View<K, V> {
+    ghost use Rattle.std.specs.Prelude.{◌≤◌, length};
     ghost use Rattle.trie_node.specs.Roots.{IsRoot, map_of};
     ghost use Rattle.trie_node.specs.View.{tree};
     ghost use Rattle.versions.specs.Map.{Map};
+    ghost use Rattle.versions.specs.declared.version.TheConstants.{MOST_PAIRS};
 
     ghost Value = { Map K V };
 
     ghost view = { λ a. map_of K.cmp (tree a.root) };
 
-    ghost invariant = { λ a. IsRoot K.cmp K.path_of (tree a.root) };
+    ghost invariant = { λ a. IsRoot K.cmp K.path_of (tree a.root) × (length (map_of K.cmp (tree a.root)) ≤ MOST_PAIRS) };
 }
 
 impl<K: PathKey, V> View<K, V> {
@@ -45,6 +48,7 @@ impl<K: PathKey, V> View<K, V> {
     /// How many pairs there are. It takes no memory.
     pub fn len(&self) -> u64
         ensures count { result ≡ length self.now }
+        ensures few { length self.now ≤ MOST_PAIRS }
         ensures sorted { IsMap K.cmp self.now }
     {
         root_is_map::<K, V>();

@@ -1,0 +1,62 @@
+// What Scala's own TrieMap and ParTrieMap take for the work that this project is measured by.
+// Prints one line a measurement: NAME THREADS NANOSECONDS, the best of the rounds, for N pairs.
+import scala.collection.concurrent.TrieMap
+import scala.collection.parallel.ForkJoinTaskSupport
+import scala.collection.parallel.mutable.ParTrieMap
+import scala.concurrent.forkjoin.ForkJoinPool
+
+object Bench {
+  def key(i: Int): String = f"k$i%07d"
+
+  def best(rounds: Int)(work: => Long): Long = {
+    var least = Long.MaxValue
+    for (_ <- 0 until rounds) least = math.min(least, work)
+    least
+  }
+
+  def timed(work: => Any): Long = {
+    val start = System.nanoTime
+    work
+    System.nanoTime - start
+  }
+
+  def main(args: Array[String]): Unit = {
+    val n = args(0).toInt
+    val rounds = args(1).toInt
+    val keys = Array.tabulate(n)(key)
+    def filled: TrieMap[String, Long] = {
+      val m = TrieMap.empty[String, Long]
+      var i = 0
+      while (i < n) { m.put(keys(i), i.toLong); i += 1 }
+      m
+    }
+    def show(name: String, threads: Int, ns: Long) = println(s"$name $threads $ns")
+
+    def held: Long = { System.gc(); System.gc(); Runtime.getRuntime.totalMemory - Runtime.getRuntime.freeMemory }
+    val atRandom = new scala.util.Random(1).shuffle(keys.toSeq).toArray
+
+    val before = held
+    val map = filled
+    show("bytes_a_pair", 1, (held - before) / n)
+    show("put", 1, best(rounds)(timed(filled)))
+    show("get_random", 1, best(rounds)(timed { var s = 0L; var i = 0; while (i < n) { s += map(atRandom(i)); i += 1 }; s }))
+    show("get", 1, best(rounds)(timed { var s = 0L; var i = 0; while (i < n) { s += map(keys(i)); i += 1 }; s }))
+    show("replace", 1, best(rounds)(timed { var i = 0; while (i < n) { map.put(keys(i), i.toLong); i += 1 } }))
+    show("walk", 1, best(rounds)(timed { var s = 0L; val it = map.readOnlySnapshot().iterator; while (it.hasNext) s += it.next()._2; s }))
+    // a snapshot, and the first write after it
+    val writes = 1000
+    show("snapshot_then_put", 1, best(rounds)(timed { var i = 0; while (i < writes) { map.snapshot(); map.put(keys(i), i.toLong); i += 1 } }) / writes)
+    for (threads <- Seq(1, 2, 4)) {
+      val pool = new ForkJoinPool(threads)
+      val par: ParTrieMap[String, Long] = map.par
+      par.tasksupport = new ForkJoinTaskSupport(pool)
+      show("count", threads, best(rounds)(timed(par.count { case (_, v) => v % 2 == 0 })))
+      show("fold_sum", threads, best(rounds)(timed(par.aggregate(0L)((s, e) => s + e._2, _ + _))))
+      show("filter", threads, best(rounds)(timed(par.filter { case (_, v) => v % 2 == 0 })))
+      show("exists_absent", threads, best(rounds)(timed(par.exists { case (_, v) => v < 0 })))
+      show("map_values", threads, best(rounds)(timed(par.map { case (k, v) => (k, v + 1) })))
+      pool.shutdown()
+    }
+    show("remove", 1, best(rounds) { val m = filled; timed { var i = 0; while (i < n) { m.remove(keys(i)); i += 1 } } })
+  }
+}

@@ -1,0 +1,81 @@
+use Rattle.std.proofs.Common.{rules, arith, ◌∙◌}
+use Rattle.bulk_ops.proofs.PartKinds as kinds
+use Rattle.bulk_ops.proofs.Additions as adds
+use Rattle.bulk_ops.proofs.working.QueryBulk.add.Goals as goal
+
+-- 1. The part is one of the query, with room for a pair.
+pub number-second-requires : goal.number-second-requires
+number-second-requires g c = kinds.number_of g.M.Monoid.combine g.M.Monoid.unit_of c.args.self.now c.in-Count.test c.args.part.now c.in-Count.is (kinds.added_known g.M.Monoid.combine g.M.Monoid.unit_of g.K.Ord.cmp c.args.key.now.value c.args.value.now.value c.args.self.now c.args.part.now c.requires.apart)
+
+pub overflow_add-first : goal.overflow_add-first
+overflow_add-first g c =
+    let few = kinds.count_room g.M.Monoid.combine g.M.Monoid.unit_of g.K.Ord.cmp c.args.key.now.value c.args.value.now.value c.args.self.now c.in-Count.test c.args.part.now c.number-second.result c.in-Count.is c.number-second.ensures c.requires.apart in
+    let one = adds.at_most_one c.at.result c.from-first.result c.from-first.ensures in
+    omega (arith, few, one)
+
+pub truth-second-requires : goal.truth-second-requires
+truth-second-requires g c = kinds.exists_truth g.M.Monoid.combine g.M.Monoid.unit_of c.args.self.now c.in-Exists.test c.args.part.now c.in-Exists.is (kinds.added_known g.M.Monoid.combine g.M.Monoid.unit_of g.K.Ord.cmp c.args.key.now.value c.args.value.now.value c.args.self.now c.args.part.now c.requires.apart)
+
+pub truth-second-requires-in-ForAll : goal.truth-second-requires-in-ForAll
+truth-second-requires-in-ForAll g c = kinds.for_all_truth g.M.Monoid.combine g.M.Monoid.unit_of c.args.self.now c.in-ForAll.test c.args.part.now c.in-ForAll.is (kinds.added_known g.M.Monoid.combine g.M.Monoid.unit_of g.K.Ord.cmp c.args.key.now.value c.args.value.now.value c.args.self.now c.args.part.now c.requires.apart)
+
+pub put-requires : goal.put-requires
+put-requires g c = kinds.filter_room g.M.Monoid.combine g.M.Monoid.unit_of g.K.Ord.cmp c.args.key.now.value c.args.value.now.value c.args.self.now c.in-Filter.test c.in-Filter.field-1 c.args.part.now c.in-Filter.is c.requires.apart
+
+pub put-requires-in-MapValues : goal.put-requires-in-MapValues
+put-requires-in-MapValues g c = kinds.values_room g.M.Monoid.combine g.M.Monoid.unit_of g.K.Ord.cmp c.args.key.now.value c.args.value.now.value c.args.self.now c.in-MapValues.change c.in-MapValues.field-1 c.args.part.now c.in-MapValues.is c.requires.apart
+
+pub item-requires : goal.item-requires
+item-requires g c = kinds.item_of g.M.Monoid.combine g.M.Monoid.unit_of c.args.self.now c.in-Fold.monoid c.in-Fold.item c.args.part.now c.in-Fold.is (kinds.added_known g.M.Monoid.combine g.M.Monoid.unit_of g.K.Ord.cmp c.args.key.now.value c.args.value.now.value c.args.self.now c.args.part.now c.requires.apart)
+
+-- 2. The new part answers the map with the pair.
+pub returns-in-Count-clause-added : goal.returns-in-Count-clause-added
+returns-in-Count-clause-added g c =
+    adds.count_added g.M.Monoid.combine g.M.Monoid.unit_of g.K.Ord.cmp g.met.K.Ord.total c.args.key.now.value c.args.value.now.value c.args.self.now c.in-Count.test c.at.result c.args.part.now c.from-first.result c.number-second.result c.in-Count.is
+    (λ p means. c.at.ensures p means ∙ (λ i. p (c.deref.ensures i) (c.deref-in-Count.ensures i))) (c.from-first.ensures ∙ adds.number_of_test c.at.result) c.number-second.ensures
+
+pub returns-after-first-clause-added : goal.returns-after-first-clause-added
+returns-after-first-clause-added g c =
+    adds.exists_added g.M.Monoid.combine g.M.Monoid.unit_of g.K.Ord.cmp g.met.K.Ord.total c.args.key.now.value c.args.value.now.value c.args.self.now c.in-Exists.test c.at-first.result c.truth-second.result _ c.args.part.now c.in-Exists.is
+    (λ p means. c.at-first.ensures p means ∙ (λ i. p (c.deref-in-Exists.ensures i) (c.deref-in-Exists-2.ensures i))) c.truth-second.ensures (search rules)
+
+pub returns-after-first-2-clause-added : goal.returns-after-first-2-clause-added
+returns-after-first-2-clause-added g c =
+    adds.for_all_added g.M.Monoid.combine g.M.Monoid.unit_of g.K.Ord.cmp g.met.K.Ord.total c.args.key.now.value c.args.value.now.value c.args.self.now c.in-ForAll.test c.at-first-in-ForAll.result c.truth-second-in-ForAll.result _ c.args.part.now c.in-ForAll.is
+    (λ p means. c.at-first-in-ForAll.ensures p means ∙ (λ i. p (c.deref-in-ForAll.ensures i) (c.deref-in-ForAll-2.ensures i))) c.truth-second-in-ForAll.ensures (search rules)
+
+pub returns-in_ok-copy_of-in-Find-clause-added : goal.returns-in_ok-copy_of-in-Find-clause-added
+returns-in_ok-copy_of-in-Find-clause-added g c =
+    adds.find_added g.M.Monoid.combine g.M.Monoid.unit_of g.K.Ord.cmp g.met.K.Ord.total c.args.key.now.value c.args.value.now.value c.args.self.now c.in-Find.test c.at-in-Find.result c.in_ok-copy_of-in-Find.field-0 c.args.part.now c.in-Find.is c.if-at.true
+    (λ p means. c.at-in-Find.ensures p means ∙ (λ i. p (c.deref-in-Find.ensures i) (c.deref-in-Find-2.ensures i))) (λ i. (c.in_ok-copy_of-in-Find.ensures.0 i, c.in_ok-copy_of-in-Find.ensures.1 i))
+
+pub returns-else-at-clause-added : goal.returns-else-at-clause-added
+returns-else-at-clause-added g c =
+    adds.find_passed g.M.Monoid.combine g.M.Monoid.unit_of g.K.Ord.cmp g.met.K.Ord.total c.args.key.now.value c.args.value.now.value c.args.self.now c.in-Find.test c.at-in-Find.result c.args.part.now c.in-Find.is c.if-at.false
+    (λ p means. c.at-in-Find.ensures p means ∙ (λ i. p (c.deref-in-Find.ensures i) (c.deref-in-Find-2.ensures i)))
+
+pub returns-in_ok-put-in-Filter-clause-added : goal.returns-in_ok-put-in-Filter-clause-added
+returns-in_ok-put-in-Filter-clause-added g c =
+    let pair = c.in_ok-key-in-Filter in
+    adds.filter_added g.M.Monoid.combine g.M.Monoid.unit_of g.K.Ord.cmp g.met.K.Ord.total c.args.key.now.value c.args.value.now.value c.args.self.now c.in-Filter.test c.in-Filter.field-1 c.at-passes.result c.args.part.now c.put.new.self c.in-Filter.is c.if-passes.true
+    (λ p means. c.at-passes.ensures p means ∙ (λ i. p (c.deref-in-Filter.ensures i) (c.deref-in-Filter-2.ensures i)))
+    (adds.put_at g.K.Ord.cmp c.args.part.now c.put.new.self pair.key.value c.args.key.now.value pair.value.value c.args.value.now.value c.in_ok-put-in-Filter.ensures.put pair.ensures.0 pair.ensures.1)
+
+pub returns-else-passes-clause-added : goal.returns-else-passes-clause-added
+returns-else-passes-clause-added g c =
+    adds.filter_passed g.M.Monoid.combine g.M.Monoid.unit_of g.K.Ord.cmp g.met.K.Ord.total c.args.key.now.value c.args.value.now.value c.args.self.now c.in-Filter.test c.in-Filter.field-1 c.at-passes.result c.args.part.now c.in-Filter.is c.if-passes.false
+    (λ p means. c.at-passes.ensures p means ∙ (λ i. p (c.deref-in-Filter.ensures i) (c.deref-in-Filter-2.ensures i)))
+
+pub returns-in_ok-put-in-MapValues-clause-added : goal.returns-in_ok-put-in-MapValues-clause-added
+returns-in_ok-put-in-MapValues-clause-added g c =
+    let key = c.in_ok-try_clone-in-MapValues in
+    let made = c.in_ok-made-in-MapValues in
+    adds.values_added g.M.Monoid.combine g.M.Monoid.unit_of g.K.Ord.cmp g.met.K.Ord.total c.args.key.now.value c.args.value.now.value c.args.self.now c.in-MapValues.change c.in-MapValues.field-1 c.at-in-MapValues.result c.args.part.now c.put-in-MapValues.new.self c.in-MapValues.is
+    (λ p means. c.at-in-MapValues.ensures p means ∙ (λ i. p (c.deref-in-MapValues.ensures i) (c.deref-in-MapValues-2.ensures i)))
+    (adds.put_at g.K.Ord.cmp c.args.part.now c.put-in-MapValues.new.self key.field-0.value c.args.key.now.value made.made.value c.at-in-MapValues.result c.in_ok-put-in-MapValues.ensures.put key.ensures made.ensures.ok)
+
+pub returns-in-Fold-clause-added : goal.returns-in-Fold-clause-added
+returns-in-Fold-clause-added g c =
+    let laws = g.met.M.Monoid in
+    adds.fold_added g.M.Monoid.combine g.M.Monoid.unit_of g.K.Ord.cmp g.met.K.Ord.total c.args.key.now.value c.args.value.now.value g.M.Monoid.is_item laws.associative laws.commutative laws.neutral laws.closed laws.unit_is_item c.args.self.now c.in-Fold.monoid c.in-Fold.item c.at-in-Fold.result c.item.result.now c.op-folded.result c.args.part.now c.in-Fold.is
+    (λ p means. c.at-in-Fold.ensures p means ∙ (λ i. p (c.deref-in-Fold.ensures i) (c.deref-in-Fold-2.ensures i))) c.item.ensures c.op-folded.ensures

@@ -1,0 +1,5 @@
+pub mod Meanings
+pub mod Answers
+pub mod Parts
+pub mod Queries
+pub mod Told

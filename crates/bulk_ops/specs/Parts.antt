@@ -1,0 +1,44 @@
+-- What kind of part a part is.
+use Rattle.std.specs.Prelude.{◌≡◌, ◌<◌, length}
+use Rattle.std.specs.declared.cmp.Ordering.{Ordering}
+use Rattle.versions.specs.Map.{with_pair}
+use Rattle.std.specs.Arc.{arc_value}
+use Rattle.std.specs.declared.sync.Arc.{Arc}
+use Rattle.std.specs.declared.alloc.Global.{Global}
+use Rattle.bulk_ops.specs.declared.part.Part.{Part}
+use Rattle.bulk_ops.specs.declared.part.Part.TheVariants.{Number, Truth, Found, Made, Item}
+
+-- the pair of two shared pointers, wherever they lie
+abbrev pub pair_of : {K V : Type 0} → Arc K Global × Arc V Global → K × V
+pair_of x = (arc_value x.0, arc_value x.1)
+
+module _ {K V I : Type 0} where
+  abbrev pub HasNumber : Part K V I → Type 0
+  HasNumber (Number n) = Unit {0}
+  HasNumber part = ⊥
+
+  abbrev pub HasTruth : Part K V I → Type 0
+  HasTruth (Truth b) = Unit {0}
+  HasTruth part = ⊥
+
+  abbrev pub HasPair : Part K V I → Type 0
+  HasPair (Found x) = Unit {0}
+  HasPair part = ⊥
+
+  abbrev pub HasMap : Part K V I → Type 0
+  HasMap (Made v) = Unit {0}
+  HasMap part = ⊥
+
+  abbrev pub HasItem : Part K V I → Type 0
+  HasItem (Item a) = Unit {0}
+  HasItem part = ⊥
+
+  -- the part made a map that has fewer pairs than it may have
+  abbrev pub HasRoom : Part K V I → Type 0
+  HasRoom (Made v) = length v.entries < v.limit
+  HasRoom part = ⊥
+
+  -- the new part's map is the old one's with the pair
+  abbrev pub IsPut : (K → K → Ordering) → Part K V I → K → V → Part K V I → Type 0
+  IsPut R (Made v) k x (Made w) = (w.entries ≡ with_pair R v.entries k x) × (w.limit ≡ v.limit) × (w.stamp ≡ v.stamp)
+  IsPut R old k x new = ⊥

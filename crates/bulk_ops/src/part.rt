@@ -1,0 +1,110 @@
+//! What is known of some of the pairs of a map.
+ghost use Rattle.std.specs.Prelude.{◌≡◌, [], IfOk, OnErr, OnOk};
+ghost use Rattle.bulk_ops.specs.Parts.{HasItem, HasMap, HasNumber, HasPair, HasRoom, HasTruth, IsPut};
+ghost use Rattle.versions.specs.declared.version.TheConstants.{MOST_PAIRS};
+
+use hash_path::PathKey;
+use std::alloc::Global;
+use std::sync::Arc;
+use trie_node::{NoMemory, Stamp};
+use versions::{MOST_PAIRS, Refusal, Version};
+
+/// A pair of a map.
+pub type Pair<K, V> = (Arc<K>, Arc<V>);
+
+/// What a query is answered of some of the pairs.
+#[derive(Drop)]
+pub enum Part<K: PathKey, V, I> {
+    /// How many pass.
+    Number(u64),
+    /// Whether some pass, or all.
+    Truth(bool),
+    /// A pair that passes.
+    Found(Option<Pair<K, V>>),
+    /// The map that is made of them.
+    Made(Version<K, V>),
+    /// Their items combined.
+    Item(I),
+}
+
+impl<K: PathKey + Drop, V: Drop, I> Part<K, V, I> {
+    /// The number of a part that has one.
+    pub fn number(&self) -> u64
+        requires { HasNumber self.now }
+        ensures { self.now ≡ Part.Number result }
+    {
+        match self {
+            Part::Number(number) => *number,
+            _ => unreachable!(),
+        }
+    }
+
+    /// The truth of a part that has one.
+    pub fn truth(&self) -> bool
+        requires { HasTruth self.now }
+        ensures { self.now ≡ Part.Truth result }
+    {
+        match self {
+            Part::Truth(truth) => *truth,
+            _ => unreachable!(),
+        }
+    }
+
+    /// The pair of a part that may have found one.
+    pub fn found(&self) -> &Option<Pair<K, V>>
+        requires { HasPair self.now }
+        ensures { self.now ≡ Part.Found result.now }
+    {
+        match self {
+            Part::Found(found) => found,
+            _ => unreachable!(),
+        }
+    }
+
+    /// The map of a part that made one.
+    pub fn map(&self) -> &Version<K, V>
+        requires { HasMap self.now }
+        ensures { self.now ≡ Part.Made result.now }
+    {
+        match self {
+            Part::Made(map) => map,
+            _ => unreachable!(),
+        }
+    }
+
+    /// The item of a part that has one.
+    pub fn item(&self) -> &I
+        requires { HasItem self.now }
+        ensures { self.now ≡ Part.Item result.now }
+    {
+        match self {
+            Part::Item(item) => item,
+            _ => unreachable!(),
+        }
+    }
+
+    /// Puts a pair into the map of a part that made one. After `NoMemory` the part is as before.
+    pub(crate) fn put(&mut self, alloc: Global, key: Arc<K>, value: Arc<V>) -> Result<(), NoMemory>
+        requires { HasRoom self.old }
+        ensures put { OnOk result (IsPut K.cmp self.old key.value value.value self.new) }
+        ensures err { OnErr result (self.new ≡ self.old) }
+    {
+        match self {
+            Part::Made(map) => match map.put(alloc, key, value) {
+                Ok(_) => Ok(()),
+                Err(Refusal::NoMemory) => Err(NoMemory),
+                Err(_) => unreachable!(),
+            },
+            _ => unreachable!(),
+        }
+    }
+}
+
+/// A map of a part, with no pairs: it has the largest limit, and no generation's stamp.
+pub(crate) fn no_pairs<K: PathKey + Drop, V: Drop>(alloc: Global) -> Result<Version<K, V>, NoMemory>
+    ensures entries { IfOk result (λ map. map.entries ≡ []) }
+    ensures limit { IfOk result (λ map. map.limit ≡ MOST_PAIRS) }
+    ensures stamp { IfOk result (λ map. map.stamp ≡ 0) }
+{
+    Version::empty(alloc, MOST_PAIRS, Stamp::LOOSE)
+}

@@ -1,0 +1,176 @@
+//! How queries are worked: a query is an operation on whole maps.
+ghost use Rattle.std.specs.Prelude.{◌≡◌, IfOk, option_map};
+ghost use Rattle.std.specs.Option.{option_or};
+ghost use Rattle.bulk_ops.specs.Parts.{pair_of};
+ghost use Rattle.bulk_ops.specs.Queries.{is_settled};
+
+use crate::closure::PairFn;
+use crate::part::{Pair, Part, no_pairs};
+use crate::query::Query;
+use combiner::{Bulk, Monoid, merge};
+use hash_path::PathKey;
+use std::alloc::Global;
+use std::sync::Arc;
+use trie_node::NoMemory;
+
+impl<
+    K: PathKey + Drop,
+    V: Drop,
+    T: PairFn<K, V, bool>,
+    F: PairFn<K, V, V>,
+    M: Monoid,
+    G: PairFn<K, V, M::Item>,
+> Bulk<K, V> for Query<K, V, T, F, M, G> {
+    type Part = Part<K, V, M::Item>;
+
+    ghost use Rattle.bulk_ops.specs.Queries.{DecidesQuery, IsReady, PartAnswers};
+
+    ghost answers = { λ q m part. PartAnswers M.combine M.unit_of q m part };
+
+    ghost decides = { λ q m. DecidesQuery M.combine M.unit_of q m };
+
+    ghost ready = { λ q. IsReady q };
+
+    fn unit(&self, alloc: Global) -> Result<Part<K, V, M::Item>, NoMemory> {
+        Ok(match self {
+            Query::Count(_) => Part::Number(0),
+            Query::Exists(_) => Part::Truth(false),
+            Query::ForAll(_) => Part::Truth(true),
+            Query::Find(_) => Part::Found(None),
+            Query::Filter(_, _) => Part::Made(no_pairs(alloc)?),
+            Query::MapValues(_, _) => Part::Made(no_pairs(alloc)?),
+            Query::Fold(monoid, _) => Part::Item(monoid.unit()),
+        })
+    }
+
+    fn one(
+        &self,
+        alloc: Global,
+        key: &Arc<K>,
+        value: &Arc<V>,
+    ) -> Result<Part<K, V, M::Item>, NoMemory> {
+        let mut part = self.unit(alloc)?;
+        self.add(alloc, &mut part, key, value)?;
+        Ok(part)
+    }
+
+    fn join(
+        &self,
+        alloc: Global,
+        a: &Part<K, V, M::Item>,
+        b: &Part<K, V, M::Item>,
+    ) -> Result<Part<K, V, M::Item>, NoMemory> {
+        match self {
+            Query::Count(_) => {
+                let (first, second) = (a.number(), b.number());
+                Ok(Part::Number(first + second))
+            }
+            Query::Exists(_) => {
+                let (first, second) = (a.truth(), b.truth());
+                Ok(Part::Truth(first || second))
+            }
+            Query::ForAll(_) => {
+                let (first, second) = (a.truth(), b.truth());
+                Ok(Part::Truth(first && second))
+            }
+            Query::Find(_) => Ok(Part::Found(first_of(a.found(), b.found())?)),
+            Query::Filter(_, _) => Ok(Part::Made(merge(alloc, a.map(), b.map())?)),
+            Query::MapValues(_, _) => Ok(Part::Made(merge(alloc, a.map(), b.map())?)),
+            Query::Fold(monoid, _) => Ok(Part::Item(monoid.op(a.item(), b.item()))),
+        }
+    }
+
+    fn settled(&self, part: &Part<K, V, M::Item>) -> bool {
+        is_settled(self, part)
+    }
+
+    fn add(
+        &self,
+        alloc: Global,
+        part: &mut Part<K, V, M::Item>,
+        key: &Arc<K>,
+        value: &Arc<V>,
+    ) -> Result<(), NoMemory> {
+        match self {
+            Query::Count(test) => {
+                let (first, second) = (u64::from(test.at(key, value)), part.number());
+                *part = Part::Number(first + second);
+                Ok(())
+            }
+            Query::Exists(test) => {
+                let (first, second) = (test.at(key, value), part.truth());
+                *part = Part::Truth(first || second);
+                Ok(())
+            }
+            Query::ForAll(test) => {
+                let (first, second) = (test.at(key, value), part.truth());
+                *part = Part::Truth(first && second);
+                Ok(())
+            }
+            Query::Find(test) => {
+                if test.at(key, value) {
+                    *part = Part::Found(Some(copy_of(key, value)?));
+                }
+                Ok(())
+            }
+            Query::Filter(test, _) => {
+                let passes = test.at(key, value);
+                if passes {
+                    let (key, value) = copy_of(key, value)?;
+                    part.put(alloc, key, value)?;
+                }
+                Ok(())
+            }
+            Query::MapValues(change, _) => {
+                let made = Arc::new(alloc, change.at(key, value))?;
+                part.put(alloc, Arc::try_clone(key)?, made)?;
+                Ok(())
+            }
+            Query::Fold(monoid, item) => {
+                let folded = monoid.op(&item.at(key, value), part.item());
+                *part = Part::Item(folded);
+                Ok(())
+            }
+        }
+    }
+}
+
+// Whether the part has the query's answer, whatever other pairs there are.
+fn is_settled<
+    K: PathKey,
+    V,
+    T: PairFn<K, V, bool>,
+    F: PairFn<K, V, V>,
+    M: Monoid,
+    G: PairFn<K, V, M::Item>,
+>(query: &Query<K, V, T, F, M, G>, part: &Part<K, V, M::Item>) -> bool
+    ensures { result ≡ is_settled query.now part.now }
+{
+    match (query, part) {
+        (Query::Exists(_), Part::Truth(truth)) => *truth,
+        (Query::ForAll(_), Part::Truth(truth)) => !*truth,
+        (Query::Find(_), Part::Found(found)) => found.is_some(),
+        _ => false,
+    }
+}
+
+// Another handle on the pair.
+fn copy_of<K: Drop, V: Drop>(key: &Arc<K>, value: &Arc<V>) -> Result<Pair<K, V>, NoMemory>
+    ensures { IfOk result (λ pair. (pair.0.value ≡ key.now.value) × (pair.1.value ≡ value.now.value)) }
+{
+    Ok((Arc::try_clone(key)?, Arc::try_clone(value)?))
+}
+
+// The first of the pairs, if there is one, or else the second.
+fn first_of<K: Drop, V: Drop>(
+    a: &Option<Pair<K, V>>,
+    b: &Option<Pair<K, V>>,
+) -> Result<Option<Pair<K, V>>, NoMemory>
+    ensures { IfOk result (λ pair. option_map pair_of pair ≡ option_or (option_map pair_of a.now) (option_map pair_of b.now)) }
+{
+    match (a, b) {
+        (Some((key, value)), _) => Ok(Some(copy_of(key, value)?)),
+        (None, Some((key, value))) => Ok(Some(copy_of(key, value)?)),
+        (None, None) => Ok(None),
+    }
+}
