@@ -113,7 +113,8 @@ impl<K: PathKey + Drop, V: Drop> Held<K, V> {
     /// Removes the key where the root stands.
     pub fn remove_in(&mut self, alloc: Global, key: &K, stamp: Stamp) -> Result<(), NoMemory> {
         root_is_map::<K, V>();
-        trie_node::remove_in(alloc, &mut self.root, key, stamp)
+        trie_node::remove_in(alloc, &mut self.root, key, stamp)?;
+        Ok(())
     }
 
     /// The root of both maps together, where the value of this one wins.
