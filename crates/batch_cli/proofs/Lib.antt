@@ -1,12 +1,4 @@
-pub mod NumberLemmas
-pub mod FieldLemmas
-pub mod LineLemmas
-pub mod FaultLemmas
-pub mod WordLemmas
-pub mod OneFault
-pub mod ScriptLemmas
-pub mod ReadLemmas
 pub mod Ends
 pub mod RunLemmas
-pub mod GrammarLemmas
+pub mod CommandLineLemmas
 pub mod OneRun

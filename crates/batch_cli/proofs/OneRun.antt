@@ -1,18 +1,18 @@
--- A command has one answer in a state, and a script one output.
-use Rattle.std.proofs.Common.{◌≡◌, ℕ, ◌+◌, ◌∙◌, ◌⊎◌, List, [], ◌∷◌, ◌++◌, Some, None, inl, inr, refl, sym, ap, subst}
+-- A statement has one answer in a state, and a script one output.
+use Rattle.std.proofs.Common.{◌≡◌, Bool, true, false, ℕ, ◌+◌, ◌∙◌, ◌⊎◌, List, [], ◌∷◌, ◌++◌, Some, None, inl, inr, refl, sym, ap, subst}
 use Rattle.std.specs.Prelude.{ℤ, if◌then◌else◌}
 use Rattle.versions.specs.declared.refusal.Refusal.{Refusal}
 use Rattle.std.specs.Ordering.{nat_cmp}
 use Rattle.versions.specs.Map.{without}
 use Rattle.versions.specs.Commands as commands
 use Rattle.handles.specs.Machine.{Step, Granted, refusal, is_entry, live_with, held_by, open_handle, snapshot, drop_handle, on, made, replied, viewed, frozen, finished, unfinished, refused, worked}
-use Rattle.batch_cli.specs.Replies.{line_text}
+use Rattle.script.specs.Replies.{line_text}
 use Rattle.batch_cli.specs.Events.{program, ProgramState, ProgramRequest, ProgramOutcome, Event, request_for, reply_with, Ends, IsRun, MayAnswer}
 use Rattle.batch_cli.specs.Runs.{LineAnswer, EachMakes, events_of, text_for}
-use Rattle.batch_cli.specs.declared.command.Command.{Command}
-use Rattle.batch_cli.specs.declared.command.Command.TheVariants.{Open, Snap, Drop, Get, Put, PutIfAbsent, Replace, ReplaceIf, Remove, RemoveIf, GetOrElse, Size, Clear}
-use Rattle.batch_cli.specs.declared.command.CommandLine.{CommandLine}
-use Rattle.batch_cli.specs.declared.reply.LineReply.{LineReply}
+use Rattle.script.specs.declared.statement.Statement.{Statement}
+use Rattle.script.specs.declared.statement.Statement.TheVariants.{Open, GetOrElse}
+use Rattle.script.specs.declared.statement.CommandLine.{CommandLine}
+use Rattle.script.specs.declared.reply.LineReply.{LineReply}
 use Rattle.batch_cli.proofs.Ends.{missing_or_done}
 
 -- the state behind a refusal
@@ -91,20 +91,27 @@ snapshot_once h to s t u o p g k = let a = one_snapshot s h to o t g in let b = 
 drop_once : (h : ℕ) → OneGrant (drop_handle h)
 drop_once h s t u o p g k = let a = one_drop s h o t g in let b = one_drop s h p u k in (a.0 ∙ sym b.0, a.1 ∙ sym b.1)
 
-one_grant : (c : Command) → OneGrant (request_for c)
-one_grant (Open h) = open_once h
-one_grant (Snap h to) = snapshot_once h to
-one_grant (Drop h) = drop_once h
-one_grant (Get h key) = one_command h (commands.get key)
-one_grant (Put h key v) = one_command h (commands.put key v)
-one_grant (PutIfAbsent h key v) = one_command h (commands.put_if_absent key v)
-one_grant (Replace h key v) = one_command h (commands.replace key v)
-one_grant (ReplaceIf h key was v) = one_command h (commands.replace_if key was v)
-one_grant (Remove h key) = one_command h (commands.remove key)
-one_grant (RemoveIf h key v) = one_command h (commands.remove_if key v)
-one_grant (GetOrElse h key v) = one_command h (commands.get key)
-one_grant (Size h) = one_command h commands.size
-one_grant (Clear h) = one_command h commands.clear
+-- whether the request is one of these
+abbrev is_granted_once : ProgramRequest → Bool
+is_granted_once (open_handle h) = true
+is_granted_once (snapshot h to) = true
+is_granted_once (drop_handle h) = true
+is_granted_once (on h c) = true
+is_granted_once _ = false
+
+granted_once : (r : ProgramRequest) → is_granted_once r ≡ true → OneGrant r
+granted_once (open_handle h) e = open_once h
+granted_once (snapshot h to) e = snapshot_once h to
+granted_once (drop_handle h) e = drop_once h
+granted_once (on h c) e = one_command h c
+granted_once r e = λ s t u o p g k. cc
+
+asks_once : (c : Statement) → is_granted_once (request_for c) ≡ true
+asks_once (Open h) = refl
+asks_once c = refl
+
+one_grant : (c : Statement) → OneGrant (request_for c)
+one_grant c = granted_once (request_for c) (asks_once c)
 
 one_settled : (r : ProgramRequest) → OneGrant r → (s t u : ProgramState) (o p : ProgramOutcome) → Settled s r o t → Settled s r p u → (o ≡ p) × (t ≡ u)
 one_settled r one s t u o p (inl (e, a, b, d)) (inl (f, a', b', d')) =
@@ -120,7 +127,7 @@ one_step : (r : ProgramRequest) → OneGrant r → (s t u : ProgramState) (o p :
 one_step r one s t u o p a b = one_settled r one s t u o p (settled s r o t a) (settled s r p u b)
 
 -- what a command does after its first event is one
-one_end : (c : Command) (o : ProgramOutcome) (s t u : ProgramState) (events others : List Event) (a b : LineReply)
+one_end : (c : Statement) (o : ProgramOutcome) (s t u : ProgramState) (events others : List Event) (a b : LineReply)
     → Ends c o events a → Ends c o others b → IsRun s events t → IsRun s others u → (a ≡ b) × (t ≡ u)
 one_end c o s t u events others a b ends too run ran =
     elim (missing_or_done c o) [
@@ -132,8 +139,8 @@ one_end c o s t u events others a b ends too run ran =
           let same : s ≡ u = rw there.0 at ran in
           (cc, sym stays ∙ same)
       | inl missing ↦
-          let here : Ends (GetOrElse missing.handle missing.key missing.value) (replied (commands.old None)) events a = rw (missing.command_is, missing.nothing) at ends in
-          let there : Ends (GetOrElse missing.handle missing.key missing.value) (replied (commands.old None)) others b = rw (missing.command_is, missing.nothing) at too in
+          let here : Ends (GetOrElse missing.handle missing.key missing.value) (replied (commands.old None)) events a = rw (missing.statement_is, missing.nothing) at ends in
+          let there : Ends (GetOrElse missing.handle missing.key missing.value) (replied (commands.old None)) others b = rw (missing.statement_is, missing.nothing) at too in
           let request = on missing.handle (commands.put_if_absent missing.key missing.value) in
           let step : IsRun s ((request, here.0) ∷ []) t = rw here.1 at run in
           let trod : IsRun s ((request, there.0) ∷ []) u = rw there.1 at ran in
@@ -142,7 +149,7 @@ one_end c o s t u events others a b ends too run ran =
           (cc, sym step.2 ∙ same.1 ∙ trod.2)
     ]
 
-one_answer : (c : Command) (s t u : ProgramState) (a b : LineReply) → MayAnswer s c a t → MayAnswer s c b u → (a ≡ b) × (t ≡ u)
+one_answer : (c : Statement) (s t u : ProgramState) (a b : LineReply) → MayAnswer s c a t → MayAnswer s c b u → (a ≡ b) × (t ≡ u)
 one_answer c s t u a b (events, (o, later, are, ends), run) (others, (p, further, were, too), ran) =
     let step : IsRun s ((request_for c, o) ∷ later) t = rw are at run in
     let trod : IsRun s ((request_for c, p) ∷ further) u = rw were at ran in
@@ -164,7 +171,7 @@ one_text (line ∷ lines) (a ∷ xs) [] s t u ma mb run ran = absurd mb
 one_text (line ∷ lines) (a ∷ xs) (b ∷ ys) s t u ma mb run ran =
     let here = run_split s t a.events (events_of xs) run in
     let there = run_split s u b.events (events_of ys) ran in
-    let same = one_answer line.command s here.0 there.0 a.reply b.reply (a.events, ma.0, here.1) (b.events, mb.0, there.1) in
+    let same = one_answer line.statement s here.0 there.0 a.reply b.reply (a.events, ma.0, here.1) (b.events, mb.0, there.1) in
     let from : IsRun here.0 (events_of ys) u = (let P : ProgramState → Type 0 = λ x. IsRun x (events_of ys) u in subst P (sym same.1) there.2) in
     let rest : text_for lines xs ≡ text_for lines ys = one_text lines xs ys here.0 t u ma.1 mb.1 here.2 from in
     ap (λ (r : LineReply). line_text line.number r ++ text_for lines xs) same.0 ∙ ap (λ (more : List ℕ). line_text line.number b.reply ++ more) rest

@@ -7,14 +7,14 @@ use Rattle.versions.specs.Commands.{get, put_if_absent, old, done, count, cleare
 use Rattle.handles.specs.Machine.{Step, on, made, replied, viewed, frozen, finished, unfinished, refused, worked}
 use Rattle.handles.specs.Views.{IsStep, call_outcome, outcome_of, lacks_memory}
 use Rattle.handles.specs.Laws.{AnswersAreSteps}
-use Rattle.batch_cli.specs.Replies.{line_text}
+use Rattle.script.specs.Replies.{line_text}
 use Rattle.batch_cli.specs.Events.{program, ProgramState, ProgramRequest, ProgramOutcome, Event, request_for, reply_to, Ends, Makes, IsRun, MayAnswer, MayReply, MayStore}
 use Rattle.batch_cli.specs.Runs.{LineAnswer, EachMakes, events_of, text_for, Answers}
-use Rattle.batch_cli.specs.declared.command.Command.{Command}
-use Rattle.batch_cli.specs.declared.command.Command.TheVariants.{GetOrElse}
-use Rattle.batch_cli.specs.declared.command.CommandLine.{CommandLine}
-use Rattle.batch_cli.specs.declared.reply.LineReply.{LineReply}
-use Rattle.batch_cli.specs.declared.reply.LineReply.TheVariants.{Absent}
+use Rattle.script.specs.declared.statement.Statement.{Statement}
+use Rattle.script.specs.declared.statement.Statement.TheVariants.{GetOrElse}
+use Rattle.script.specs.declared.statement.CommandLine.{CommandLine}
+use Rattle.script.specs.declared.reply.LineReply.{LineReply}
+use Rattle.script.specs.declared.reply.LineReply.TheVariants.{Absent}
 use Rattle.batch_cli.proofs.Ends.{missing_or_done}
 
 -- what the table answered is an event of the machine
@@ -39,24 +39,24 @@ absent unfinished e = cc
 absent (refused refusal) e = cc
 absent worked e = cc
 
--- the line of a command that is no getorelse or found something
-pub done_at_once : (s t : ProgramState) (command : Command) (request : ProgramRequest) (reply : LineReply)
-    → ((handle : ℕ) (key : List ℕ) (value : ℤ) → command ≡ GetOrElse handle key value → reply ≡ Absent → ⊥) → request ≡ request_for command → MayReply s request reply t → MayAnswer s command reply t
-done_at_once s t command request reply other asked (outcome, step, shown) =
-    let ends : Ends command outcome [] reply =
-    elim (missing_or_done command outcome) [
-      | inl missing ↦ let none : Some Absent ≡ Some reply = sym (ap reply_to missing.nothing) ∙ shown in absurd (other missing.handle missing.key missing.value missing.command_is (cc))
+-- the line of a statement that is no getorelse or found something
+pub done_at_once : (s t : ProgramState) (statement : Statement) (request : ProgramRequest) (reply : LineReply)
+    → ((handle : ℕ) (key : List ℕ) (value : ℤ) → statement ≡ GetOrElse handle key value → reply ≡ Absent → ⊥) → request ≡ request_for statement → MayReply s request reply t → MayAnswer s statement reply t
+done_at_once s t statement request reply other asked (outcome, step, shown) =
+    let ends : Ends statement outcome [] reply =
+    elim (missing_or_done statement outcome) [
+      | inl missing ↦ let none : Some Absent ≡ Some reply = sym (ap reply_to missing.nothing) ∙ shown in absurd (other missing.handle missing.key missing.value missing.statement_is (cc))
       | inr (from, to) ↦ to reply shown
     ] in
-    let made_step : Step program s (request_for command) outcome t = rw asked at step in
-    ((request_for command, outcome) ∷ [], (outcome, [], refl, ends), (t, made_step, refl))
+    let made_step : Step program s (request_for statement) outcome t = rw asked at step in
+    ((request_for statement, outcome) ∷ [], (outcome, [], refl, ends), (t, made_step, refl))
 
 -- the line of a getorelse that found nothing
-pub stored_then : {E : Type 0} (s m t : ProgramState) (command : Command) (request : ProgramRequest) (handle : ℕ) (key : List ℕ) (value : ℤ) (reply : LineReply) (result : Result LineReply E)
-    → command ≡ GetOrElse handle key value → reply ≡ Absent → request ≡ request_for command → MayReply s request reply m
-    → IfOk result (λ reply. MayStore m handle key value reply t) → IfOk result (λ reply. MayAnswer s command reply t)
-stored_then s m t command request handle key value reply (Err e) is nothing asked replies stores = tt
-stored_then s m t command request handle key value reply (Ok last) is nothing asked (first, step, shown) (second, later, told) =
+pub stored_then : {E : Type 0} (s m t : ProgramState) (statement : Statement) (request : ProgramRequest) (handle : ℕ) (key : List ℕ) (value : ℤ) (reply : LineReply) (result : Result LineReply E)
+    → statement ≡ GetOrElse handle key value → reply ≡ Absent → request ≡ request_for statement → MayReply s request reply m
+    → IfOk result (λ reply. MayStore m handle key value reply t) → IfOk result (λ reply. MayAnswer s statement reply t)
+stored_then s m t statement request handle key value reply (Err e) is nothing asked replies stores = tt
+stored_then s m t statement request handle key value reply (Ok last) is nothing asked (first, step, shown) (second, later, told) =
     let none : first ≡ replied (old None) = absent first (shown ∙ ap (λ (r : LineReply). Some r) nothing) in
     let get_step : Step program s (on handle (get key)) (replied (old None)) m = rw (asked, is, none) at step in
     rw is ((on handle (get key), replied (old None)) ∷ (on handle (put_if_absent key value), second) ∷ [], (replied (old None), (on handle (put_if_absent key value), second) ∷ [], refl, (second, refl, told)), (m, get_step, (t, later, refl)))
@@ -66,7 +66,7 @@ run_append : (s t u : ProgramState) (es fs : List Event) → IsRun s es t → Is
 run_append s t u [] fs run more = let P : ProgramState → Type 0 = λ x. IsRun x fs u in subst P (sym run) more
 run_append s t u (e ∷ es) fs run more = (run.0, run.1, run_append run.0 t u es fs run.2 more)
 
-makes_more : (lines : List CommandLine) (answers : List LineAnswer) (line : CommandLine) (answer : LineAnswer) → EachMakes lines answers → Makes line.command answer.events answer.reply → EachMakes (lines ++ line ∷ []) (answers ++ answer ∷ [])
+makes_more : (lines : List CommandLine) (answers : List LineAnswer) (line : CommandLine) (answer : LineAnswer) → EachMakes lines answers → Makes line.statement answer.events answer.reply → EachMakes (lines ++ line ∷ []) (answers ++ answer ∷ [])
 makes_more [] [] line answer h m = (m, tt)
 makes_more [] (a ∷ answers) line answer h m = absurd h
 makes_more (l ∷ lines) [] line answer h m = absurd h
@@ -87,7 +87,7 @@ pub answers_none : (s : ProgramState) → Answers [] [] s s
 answers_none s = record { answers = []; made = tt; run = refl; written = refl }
 
 -- one line more
-pub answers_more : (lines : List CommandLine) (text : List ℕ) (s t u : ProgramState) (line : CommandLine) (reply : LineReply) → Answers lines text s t → MayAnswer t line.command reply u → Answers (lines ++ line ∷ []) (text ++ line_text line.number reply) s u
+pub answers_more : (lines : List CommandLine) (text : List ℕ) (s t u : ProgramState) (line : CommandLine) (reply : LineReply) → Answers lines text s t → MayAnswer t line.statement reply u → Answers (lines ++ line ∷ []) (text ++ line_text line.number reply) s u
 answers_more lines text s t u line reply h m =
     let answer : LineAnswer = record { events = m.0; reply = reply } in
     record {

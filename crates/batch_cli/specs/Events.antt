@@ -1,18 +1,18 @@
--- What a command line asks of the machine of handles, and how it is answered.
+-- What a statement asks of the machine of handles, and how it is answered.
 use Rattle.std.specs.Prelude.{◌≡◌, ℕ, ℤ, List, [], ◌∷◌, Option, Some, None, map}
 use Rattle.std.specs.Ordering.{int_eq}
 use Rattle.versions.specs.Commands.{get, put, put_if_absent, replace, replace_if, remove, remove_if, size, clear, old, done, count, cleared}
 use Rattle.handles.specs.Machine.{Kind, State, Request, open_handle, snapshot, drop_handle, on, Outcome, made, replied, refused, Step, Run}
-use Rattle.handles.specs.Views.{without_queries}
-use Rattle.batch_cli.specs.Keys.{bytes_cmp}
-use Rattle.batch_cli.specs.declared.command.Command.{Command}
-use Rattle.batch_cli.specs.declared.command.Command.TheVariants.{Open, Snap, Drop, Get, Put, PutIfAbsent, Replace, ReplaceIf, Remove, RemoveIf, GetOrElse, Size, Clear}
-use Rattle.batch_cli.specs.declared.reply.LineReply.{LineReply}
-use Rattle.batch_cli.specs.declared.reply.LineReply.TheVariants as replies
+use Rattle.handles.specs.Views.{machine}
+use Rattle.keys.specs.Order.{bytes_cmp}
+use Rattle.script.specs.declared.statement.Statement.{Statement}
+use Rattle.script.specs.declared.statement.Statement.TheVariants.{Open, Snap, Drop, Get, Put, PutIfAbsent, Replace, ReplaceIf, Remove, RemoveIf, GetOrElse, Size, Clear}
+use Rattle.script.specs.declared.reply.LineReply.{LineReply}
+use Rattle.script.specs.declared.reply.LineReply.TheVariants as replies
 
 -- the machine of the program: its keys are in the order of their bytes, and its values are numbers
 abbrev pub program : Kind (List ℕ) ℤ (Unit {0}) (Unit {0}) (Unit {0})
-program = without_queries bytes_cmp int_eq
+program = machine bytes_cmp int_eq
 
 -- a state of that machine
 abbrev pub ProgramState : Type 0
@@ -30,8 +30,8 @@ ProgramOutcome = Outcome (List ℕ) ℤ (Unit {0})
 abbrev pub Event : Type 0
 Event = ProgramRequest × ProgramOutcome
 
--- the request of a command; of `getorelse`, which may make two, the first
-abbrev pub request_for : Command → ProgramRequest
+-- the request of a statement; of `getorelse`, which may make two, the first
+abbrev pub request_for : Statement → ProgramRequest
 request_for (Open handle) = open_handle handle
 request_for (Snap handle target) = snapshot handle target
 request_for (Drop handle) = drop_handle handle
@@ -62,23 +62,23 @@ abbrev pub reply_with : ℤ → ProgramOutcome → Option LineReply
 reply_with value (replied (old None)) = Some (replies.Found value)
 reply_with value outcome = reply_to outcome
 
--- after a first event with this outcome the command makes these events besides, and its line has this reply:
--- a `getorelse` whose get found nothing makes a put_if_absent, and any other command is done
-abbrev pub Ends : Command → ProgramOutcome → List Event → LineReply → Type 0
+-- after a first event with this outcome the statement makes these events besides, and its line has this reply:
+-- a `getorelse` whose get found nothing makes a put_if_absent, and any other statement is done
+abbrev pub Ends : Statement → ProgramOutcome → List Event → LineReply → Type 0
 Ends (GetOrElse handle key value) (replied (old None)) events reply = (outcome : ProgramOutcome) × (events ≡ (on handle (put_if_absent key value), outcome) ∷ []) × (reply_with value outcome ≡ Some reply)
-Ends command outcome events reply = (events ≡ []) × (reply_to outcome ≡ Some reply)
+Ends statement outcome events reply = (events ≡ []) × (reply_to outcome ≡ Some reply)
 
--- the command makes these events, one after another, and its line has this reply
-abbrev pub Makes : Command → List Event → LineReply → Type 0
-Makes command events reply = (outcome : ProgramOutcome) × (later : List Event) × (events ≡ (request_for command, outcome) ∷ later) × Ends command outcome later reply
+-- the statement makes these events, one after another, and its line has this reply
+abbrev pub Makes : Statement → List Event → LineReply → Type 0
+Makes statement events reply = (outcome : ProgramOutcome) × (later : List Event) × (events ≡ (request_for statement, outcome) ∷ later) × Ends statement outcome later reply
 
 -- the events are a run of the machine from one state to the other
 abbrev pub IsRun : ProgramState → List Event → ProgramState → Type 0
 IsRun s events t = Run program s (map (λ e. e.0) events) (map (λ e. e.1) events) t
 
--- the machine may answer the command so, and is in the second state then
-abbrev pub MayAnswer : ProgramState → Command → LineReply → ProgramState → Type 0
-MayAnswer s command reply t = (events : List Event) × Makes command events reply × IsRun s events t
+-- the machine may answer the statement so, and is in the second state then
+abbrev pub MayAnswer : ProgramState → Statement → LineReply → ProgramState → Type 0
+MayAnswer s statement reply t = (events : List Event) × Makes statement events reply × IsRun s events t
 
 -- the same of one request
 abbrev pub MayReply : ProgramState → ProgramRequest → LineReply → ProgramState → Type 0

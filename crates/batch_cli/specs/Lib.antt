@@ -1,11 +1,3 @@
-pub mod Keys
-pub mod Lines
-pub mod Numbers
-pub mod Verbs
-pub mod Commands
-pub mod Faults
-pub mod Scripts
-pub mod Replies
 pub mod Events
 pub mod Runs
-pub mod Grammar
+pub mod CommandLine

@@ -3,11 +3,11 @@ use Rattle.std.specs.Prelude.{◌≡◌, ℕ, List, [], ◌∷◌, ◌++◌, Opt
 use Rattle.std.specs.Io.KnownBytes.{Appends}
 use Rattle.std.specs.List.{flat_map}
 use Rattle.handles.specs.Machine.{nothing}
-use Rattle.batch_cli.specs.Replies.{line_text}
-use Rattle.batch_cli.specs.Scripts.{Spells}
+use Rattle.script.specs.Replies.{line_text}
+use Rattle.script.specs.Scripts.{Spells}
 use Rattle.batch_cli.specs.Events.{ProgramState, Event, Makes, IsRun}
-use Rattle.batch_cli.specs.declared.command.CommandLine.{CommandLine}
-use Rattle.batch_cli.specs.declared.reply.LineReply.{LineReply}
+use Rattle.script.specs.declared.statement.CommandLine.{CommandLine}
+use Rattle.script.specs.declared.reply.LineReply.{LineReply}
 
 -- the events of a command line, and its reply
 pub record LineAnswer : Type 0 where
@@ -17,7 +17,7 @@ pub record LineAnswer : Type 0 where
 -- each line makes the events of its answer, and has its reply
 abbrev pub EachMakes : List CommandLine → List LineAnswer → Type 0
 EachMakes [] [] = Unit {0}
-EachMakes (line ∷ lines) (answer ∷ answers) = Makes line.command answer.events answer.reply × EachMakes lines answers
+EachMakes (line ∷ lines) (answer ∷ answers) = Makes line.statement answer.events answer.reply × EachMakes lines answers
 EachMakes _ _ = ⊥
 
 -- the events of all lines, in order

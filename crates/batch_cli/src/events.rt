@@ -1,29 +1,31 @@
-//! The events of command lines: what each asks of the table, and how that is answered.
+//! The events of statements: what each asks of the table, and how that is answered.
 
 ghost use Rattle.std.specs.Prelude.{◌≡◌, IfOk, Some, false};
 ghost use Rattle.handles.specs.Views.{lacks_memory, outcome_of, request_of};
 ghost use Rattle.batch_cli.specs.Events.{MayAnswer, MayReply, MayStore, reply_to, request_for};
 
-use crate::command::Command;
-use crate::key::Key;
-use crate::reply::LineReply;
-use handles::{Call, CallReply, Reply, Table, law_of_answers};
+use handles::{Call, CallReply, Command, Reply, Table, law_of_answers};
+use keys::ByteText;
+use script::{Key, LineReply, Statement};
 use std::alloc::Global;
 use std::sync::Arc;
 use versions::{NoMemory, Refusal};
 
-/// Makes the events of the command on the table, and gives the reply of its line.
+/// The table of a program: its keys are the texts of a script's keys.
+pub type ProgramTable = Table<ByteText, i64>;
+
+/// Makes the events of the statement on the table, and gives the reply of its line.
 pub fn answer(
     alloc: Global,
-    table: &mut Table<Key, i64>,
-    command: &Command,
+    table: &mut ProgramTable,
+    statement: &Statement,
 ) -> Result<LineReply, NoMemory>
-    ensures { IfOk result (λ reply. MayAnswer table.old command.now reply table.new) }
+    ensures { IfOk result (λ reply. MayAnswer table.old statement.now reply table.new) }
 {
-    let call = call_of(alloc, command)?;
+    let call = call_of(alloc, statement)?;
     let reply = event(alloc, table, call)?;
-    match (command, reply) {
-        (Command::GetOrElse { handle, key, value }, LineReply::Absent) => {
+    match (statement, reply) {
+        (Statement::GetOrElse { handle, key, value }, LineReply::Absent) => {
             put_missing(alloc, table, *handle, key, *value)
         }
         _ => Ok(reply),
@@ -33,12 +35,12 @@ pub fn answer(
 /// Makes the call, and gives the reply that shows its answer.
 fn event(
     alloc: Global,
-    table: &mut Table<Key, i64>,
-    call: Call<Key, i64>,
+    table: &mut ProgramTable,
+    call: Call<ByteText, i64>,
 ) -> Result<LineReply, NoMemory>
     ensures { IfOk result (λ reply. MayReply table.old (request_of call) reply table.new) }
 {
-    law_of_answers::<Key, i64>();
+    law_of_answers::<ByteText, i64>();
     let answer = table.serve(alloc, call);
     reply_of(&answer)
 }
@@ -46,83 +48,61 @@ fn event(
 /// Maps the key to the value where it has none, and gives the reply that tells the value that it has then.
 fn put_missing(
     alloc: Global,
-    table: &mut Table<Key, i64>,
+    table: &mut ProgramTable,
     handle: u32,
     key: &Key,
     value: i64,
 ) -> Result<LineReply, NoMemory>
     ensures { IfOk result (λ reply. MayStore table.old handle key.now value reply table.new) }
 {
-    let (key, shared_value) = shared_pair(alloc, key, value)?;
-    let command = handles::Command::PutIfAbsent(key, shared_value);
+    let command = Command::PutIfAbsent(key.text()?, Arc::new(alloc, value)?);
     match event(alloc, table, Call::On(handle, command))? {
         LineReply::Absent => Ok(LineReply::Found(value)),
         reply => Ok(reply),
     }
 }
 
-/// The call of a command; of `getorelse`, which may make two, the first.
-fn call_of(alloc: Global, command: &Command) -> Result<Call<Key, i64>, NoMemory>
-    ensures { IfOk result (λ call. request_of call ≡ request_for command.now) }
+/// The call of a statement; of `getorelse`, which may make two, the first.
+fn call_of(alloc: Global, statement: &Statement) -> Result<Call<ByteText, i64>, NoMemory>
+    ensures { IfOk result (λ call. request_of call ≡ request_for statement.now) }
 {
-    let call = match command {
-        Command::Open { handle } => Call::Open(*handle),
-        Command::Snap { handle, target } => Call::Snapshot(*handle, *target),
-        Command::Drop { handle } => Call::Drop(*handle),
-        Command::Get { handle, key } | Command::GetOrElse { handle, key, .. } => {
-            Call::On(*handle, handles::Command::Get(shared(alloc, key)?))
+    let call = match statement {
+        Statement::Open { handle } => Call::Open(*handle),
+        Statement::Snap { handle, target } => Call::Snapshot(*handle, *target),
+        Statement::Drop { handle } => Call::Drop(*handle),
+        Statement::Get { handle, key } => Call::On(*handle, Command::Get(key.text()?)),
+        Statement::Put { handle, key, value } => {
+            let value = Arc::new(alloc, *value)?;
+            Call::On(*handle, Command::Put(key.text()?, value))
         }
-        Command::Put { handle, key, value } => {
-            let (key, value) = shared_pair(alloc, key, *value)?;
-            Call::On(*handle, handles::Command::Put(key, value))
+        Statement::PutIfAbsent { handle, key, value } => {
+            let value = Arc::new(alloc, *value)?;
+            Call::On(*handle, Command::PutIfAbsent(key.text()?, value))
         }
-        Command::PutIfAbsent { handle, key, value } => {
-            let (key, value) = shared_pair(alloc, key, *value)?;
-            Call::On(*handle, handles::Command::PutIfAbsent(key, value))
+        Statement::Replace { handle, key, value } => {
+            let value = Arc::new(alloc, *value)?;
+            Call::On(*handle, Command::Replace(key.text()?, value))
         }
-        Command::Replace { handle, key, value } => {
-            let (key, value) = shared_pair(alloc, key, *value)?;
-            Call::On(*handle, handles::Command::Replace(key, value))
-        }
-        Command::ReplaceIf {
+        Statement::ReplaceIf {
             handle,
             key,
             old,
             new,
         } => {
-            let (key, old) = shared_pair(alloc, key, *old)?;
+            let old = Arc::new(alloc, *old)?;
             let new = Arc::new(alloc, *new)?;
-            Call::On(*handle, handles::Command::ReplaceIf(key, old, new))
+            Call::On(*handle, Command::ReplaceIf(key.text()?, old, new))
         }
-        Command::Remove { handle, key } => {
-            Call::On(*handle, handles::Command::Remove(shared(alloc, key)?))
+        Statement::Remove { handle, key } => Call::On(*handle, Command::Remove(key.text()?)),
+        Statement::RemoveIf { handle, key, value } => {
+            let value = Arc::new(alloc, *value)?;
+            Call::On(*handle, Command::RemoveIf(key.text()?, value))
         }
-        Command::RemoveIf { handle, key, value } => {
-            let (key, value) = shared_pair(alloc, key, *value)?;
-            Call::On(*handle, handles::Command::RemoveIf(key, value))
-        }
-        Command::Size { handle } => Call::On(*handle, handles::Command::Size),
-        Command::Clear { handle } => Call::On(*handle, handles::Command::Clear),
+        Statement::GetOrElse { handle, key, .. } => Call::On(*handle, Command::Get(key.text()?)),
+        Statement::Size { handle } => Call::On(*handle, Command::Size),
+        Statement::Clear { handle } => Call::On(*handle, Command::Clear),
     };
     Ok(call)
-}
-
-/// A copy of the key and the value, to be shared by the maps that get them.
-fn shared_pair(alloc: Global, key: &Key, value: i64) -> Result<(Arc<Key>, Arc<i64>), NoMemory>
-    ensures key { IfOk result (λ pair. pair.0.value ≡ key.now) }
-    ensures value { IfOk result (λ pair. pair.1.value ≡ value) }
-{
-    let key = shared(alloc, key)?;
-    let value = Arc::new(alloc, value)?;
-    Ok((key, value))
-}
-
-/// A copy of the key, to be shared by the maps that get it.
-fn shared(alloc: Global, key: &Key) -> Result<Arc<Key>, NoMemory>
-    ensures { IfOk result (λ shared. shared.value ≡ key.now) }
-{
-    let copy = key.try_clone(alloc)?;
-    Ok(Arc::new(alloc, copy)?)
 }
 
 /// The reply that shows the answer, unless memory was wanting.

@@ -1,25 +1,10 @@
-//! Laws of the language of scripts. Each function says one, and does nothing.
+//! Laws of scripts and of their runs. Each function says one, and does nothing.
 
 ghost use Rattle.std.specs.Prelude.{◌≡◌, ℕ, List};
-ghost use Rattle.batch_cli.specs.Scripts.{HasFault, IsFirstFault, Spells};
 ghost use Rattle.batch_cli.specs.Runs.{IsOutputOf};
-ghost use Rattle.batch_cli.specs.declared.command.CommandLine.{CommandLine};
-ghost use Rattle.batch_cli.specs.declared.fault.Reason.{Reason};
+ghost use Rattle.script.specs.declared.statement.CommandLine.{CommandLine};
 
-/// A text that spells a script has no fault.
-pub fn spelled_text_has_no_fault()
-    ensures { (text : List ℕ) (script : List CommandLine) → Spells text script → ¬ (HasFault text) }
-{}
-
-/// A text spells one script at most.
-pub fn text_has_one_script()
-    ensures { (text : List ℕ) (one other : List CommandLine) → Spells text one → Spells text other → one ≡ other }
-{}
-
-/// A text has one first fault at most.
-pub fn text_has_one_fault()
-    ensures { (text : List ℕ) (at place : ℕ) (reason other : Reason) → IsFirstFault text at reason → IsFirstFault text place other → (at ≡ place) × (reason ≡ other) }
-{}
+pub use script::law::{spelled_text_has_no_fault, text_has_one_fault, text_has_one_script};
 
 /// What is written for a script is a function of the script.
 pub fn script_has_one_output()

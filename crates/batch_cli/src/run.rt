@@ -4,11 +4,9 @@ ghost use Rattle.std.specs.Prelude.{◌≡◌, IfOk, OnOk, IsErrOf, List, ℕ, s
 ghost use Rattle.std.specs.Io.KnownBytes.{Appends, Keeps};
 ghost use Rattle.batch_cli.specs.Runs.{IsOutputOf};
 
-use crate::command::CommandLine;
 use crate::events::answer;
-use crate::reply::push_line;
-use crate::script::Script;
 use handles::{Limits, MOST_ENTRIES, Table};
+use script::{CommandLine, Script, push_line};
 use std::alloc::Global;
 use std::io::Write;
 use thiserror::Error;
@@ -57,7 +55,7 @@ fn replies_to(alloc: Global, lines: &[CommandLine]) -> Result<String, NoMemory>
     let mut table = Table::new(alloc, LARGEST)?;
     let mut replies = String::new(alloc);
     for line in lines {
-        let reply = answer(alloc, &mut table, &line.command)?;
+        let reply = answer(alloc, &mut table, &line.statement)?;
         push_line(&mut replies, line.number, reply)?;
     }
     Ok(replies)

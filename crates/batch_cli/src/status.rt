@@ -1,15 +1,15 @@
 //! From the bytes of a script to the status of the program.
 
-ghost use Rattle.std.specs.Prelude.{◌≡◌, ◌≤◌, ℕ, List};
+ghost use Rattle.std.specs.Prelude.{◌≡◌, ◌≤◌, ℕ, List, None};
 ghost use Rattle.std.specs.Io.KnownBytes.{Appends, Keeps};
 ghost use Rattle.batch_cli.specs.Runs.{IsOutputOf, RunsText};
-ghost use Rattle.batch_cli.specs.Scripts.{HasFault};
+ghost use Rattle.script.specs.Scripts.{HasFault};
 
 use crate::arguments::Options;
-use crate::fault::ScriptFault;
-use crate::run::{RunFault, run_script};
-use crate::script::{Script, parse_script};
+use crate::run::run_script;
+use script::{Script, ScriptFault, parse_script};
 use std::alloc::Global;
+use std::fmt::Display;
 use std::io::Write;
 
 /// Done.
@@ -21,18 +21,30 @@ const FAILED: u8 = 1;
 /// The script was refused.
 const REFUSED: u8 = 2;
 
-/// Runs the script that the text spells. The replies go to `out`, and why it failed goes to `err` as one line.
-/// Gives the status of the program: 0 where it is done, 1 where memory or the output failed, and 2 where the
-/// script has a fault, of which nothing was run then.
+/// Runs the script that the text spells. The replies go to `out`, and why it failed goes to `err` as one line, if
+/// that takes it.
 ///
-/// No option changes the run of a script yet.
+/// The first part of what it gives is the status of the program: 0 where it is done, 1 where memory or the output
+/// failed, and 2 where the script has a fault, of which nothing was run then. The second is the text of the journal;
+/// no option asks for one yet, so it is none.
 pub fn execute<W: Write, E: Write>(
     alloc: Global,
     _options: &Options,
     text: &[u8],
     out: &mut W,
     err: &mut E,
-) -> u8
+) -> (u8, Option<Vec<u8>>)
+    ensures done { result.0 ≡ 0 → RunsText text.now (W.contents out.old) (W.contents out.new) }
+    ensures refused { result.0 ≡ 2 → HasFault text.now }
+    ensures nothing_run { result.0 ≡ 2 → Keeps (W.contents out.old) (W.contents out.new) }
+    ensures statuses { result.0 ≤ 2 }
+    ensures journal { result.1 ≡ None }
+{
+    (status_of(alloc, text, out, err), None)
+}
+
+/// Reads and runs the script, and gives the status.
+fn status_of<W: Write, E: Write>(alloc: Global, text: &[u8], out: &mut W, err: &mut E) -> u8
     ensures done { result ≡ 0 → RunsText text.now (W.contents out.old) (W.contents out.new) }
     ensures refused { result ≡ 2 → HasFault text.now }
     ensures nothing_run { result ≡ 2 → Keeps (W.contents out.old) (W.contents out.new) }
@@ -41,7 +53,7 @@ pub fn execute<W: Write, E: Write>(
     match parse_script(alloc, text) {
         Ok(script) => run(alloc, &script, out, err),
         Err(ScriptFault::Memory) => {
-            tell(err, "trierun: out of memory\n");
+            tell(err, &ScriptFault::Memory);
             FAILED
         }
         Err(fault) => {
@@ -58,18 +70,14 @@ fn run<W: Write, E: Write>(alloc: Global, script: &Script, out: &mut W, err: &mu
 {
     match run_script(alloc, script, out) {
         Ok(()) => DONE,
-        Err(RunFault::Memory) => {
-            tell(err, "trierun: out of memory\n");
-            FAILED
-        }
-        Err(RunFault::Write) => {
-            tell(err, "trierun: cannot write output\n");
+        Err(fault) => {
+            tell(err, &fault);
             FAILED
         }
     }
 }
 
-/// Writes the text, if the writer takes it: where standard error fails there is nowhere to say so.
-fn tell<E: Write>(err: &mut E, text: &str) {
-    let _ = err.write_all(text.as_bytes());
+/// Writes why the program failed, behind its name. Where standard error fails there is nowhere to say so.
+fn tell<E: Write, D: Display>(err: &mut E, reason: &D) {
+    let _ = writeln!(err, "trierun: {reason}");
 }

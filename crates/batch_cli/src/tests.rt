@@ -1,9 +1,9 @@
 //! What scripts print, by hand.
 mod command_line;
+mod events;
 mod failures;
-mod faults;
+mod memory;
 mod operations;
-mod parts;
 mod scripts;
 
 use crate::{Options, execute};
@@ -14,7 +14,8 @@ use std::test::Fail;
 fn executed(alloc: Global, script: &[u8]) -> Result<(u8, String, String), AllocError> {
     let mut out = Vec::new(alloc);
     let mut err = Vec::new(alloc);
-    let status = execute(alloc, &Options { file: None }, script, &mut out, &mut err);
+    let (status, journal) = execute(alloc, &Options { file: None }, script, &mut out, &mut err);
+    drop(journal);
     Ok((status, text(alloc, &out)?, text(alloc, &err)?))
 }
 

@@ -2,7 +2,7 @@
 
 ghost use Rattle.std.specs.Prelude.{◌≡◌, [], ◌∷◌, IfErr, IfOk, OnOk, codes, map, option_map, string_bytes};
 ghost use Rattle.clap.specs.Words.{FailsBy, app_of, kind_of};
-ghost use Rattle.batch_cli.specs.Grammar.{IsArgFaultOf, Tells, command_line, faults_in, file_in};
+ghost use Rattle.batch_cli.specs.CommandLine.{IsArgFaultOf, Tells, command_line, faults_in, file_in};
 
 use crate::arguments::{ArgFault, Options};
 use clap::error::ErrorKind;

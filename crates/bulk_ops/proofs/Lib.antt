@@ -7,3 +7,5 @@ pub mod Additions
 pub mod Settled
 pub mod Concluded
 pub mod Works
+pub mod Permutations
+pub mod Whole

@@ -1,3 +1,4 @@
 pub mod Intervals
 pub mod Walks
-pub mod Ranks
+pub mod Subtries
+pub mod Stacks

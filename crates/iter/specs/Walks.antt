@@ -1,12 +1,13 @@
 -- What contracts see of a walk.
-use Rattle.std.specs.Prelude.{List}
+use Rattle.std.specs.Prelude.{ℕ, List}
 use Rattle.std.specs.declared.sync.Arc.{Arc}
 use Rattle.std.specs.declared.alloc.Global.{Global}
 use denote.Ref.{Bor}
 
--- a walk: the pairs that are still to come, in order
+-- a walk: the pairs that are still to come, in order; and how many nodes it enters from its beginning to its end
 pub record Walk (K V : Type 0) : Type 0 where
   pub rest : List (K × V)
+  pub nodes : ℕ
 
 -- a pair that is lent, without where its parts lie
 abbrev pub item : {K V : Type 0} → Bor (Arc K Global) × Bor (Arc V Global) → K × V

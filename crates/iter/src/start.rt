@@ -1,31 +1,53 @@
 //! Walks from their beginning.
 
 ghost use Rattle.std.specs.Prelude.{◌≡◌, IfOk};
+ghost use Rattle.trie_node.specs.Counts.{node_count};
 ghost use Rattle.trie_node.specs.Order.{walked};
+ghost use Rattle.trie_node.specs.Roots.{IsRoot, map_of};
+ghost use Rattle.trie_node.specs.Tree.{Tree};
+ghost use Rattle.trie_node.specs.View.{tree};
 
 use crate::walk::Pairs;
 use hash_path::PathKey;
 use std::alloc::Global;
-use trie_node::{NoMemory, root_walks_in_order, size};
+use trie_node::{
+    Look, NoMemory, Node, bitmap_counts_children, branch_is_its_children, look,
+    map_determines_root, root_walks_in_order, size, trie_follows_digits,
+};
 use versions::{Version, View};
 
 /// A walk over all pairs of the view, in order of position and, within one position, of key.
-pub fn pairs<K: PathKey, V>(_alloc: Global, view: &View<K, V>) -> Result<Pairs<'_, K, V>, NoMemory>
-    ensures { IfOk result (λ walk. walk.rest ≡ walked K.cmp K.path_of view.now) }
+pub fn pairs<K: PathKey, V>(alloc: Global, view: &View<K, V>) -> Result<Pairs<'_, K, V>, NoMemory>
+    ensures rest { IfOk result (λ walk. walk.rest ≡ walked K.cmp K.path_of view.now) }
+    ensures nodes { IfOk result (λ walk. (t : Tree K V) → IsRoot K.cmp K.path_of t → map_of K.cmp t ≡ view.now → walk.nodes ≡ node_count t) }
 {
-    root_walks_in_order::<K, V>();
-    let root = view.root();
-    Ok(Pairs::between(root, 0, size(root)))
+    Ok(walk_of_root(alloc, view.root()))
 }
 
 /// A walk over all pairs of a version that nobody writes meanwhile, in the same order.
 pub fn pairs_of<K: PathKey + Drop, V: Drop>(
-    _alloc: Global,
+    alloc: Global,
     version: &Version<K, V>,
 ) -> Result<Pairs<'_, K, V>, NoMemory>
-    ensures { IfOk result (λ walk. walk.rest ≡ walked K.cmp K.path_of version.now.entries) }
+    ensures rest { IfOk result (λ walk. walk.rest ≡ walked K.cmp K.path_of version.now.entries) }
+    ensures nodes { IfOk result (λ walk. (t : Tree K V) → IsRoot K.cmp K.path_of t → map_of K.cmp t ≡ version.now.entries → walk.nodes ≡ node_count t) }
 {
+    Ok(walk_of_root(alloc, version.root()))
+}
+
+/// A walk over all pairs of a root, which enters all its nodes.
+fn walk_of_root<K: PathKey, V>(alloc: Global, root: &Node<K, V>) -> Pairs<'_, K, V>
+    requires root { IsRoot K.cmp K.path_of (tree root.now) }
+    ensures rest { result.rest ≡ walked K.cmp K.path_of (map_of K.cmp (tree root.now)) }
+    ensures nodes { (t : Tree K V) → IsRoot K.cmp K.path_of t → map_of K.cmp t ≡ map_of K.cmp (tree root.now) → result.nodes ≡ node_count t }
+{
+    bitmap_counts_children::<K, V>();
+    branch_is_its_children::<K, V>();
+    map_determines_root::<K, V>();
     root_walks_in_order::<K, V>();
-    let root = version.root();
-    Ok(Pairs::between(root, 0, size(root)))
+    trie_follows_digits::<K, V>();
+    match look(root) {
+        Look::Branch(bitmap) => { Pairs::below(alloc, root, 0, 0, bitmap.count_ones(), size(root)) }
+        Look::Pairs(_) => unreachable!(),
+    }
 }

@@ -65,3 +65,38 @@ fn the_empty_map_has_an_empty_walk(rt: HostRuntime) -> Result<(), Fail> {
     assert!(rt; walk.next().is_none());
     Ok(())
 }
+
+// How many nodes a walk over a map with these path words has entered at its end.
+fn entered_of(alloc: Global, words: [u32; 3], count: u32) -> Result<u64, Fail> {
+    let mut version = Version::empty(alloc, 100, Stamp(1))?;
+    for id in 0..3u32 {
+        if id < count {
+            version.put(
+                alloc,
+                Arc::new(
+                    alloc,
+                    ChosenKey {
+                        path: words[id as usize],
+                        id,
+                    },
+                )?,
+                Arc::new(alloc, 7)?,
+            )?;
+        }
+    }
+    let mut walk = pairs_of(alloc, &version)?;
+    for _ in 0..3u32 {
+        let _pair = walk.step();
+    }
+    Ok(walk.entered())
+}
+
+#[test]
+fn a_walk_enters_each_node_once(rt: HostRuntime) -> Result<(), Fail> {
+    let alloc = rt.alloc();
+    assert_eq!(rt; entered_of(alloc, [0, 0xc000_0000, 0], 2)?, 9);
+    assert_eq!(rt; entered_of(alloc, WORDS, 3)?, 4);
+    assert_eq!(rt; entered_of(alloc, [0, 0, 0], 3)?, 2);
+    assert_eq!(rt; entered_of(alloc, [0, 0, 0], 0)?, 1);
+    Ok(())
+}

@@ -1,62 +1,96 @@
-//! Walks over the pairs of a view.
+//! Walks over pairs.
 
-ghost use Rattle.std.specs.Prelude.{◌≡◌, ◌≤◌, length, take, drop};
+ghost use Rattle.std.specs.Prelude.{◌≡◌, ◌+◌, ◌<◌, ◌≤◌, ◌^◌, [], length};
 ghost use Rattle.std.specs.Iterator.{YieldsFirstBy, item_count};
-ghost use Rattle.trie_node.specs.Shape.{Fits};
-ghost use Rattle.trie_node.specs.Tree.{entries};
+ghost use Rattle.trie_node.specs.Outline.{children};
+ghost use Rattle.trie_node.specs.Tree.{IsTrie};
 ghost use Rattle.trie_node.specs.View.{tree};
+ghost use Rattle.iter.specs.Subtries.{children_between, nodes_of_all, pairs_of_all};
 ghost use Rattle.iter.specs.Walks.{item};
 
-use crate::pick::pair_at;
+use crate::ahead::Ahead;
 use hash_path::PathKey;
+use std::alloc::Global;
 use std::marker::Model;
 use std::sync::Arc;
 use trie_node::Node;
 
-/// The pairs of a view that are still to come, in the order of a walk.
+/// The pairs that are still to come, in order of position and, within one position, of key. A step
+/// makes no request for memory.
 #[derive(Drop)]
 pub struct Pairs<'a, K: PathKey, V> {
-    root: &'a Node<K, V>,
-    next: u64,
-    end: u64,
+    leaf: &'a [(Arc<K>, Arc<V>)],
+    ahead: Ahead<'a, K, V>,
+    left: u64,
 }
 
 impl<'a, K: PathKey, V> Model for Pairs<'a, K, V> {
-    ghost use Rattle.std.specs.Prelude.{◌≤◌, List, length, take, drop};
-    ghost use Rattle.trie_node.specs.Shape.{Fits};
-    ghost use Rattle.trie_node.specs.Tree.{entries};
-    ghost use Rattle.trie_node.specs.View.{tree};
+    ghost use Rattle.std.specs.Prelude.{◌≡◌, ◌+◌, ◌++◌, length, map};
+    ghost use Rattle.trie_node.specs.View.{pair_values};
+    ghost use Rattle.iter.specs.Subtries.{nodes_of_all, pairs_of_all};
+    ghost use Rattle.iter.specs.Stacks.{IsSound, subtries};
     ghost use Rattle.iter.specs.Walks.{Walk};
 
     ghost Value = { Walk K V };
 
-    ghost view = { λ a. record { rest = drop a.next (take a.end (entries (tree a.root.now))) } };
+    ghost view = { λ a. record { rest = map pair_values a.leaf.now ++ pairs_of_all (subtries a.ahead); nodes = a.ahead.entered + nodes_of_all (subtries a.ahead) } };
 
-    ghost invariant = { λ a. Fits (tree a.root.now) × (a.next ≤ a.end) × (a.end ≤ length (entries (tree a.root.now))) };
+    ghost invariant = { λ a. IsSound K.cmp K.path_of a.ahead × (a.left ≡ length (map pair_values a.leaf.now ++ pairs_of_all (subtries a.ahead))) };
 }
 
 impl<'a, K: PathKey, V> Pairs<'a, K, V> {
-    /// The pairs of the numbers from `next` on and below `end`.
-    pub(crate) fn between(root: &'a Node<K, V>, next: u64, end: u64) -> Pairs<'a, K, V>
-        requires fits { Fits (tree root.now) }
-        requires order { next ≤ end }
-        requires within { end ≤ length (entries (tree root.now)) }
-        ensures { result.rest ≡ drop next (take end (entries (tree root.now))) }
+    /// A walk over the pairs of some children of a branch that stands at a level, from one number on
+    /// and below another; `left` is how many pairs they have. It has entered the branch.
+    pub fn below(
+        alloc: Global,
+        branch: &'a Node<K, V>,
+        level: u32,
+        from: u32,
+        to: u32,
+        left: u64,
+    ) -> Pairs<'a, K, V>
+        requires trie { IsTrie K.cmp K.path_of level (tree branch.now) }
+        requires level { level ≤ 6 }
+        requires order { from ≤ to }
+        requires within { to ≤ length (children (tree branch.now)) }
+        requires left { left ≡ length (pairs_of_all (children_between (tree branch.now) from to)) }
+        ensures rest { result.rest ≡ pairs_of_all (children_between (tree branch.now) from to) }
+        ensures nodes { result.nodes ≡ 1 + nodes_of_all (children_between (tree branch.now) from to) }
     {
-        Pairs { root, next, end }
+        Pairs {
+            leaf: &[],
+            ahead: Ahead::below(alloc, branch, level, from, to),
+            left,
+        }
     }
 
     /// How many pairs are still to come.
     pub fn left(&self) -> u64
         ensures { result ≡ length self.now.rest }
     {
-        self.end - self.next
+        self.left
     }
-}
 
-impl<'a, K: PathKey, V> ExactSizeIterator for Pairs<'a, K, V> {
-    fn len(&self) -> usize {
-        self.left() as usize
+    /// How many nodes the walk has looked into, the first branch among them from the start. At its
+    /// end it is the number of all nodes.
+    pub fn entered(&self) -> u64
+        ensures { self.now.rest ≡ [] → result ≡ self.now.nodes }
+    {
+        self.ahead.entered
+    }
+
+    /// The next pair, as `next` gives it. The walk goes on to enter as many nodes in all as before.
+    pub fn step(&mut self) -> Option<(&'a Arc<K>, &'a Arc<V>)>
+        ensures steps { YieldsFirstBy item (λ s. s.rest) self.old result self.new }
+        ensures nodes { self.old.nodes < 2 ^ 64 → self.new.nodes ≡ self.old.nodes }
+    {
+        if self.leaf.is_empty() {
+            self.leaf = self.ahead.next_leaf()?;
+        }
+        let ((key, value), rest) = self.leaf.split_first()?;
+        self.leaf = rest;
+        self.left -= 1;
+        Some((key, value))
     }
 }
 
@@ -68,11 +102,12 @@ impl<'a, K: PathKey, V> Iterator for Pairs<'a, K, V> {
     ghost remaining = { item_count (λ s. s.rest) };
 
     fn next(&mut self) -> Option<(&'a Arc<K>, &'a Arc<V>)> {
-        if self.next == self.end {
-            return None;
-        }
-        let pair = pair_at(self.root, self.next);
-        self.next += 1;
-        Some(pair)
+        self.step()
+    }
+}
+
+impl<'a, K: PathKey, V> ExactSizeIterator for Pairs<'a, K, V> {
+    fn len(&self) -> usize {
+        self.left() as usize
     }
 }

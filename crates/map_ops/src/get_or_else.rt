@@ -11,7 +11,7 @@ use crate::puts::put_if_absent;
 use hash_path::PathKey;
 use std::alloc::{AllocError, Global};
 use std::sync::Arc;
-use versions::{Refusal, Version};
+use versions::{Refusal, Version, law_of_put};
 
 /// The value that the key has then: the one that it had, else the one that `make` made, to which it is now mapped.
 /// `make` is called exactly where the key is absent.
@@ -34,6 +34,7 @@ pub fn get_or_else_update<K: PathKey + Drop, V: Eq + Drop, F: FnOnce() -> V>(
     ensures full { FullExactly result (commands.is_full_for K.cmp version.old.limit version.old.entries key.value) }
     ensures err { OnErr result (version.new ≡ version.old) }
 {
+    law_of_put::<K, V>();
     if let Some(found) = version.get(&key) {
         return Ok(Arc::try_clone(found)?);
     }

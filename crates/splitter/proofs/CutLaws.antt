@@ -33,7 +33,7 @@ module _ {X : Type 0} where
       not_true false h = refl
 
   -- one that passes is kept
-  some_kept : (p : X → Bool) (xs : List X) (k : ℕ) (d : X) → k < length xs → p (get_or xs k d) ≡ true → 0 < length (filter p xs)
+  pub some_kept : (p : X → Bool) (xs : List X) (k : ℕ) (d : X) → k < length xs → p (get_or xs k d) ≡ true → 0 < length (filter p xs)
   some_kept p [] k d lt e = absurd (omega arith)
   some_kept p (x ∷ xs) zero d lt e = subst (λ b. 0 < length (cond b (x ∷ filter p xs) (filter p xs))) (sym e) (omega arith)
   some_kept p (x ∷ xs) (suc k) d lt e =
@@ -76,7 +76,7 @@ module _ {K V : Type 0} (path : K → ℕ) where
       pub all_words : (m : Map K V) → All IsWord (words_of path m)
       all_words m = All-map IsWord (λ e. path e.0) m (λ k d h. small (get_or m k d).0)
 
-      divides : (m : Map K V) (i : Interval) (mid : ℕ) → middle_of (words_of path (part path m i)) ≡ Some mid → Divides path m i mid
+      pub divides : (m : Map K V) (i : Interval) (mid : ℕ) → middle_of (words_of path (part path m i)) ≡ Some mid → Divides path m i mid
       divides m i mid e =
           let words = words_of path (part path m i) in
           let b = middle_between order interval shared words (all_words (part path m i)) mid e in

@@ -1,19 +1,22 @@
 //! A piece of a view.
 
-ghost use Rattle.std.specs.Prelude.{◌≡◌, ◌≤◌, ◌<◌, ◌^◌, length, IfOk, OnErr, MatchResult};
+ghost use Rattle.std.specs.Prelude.{◌≡◌, ◌≤◌, ◌^◌, length, IfOk};
 ghost use Rattle.trie_node.specs.Map.{IsMap};
 ghost use Rattle.trie_node.specs.Order.{walked};
+ghost use Rattle.trie_node.specs.View.{tree};
 ghost use Rattle.versions.specs.declared.version.TheConstants.{MOST_PAIRS};
-ghost use Rattle.iter.specs.Intervals.{part};
-ghost use Rattle.splitter.specs.Cuts.{middle_of, words_of};
-ghost use Rattle.splitter.specs.Laws.{below, from};
+ghost use Rattle.iter.specs.Intervals.{part, whole};
+ghost use Rattle.splitter.specs.Places.{IsPlace};
 
-use crate::middle::middle_in;
+use crate::place::{Place, Spot};
 use hash_path::PathKey;
-use iter::{Interval, Pairs, count_in, pairs_in};
+use iter::{Interval, Pairs, parts_follow_intervals};
 use std::alloc::Global;
 use std::marker::Model;
-use trie_node::NoMemory;
+use trie_node::{
+    Look, NoMemory, bitmap_counts_children, branch_is_its_children, look, root_walks_in_order,
+    trie_follows_digits, walk_lists_map,
+};
 use versions::View;
 
 /// The pairs of a view whose positions lie in an interval.
@@ -21,19 +24,43 @@ use versions::View;
 pub struct Piece<K: PathKey, V> {
     pub(crate) view: View<K, V>,
     pub(crate) interval: Interval,
+    pub(crate) count: u64,
+    pub(crate) place: Option<Place<K, V>>,
     pub(crate) alloc: Global,
 }
 
 impl<K: PathKey, V> Model for Piece<K, V> {
-    ghost use Rattle.std.specs.Prelude.{◌≤◌, ◌^◌};
+    ghost use Rattle.std.specs.Prelude.{◌≡◌, ◌≤◌, ◌^◌, length, MatchOption};
     ghost use Rattle.hash_path.specs.Digits.{word_bits};
+    ghost use Rattle.trie_node.specs.Map.{IsMap};
+    ghost use Rattle.trie_node.specs.View.{tree};
+    ghost use Rattle.iter.specs.Intervals.{part, whole};
+    ghost use Rattle.splitter.specs.Places.{IsPlace};
     ghost use Rattle.splitter.specs.Portion.{Portion};
 
     ghost Value = { Portion K V };
 
     ghost view = { λ a. record { map = a.view; interval = a.interval } };
 
-    ghost invariant = { λ a. (a.interval.lo ≤ a.interval.hi) × (a.interval.hi ≤ 2 ^ word_bits) };
+    ghost invariant = { λ a. (a.interval.lo ≤ a.interval.hi) × (a.interval.hi ≤ 2 ^ word_bits) × IsMap K.cmp a.view × (a.count ≡ length (part K.path_of a.view a.interval)) × MatchOption a.place (a.interval ≡ whole) (λ p. IsPlace K.cmp K.path_of a.view a.interval (tree p.branch) p.bitmap p.level p.base p.from p.to) };
+}
+
+/// The piece of all pairs of the view. It makes no request for memory.
+pub fn whole<K: PathKey, V>(alloc: Global, view: View<K, V>) -> Piece<K, V>
+    ensures { result ≡ record { map = view; interval = whole } }
+{
+    parts_follow_intervals::<K, V>();
+    let count = view.len();
+    Piece {
+        view,
+        interval: Interval {
+            lo: 0,
+            hi: 0x1_0000_0000,
+        },
+        count,
+        place: None,
+        alloc,
+    }
 }
 
 impl<K: PathKey, V> Piece<K, V> {
@@ -53,11 +80,11 @@ impl<K: PathKey, V> Piece<K, V> {
         self.interval.hi
     }
 
-    /// How many pairs there are in the piece.
+    /// How many pairs there are in the piece. It takes no walk: the piece keeps their number.
     pub fn len(&self) -> u64
         ensures { result ≡ length (part K.path_of self.now.map self.now.interval) }
     {
-        count_in(&self.view, self.interval)
+        self.count
     }
 
     /// A walk over the pairs of the piece.
@@ -67,39 +94,50 @@ impl<K: PathKey, V> Piece<K, V> {
         ensures walk { IfOk result (λ walk. walk.rest ≡ walked K.cmp K.path_of (part K.path_of self.now.map self.now.interval)) }
     {
         self.view.len();
-        pairs_in(self.alloc, &self.view, self.interval)
+        parts_follow_intervals::<K, V>();
+        trie_follows_digits::<K, V>();
+        walk_lists_map::<K, V>();
+        let Spot {
+            branch,
+            level,
+            from,
+            to,
+            ..
+        } = self.spot();
+        Ok(Pairs::below(self.alloc, branch, level, from, to, self.count))
     }
 
-    /// The position in the middle of the piece's pairs, where they have two positions or more.
-    pub(crate) fn middle(&self) -> Option<u64>
-        ensures { result ≡ middle_of (words_of K.path_of (part K.path_of self.now.map self.now.interval)) }
+    /// Where the pairs of the piece stand: of the whole, below the root.
+    pub(crate) fn spot(&self) -> Spot<'_, K, V>
+        ensures sorted { IsMap K.cmp self.now.map }
+        ensures place { IsPlace K.cmp K.path_of self.now.map self.now.interval (tree result.branch.now) result.bitmap result.level result.base result.from result.to }
     {
-        middle_in(&self.view, self.interval)
-    }
-
-    /// The pieces below a position and from there on. Where the clone of the view is refused the piece comes back.
-    pub(crate) fn divided(self, mid: u64) -> Result<(Piece<K, V>, Piece<K, V>), Piece<K, V>>
-        requires low { self.interval.lo ≤ mid }
-        requires high { mid ≤ self.interval.hi }
-        ensures lower { IfOk result (λ pieces. pieces.0 ≡ record { map = self.map; interval = below self.interval mid }) }
-        ensures upper { IfOk result (λ pieces. pieces.1 ≡ record { map = self.map; interval = from self.interval mid }) }
-        ensures back { MatchResult result (λ pieces. Unit {0}) (λ piece. piece ≡ self) }
-    {
-        let Ok(view) = self.view.try_clone() else {
-            return Err(self);
-        };
-        let Interval { lo, hi } = self.interval;
-        let alloc = self.alloc;
-        let lower = Piece {
-            view,
-            interval: Interval { lo, hi: mid },
-            alloc,
-        };
-        let upper = Piece {
-            view: self.view,
-            interval: Interval { lo: mid, hi },
-            alloc,
-        };
-        Ok((lower, upper))
+        if let Some(place) = &self.place {
+            return Spot {
+                branch: &place.branch,
+                bitmap: place.bitmap,
+                level: place.level,
+                base: place.base,
+                from: place.from,
+                to: place.to,
+            };
+        }
+        bitmap_counts_children::<K, V>();
+        branch_is_its_children::<K, V>();
+        parts_follow_intervals::<K, V>();
+        root_walks_in_order::<K, V>();
+        trie_follows_digits::<K, V>();
+        let root = self.view.root();
+        match look(root) {
+            Look::Branch(bitmap) => Spot {
+                branch: root,
+                bitmap,
+                level: 0,
+                base: 0,
+                from: 0,
+                to: bitmap.count_ones(),
+            },
+            Look::Pairs(_) => unreachable!(),
+        }
     }
 }

@@ -1,12 +1,13 @@
--- The pairs and the nodes of a branch, by its children.
-use Rattle.std.proofs.Common.{◌≡◌, ℕ, zero, suc, ◌+◌, ◌<◌, ◌≤◌, ◌++◌, length, get_or, refl, sym, ap, ◌∙◌, arith}
+-- The pairs and the nodes of a branch, by its children, and those of a leaf or bucket.
+use Rattle.std.proofs.Common.{◌≡◌, ℕ, zero, suc, ◌+◌, ◌<◌, ◌≤◌, ◌++◌, length, get_or, map, refl, sym, ap, ◌∙◌, arith}
 use Rattle.std.specs.Prelude.{flat_map, sum_by}
 use Rattle.std.proofs.lemmas.List.Sums.{sum_by-cons}
 use Rattle.trie_node.specs.Tree.{Tree, branch, bucket, Trees, no_trees, more_trees, entries, entries_of_all}
 use Rattle.trie_node.specs.Outline.{children, list_of}
 use Rattle.trie_node.specs.Counts.{node_count, count_of_all}
 use Rattle.trie_node.specs.Looks.{Shows}
-use Rattle.trie_node.specs.declared.shown.Look.TheVariants.{Branch}
+use Rattle.trie_node.specs.View.{pair_values}
+use Rattle.trie_node.specs.declared.shown.Look.TheVariants.{Branch, Pairs}
 
 module _ {K V : Type 0} where
   entries_flat : (ts : Trees K V) → entries_of_all ts ≡ flat_map entries (list_of ts)
@@ -33,3 +34,11 @@ module _ {K V : Type 0} where
   pub fewer_below : (t c : Tree K V) (n : ℕ) → n < length (children t) → c ≡ get_or (children t) n c → node_count c < node_count t
   fewer_below (bucket stamp es) c n lt e = absurd (omega arith)
   fewer_below (branch stamp size bitmap ts) c n lt e = omega (arith, fewer_of_all ts n c lt e)
+
+  pub entries_of_pairs : (t : Tree K V) (ps : _) → Shows (Pairs ps) t → entries t ≡ map pair_values ps.now
+  entries_of_pairs (branch stamp size bitmap ts) ps h = absurd h
+  entries_of_pairs (bucket stamp es) ps h = sym h
+
+  pub node_count_of_pairs : (t : Tree K V) (ps : _) → Shows (Pairs ps) t → node_count t ≡ 1
+  node_count_of_pairs (branch stamp size bitmap ts) ps h = absurd h
+  node_count_of_pairs (bucket stamp es) ps h = refl

@@ -13,7 +13,7 @@ module _ {K V : Type 0} (R : K → K → Ordering) where
 
   module _ (path : K → ℕ) where
     -- below the root each node has a pair
-    has_pair : (level : ℕ) (t : Tree K V) → IsTrie R path level t → 0 < level → 0 < length (entries t)
+    pub has_pair : (level : ℕ) (t : Tree K V) → IsTrie R path level t → 0 < level → 0 < length (entries t)
     has_pair level (branch stamp size bitmap ts) ok below = let two = ok.4 below in found_among two.0 (entries_of_all ts) two.1.1.0
     has_pair level (bucket stamp es) ok below = ok.1
 

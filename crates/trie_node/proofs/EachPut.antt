@@ -7,13 +7,13 @@ use Rattle.std.specs.Ordering.{eq_by_cmp}
 use Rattle.std.specs.Cmp.{IsTotalOrder}
 use Rattle.std.specs.FinMap.{find}
 use Rattle.std.proofs.lemmas.List.{take_more}
-use Rattle.trie_node.specs.Merges.{CanMerge, PutsEach, StampsWithin, written_over}
+use Rattle.trie_node.specs.Merges.{CanMerge, PutsEach, StampsPass, written_over}
 use Rattle.trie_node.specs.Tree.{Tree, bucket, entries, IsTrie}
 use Rattle.trie_node.specs.Writes.{Writes, WritesWhere, KeysAgree}
 use Rattle.trie_node.proofs.Apart.{apart_sorted}
 use Rattle.trie_node.proofs.Finds.{tied, found_first}
 use Rattle.trie_node.proofs.Listings.{IsApart}
-use Rattle.trie_node.proofs.StampBounds.{written_within}
+use Rattle.trie_node.proofs.StampTests.{written_within}
 use Rattle.trie_node.proofs.Tries.{or_else, or_none, find_append}
 
 either_found : {V : Type 0} (holds : Option V → Bool) (given found : Option V) → is_some (written_over holds given found) ≡ true → (is_some given ≡ true) ⊎ (is_some found ≡ true)
@@ -55,14 +55,14 @@ module _ {K V : Type 0} (R : K → K → Ordering) (path : K → ℕ) (total : I
       pub trie : IsTrie R path level new
       pub finds : (q : K) → find R q (entries new) ≡ cond (eq_by_cmp R q k) (written_over holds (Some v) (find R k (entries old))) (find R q (entries old))
       pub most : length (entries new) ≤ length (entries old) + 1
-      pub stamps : (newest : ℕ) → stamp ≤ newest → StampsWithin newest old → StampsWithin newest new
+      pub stamps : (test : ℕ → Bool) → test stamp ≡ true → StampsPass test old → StampsPass test new
 
     one_written : (k : K) (v : V) (old new : Tree K V) → level ≤ 7 → Writes R path level stamp k (Some v) old new → holds (find R k (entries old)) ≡ true → PutsOne k v old new
     one_written k v old new depth w passes = record {
       trie = w.trie;
       finds = λ q. w.finds q ∙ ap (λ b. cond (eq_by_cmp R q k) (cond b (Some v) (find R k (entries old))) (find R q (entries old))) (sym passes);
       most = w.most;
-      stamps = λ newest le within. written_within R path newest level stamp k (Some v) old new depth le w within;
+      stamps = λ test stamped within. written_within R path test level stamp k (Some v) old new depth stamped w within;
     }
 
     one_kept : (k : K) (v : V) (old : Tree K V) → IsTrie R path level old → holds (find R k (entries old)) ≡ false → PutsOne k v old old
@@ -70,7 +70,7 @@ module _ {K V : Type 0} (R : K → K → Ordering) (path : K → ℕ) (total : I
       trie = trie;
       finds = λ q. of_tie q (eq_by_cmp R q k) refl ∙ ap (λ b. cond (eq_by_cmp R q k) (cond b (Some v) (find R k (entries old))) (find R q (entries old))) (sym fails);
       most = omega arith;
-      stamps = λ newest le within. within;
+      stamps = λ test stamped within. within;
     }
       where
         of_tie : (q : K) (b : Bool) → eq_by_cmp R q k ≡ b → find R q (entries old) ≡ cond (eq_by_cmp R q k) (find R k (entries old)) (find R q (entries old))
@@ -83,7 +83,7 @@ module _ {K V : Type 0} (R : K → K → Ordering) (path : K → ℕ) (total : I
       trie = one.trie;
       finds = λ q. of_tie q (eq_by_cmp R q k) refl;
       most = omega (arith, one.most, each.most, length-append es ((k, v) ∷ []));
-      stamps = λ newest le within. one.stamps newest le (each.stamps newest le within);
+      stamps = λ test stamped within. one.stamps test stamped (each.stamps test stamped within);
     }
       where
         of_tie : (q : K) (b : Bool) → eq_by_cmp R q k ≡ b → find R q (entries new) ≡ written_over holds (find R q (es ++ (k, v) ∷ [])) (find R q (entries old))

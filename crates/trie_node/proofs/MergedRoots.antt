@@ -1,17 +1,18 @@
 -- The root of two maps together.
-use Rattle.std.proofs.Common.{◌≡◌, ℕ, ◌+◌, ◌<◌, ◌≤◌, ◌^◌, List, [], ◌∷◌, length, Some, refl, sym, ap, ◌∙◌, arith}
+use Rattle.std.proofs.Common.{◌≡◌, ℕ, ◌+◌, ◌<◌, ◌≤◌, ◌^◌, Bool, true, List, [], ◌∷◌, length, Some, refl, sym, ap, ◌∙◌, arith, leb}
 use Rattle.std.specs.Option.{option_or}
+use Rattle.std.proofs.lemmas.Bool.{le-leb}
 use Rattle.std.specs.declared.cmp.Ordering.{Ordering}
 use Rattle.std.specs.declared.cmp.Ordering.TheVariants.{Equal}
 use Rattle.std.specs.Cmp.{IsTotalOrder}
 use Rattle.trie_node.specs.Map.{union}
-use Rattle.trie_node.specs.Merges.{CanMerge, Merges}
+use Rattle.trie_node.specs.Merges.{CanMerge, EachStampPasses, Merges}
 use Rattle.trie_node.specs.Roots.{IsRoot, map_of, word_of}
 use Rattle.trie_node.specs.Shape.{NoneAbove, nodes}
 use Rattle.trie_node.specs.Tree.{Tree, entries}
 use Rattle.trie_node.proofs.Listings.{listed_as}
 use Rattle.trie_node.proofs.Roots.{find_entries, length_map_of, map_of_is_map, root_is_trie, trie_is_root}
-use Rattle.trie_node.proofs.StampBounds.{none_within, within_none}
+use Rattle.trie_node.proofs.StampTests.{listed_pass, none_above_pass, pass_listed, pass_none_above}
 use Rattle.trie_node.proofs.Unions.{IsMap-union, is_sorted_of, union-empty, value_at-union}
 
 no_elements : {A : Type 0} (xs : List A) → length xs ≡ 0 → xs ≡ []
@@ -52,7 +53,13 @@ module _ {K V : Type 0} (R : K → K → Ordering) (path : K → ℕ) (total : I
         listed_as R total exact (entries new) (union R (map_of R left) (map_of R right)) (is_sorted_of R (union R (map_of R left) (map_of R right)) (IsMap-union R total (map_of R left) (map_of R right) (map_of_is_map R path total right)))
         (λ q. m.finds q ∙ (λ i. option_or (find_entries R path total left q i) (find_entries R path total right q i)) ∙ sym (value_at-union R total (map_of R left) (map_of R right) q))
 
-    pub merged_stamps : (newest : ℕ) → stamp ≤ newest → NoneAbove newest (nodes (word_of path) left) → NoneAbove newest (nodes (word_of path) right) → NoneAbove newest (nodes (word_of path) new)
-    merged_stamps newest le left_none right_none =
-        within_none R path newest [] new
-        (m.stamps newest le (none_within R path newest 0 [] left (root_is_trie R path total exact small left left_root) left_none) (none_within R path newest 0 [] right (root_is_trie R path total exact small right right_root) right_none))
+    -- each stamp is the new one, or one of a side
+    pub merged_stamps : (test : ℕ → Bool) → test stamp ≡ true → EachStampPasses test (nodes (word_of path) left) → EachStampPasses test (nodes (word_of path) right) → EachStampPasses test (nodes (word_of path) new)
+    merged_stamps test stamped left_pass right_pass =
+        pass_listed R path test [] new
+        (m.stamps test stamped (listed_pass R path test 0 [] left (root_is_trie R path total exact small left left_root) left_pass) (listed_pass R path test 0 [] right (root_is_trie R path total exact small right right_root) right_pass))
+
+    pub merged_none_above : (newest : ℕ) → stamp ≤ newest → NoneAbove newest (nodes (word_of path) left) → NoneAbove newest (nodes (word_of path) right) → NoneAbove newest (nodes (word_of path) new)
+    merged_none_above newest le left_none right_none =
+        pass_none_above newest (nodes (word_of path) new)
+        (merged_stamps (λ s. leb s newest) (le-leb stamp newest le) (none_above_pass newest (nodes (word_of path) left) left_none) (none_above_pass newest (nodes (word_of path) right) right_none))

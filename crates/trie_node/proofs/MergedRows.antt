@@ -14,7 +14,7 @@ use Rattle.std.proofs.lemmas.Nat.Bits.{bit_at_or, bit_at-suc, bit_at_lowest}
 use Rattle.hash_path.specs.Digits.{digit}
 use Rattle.trie_node.specs.declared.shown.Look.TheVariants.{Branch}
 use Rattle.trie_node.specs.Looks.{Shows}
-use Rattle.trie_node.specs.Merges.{CanMerge, Merges, StampsWithin, AllStampsWithin, child_among, child_at, pairs_of}
+use Rattle.trie_node.specs.Merges.{CanMerge, Merges, StampsPass, AllStampsPass, child_among, child_at, pairs_of}
 use Rattle.trie_node.specs.Outline.{children}
 use Rattle.trie_node.specs.Shape.{Fits, Lacks}
 use Rattle.trie_node.specs.Tree.{Tree, branch, bucket, Trees, no_trees, more_trees, trees, digits_from, digits_of, entries, entries_of_all, HasTwoWords, IsTrie, AreTries}
@@ -78,16 +78,16 @@ module _ {K V : Type 0} where
   under k (branch stamp size bitmap ts) = count_under k (digits_of bitmap) ts
   under k (bucket stamp es) = 0
 
-  child_within : (newest d : ℕ) (ds : List ℕ) (ts : Trees K V) → AllStampsWithin newest ts → IfSome (child_among ds ts d) (StampsWithin newest)
-  child_within newest d [] ts h = tt
-  child_within newest d (x ∷ xs) no_trees h = tt
-  child_within newest d (x ∷ xs) (more_trees t ts) h =
-      let rest = child_within newest d xs ts h.1 in
-      elim (x == d) as (λ b. IfSome (cond b (Some t) (child_among xs ts d)) (StampsWithin newest)) [ true ↦ h.0 | false ↦ rest ]
+  child_within : (test : ℕ → Bool) (d : ℕ) (ds : List ℕ) (ts : Trees K V) → AllStampsPass test ts → IfSome (child_among ds ts d) (StampsPass test)
+  child_within test d [] ts h = tt
+  child_within test d (x ∷ xs) no_trees h = tt
+  child_within test d (x ∷ xs) (more_trees t ts) h =
+      let rest = child_within test d xs ts h.1 in
+      elim (x == d) as (λ b. IfSome (cond b (Some t) (child_among xs ts d)) (StampsPass test)) [ true ↦ h.0 | false ↦ rest ]
 
-  all_within : (newest : ℕ) (row : List (Tree K V)) (c : Tree K V) → AllStampsWithin newest (trees row) → StampsWithin newest c → AllStampsWithin newest (trees (row ++ c ∷ []))
-  all_within newest [] c h here = (here, tt)
-  all_within newest (t ∷ row) c h here = (h.0, all_within newest row c h.1 here)
+  all_within : (test : ℕ → Bool) (row : List (Tree K V)) (c : Tree K V) → AllStampsPass test (trees row) → StampsPass test c → AllStampsPass test (trees (row ++ c ∷ []))
+  all_within test [] c h here = (here, tt)
+  all_within test (t ∷ row) c h here = (h.0, all_within test row c h.1 here)
 
   -- a branch has a child for each digit of its bitmap
   has_child : (t : Tree K V) (b d : ℕ) → d < 32 → Fits t → Shows (Branch b) t → is_some (child_at t d) ≡ (bit_at b d == 1)
@@ -117,7 +117,7 @@ pub record IsRow {K V : Type 0} (R : K → K → Ordering) (path : K → ℕ) (l
   pub ok : AreTries R path level (digits_from k 0 bitmap) (trees row)
   pub finds : (q : K) → digit (path q) level < k → find R q (entries_of_all (trees row)) ≡ option_or (find R q (entries left)) (find R q (entries right))
   pub most : length (entries_of_all (trees row)) ≤ under k left + under k right
-  pub stamps : (newest : ℕ) → stamp ≤ newest → StampsWithin newest left → StampsWithin newest right → AllStampsWithin newest (trees row)
+  pub stamps : (test : ℕ → Bool) → test stamp ≡ true → StampsPass test left → StampsPass test right → AllStampsPass test (trees row)
 
 module _ {K V : Type 0} (R : K → K → Ordering) (path : K → ℕ) (exact : (x y : K) → R x y ≡ Equal → x ≡ y) (level : ℕ) where
   -- a branch as one of the two
@@ -131,7 +131,7 @@ module _ {K V : Type 0} (R : K → K → Ordering) (path : K → ℕ) (exact : (
     pub next : (k : ℕ) → under (k + 1) t ≡ under k t + length (pairs_of (child_at t k))
     pub most : (k : ℕ) → under k t ≤ length (entries t)
     pub two : 0 < level → HasTwoWords R path (entries t)
-    pub within : (newest d : ℕ) → StampsWithin newest t → IfSome (child_at t d) (StampsWithin newest)
+    pub within : (test : ℕ → Bool) (d : ℕ) → StampsPass test t → IfSome (child_at t d) (StampsPass test)
 
   pub side : (b : ℕ) (t : Tree K V) → Shows (Branch b) t → IsTrie R path level t → IsSide b t
   side b (branch stamp size bitmap ts) shown trie = record {
@@ -144,7 +144,7 @@ module _ {K V : Type 0} (R : K → K → Ordering) (path : K → ℕ) (exact : (
     next = λ k. count_next k (digits_of bitmap) ts (once_each bitmap);
     most = λ k. count_most k (digits_of bitmap) ts;
     two = trie.4;
-    within = λ newest d h. child_within newest d (digits_of bitmap) ts h.1;
+    within = λ test d h. child_within test d (digits_of bitmap) ts h.1;
   }
   side b (bucket stamp es) shown trie = absurd shown
 
@@ -184,8 +184,8 @@ module _ {K V : Type 0} (R : K → K → Ordering) (path : K → ℕ) (exact : (
         none_so_far : (q : K) → digit (path q) level ≡ k → find R q (entries_of_all (trees row)) ≡ None
         none_so_far q here = find_lacking R path exact level q (digits_from k 0 (bit_or a b)) row (lacks_from k 0 (bit_or a b) (digit (path q) level) (omega (arith, here))) h.ok
 
-        within_of : (newest : ℕ) → stamp ≤ newest → StampsWithin newest left → StampsWithin newest right → IfSome o (StampsWithin newest)
-        within_of newest le left_in right_in = m.stamps newest le (l.within newest k left_in) (r.within newest k right_in)
+        within_of : (test : ℕ → Bool) → test stamp ≡ true → StampsPass test left → StampsPass test right → IfSome o (StampsPass test)
+        within_of test stamped left_in right_in = m.stamps test stamped (l.within test k left_in) (r.within test k right_in)
 
         -- neither side has a child of the digit
         pub row_kept : o ≡ None → IsRow R path level stamp (bit_or a b) left right (k + 1) row
@@ -209,7 +209,7 @@ module _ {K V : Type 0} (R : K → K → Ordering) (path : K → ℕ) (exact : (
             | inr e ↦ split q ∙ ap (or_else (find R q (entries_of_all (trees row)))) (find_other R path exact level k q (entries c) e.1 keys) ∙ or_none (find R q (entries_of_all (trees row))) ∙ h.finds q (omega (arith, lt, e.1))
           ];
           most = omega (arith, h.most, l.next k, r.next k, m.most, ap (λ x. length (pairs_of x)) some, length_row row c);
-          stamps = λ newest le left_in right_in. all_within newest row c (h.stamps newest le left_in right_in) (subst (λ x. IfSome x (StampsWithin newest)) some (within_of newest le left_in right_in));
+          stamps = λ test stamped left_in right_in. all_within test row c (h.stamps test stamped left_in right_in) (subst (λ x. IfSome x (StampsPass test)) some (within_of test stamped left_in right_in));
         }
           where
             split : (q : K) → find R q (entries_of_all (trees (row ++ c ∷ []))) ≡ or_else (find R q (entries_of_all (trees row))) (find R q (entries c))
@@ -245,5 +245,5 @@ module _ {K V : Type 0} (R : K → K → Ordering) (path : K → ℕ) (exact : (
             );
             finds = finds;
             most = omega (arith, h.most, l.most 32, r.most 32, ap (λ t. length (entries t)) made);
-            stamps = λ newest le left_in right_in. subst (StampsWithin newest) (sym made) (le, h.stamps newest le left_in right_in);
+            stamps = λ test stamped left_in right_in. subst (StampsPass test) (sym made) (stamped, h.stamps test stamped left_in right_in);
           }

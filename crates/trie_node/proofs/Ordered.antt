@@ -57,7 +57,7 @@ module _ {K V : Type 0} (R : K → K → Ordering) (path : K → ℕ) where
       (one_word_sorted w es (All-tail (λ x. word_of path x.0 ≡ w) e es all) (right_of (below_all R e.0 es) (is_sorted R es) h))
 
   module _ (total : IsTotalOrder R) (exact : (x y : K) → R x y ≡ Equal → x ≡ y) where
-    all_found : (es : List (K × V)) → All (λ e. is_some (find R e.0 es) ≡ true) es
+    pub all_found : (es : List (K × V)) → All (λ e. is_some (find R e.0 es) ≡ true) es
     all_found [] = All-nil (λ (e : K × V). is_some {T = V} (find R e.0 []) ≡ true)
     all_found (e ∷ es) =
         All-cons (λ x. is_some (find R x.0 (e ∷ es)) ≡ true) e es (ap is_some (found_first R total exact e es))

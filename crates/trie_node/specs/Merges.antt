@@ -3,7 +3,13 @@ use Rattle.std.specs.Prelude.{◌≡◌, ℕ, ◌+◌, ◌*◌, ◌%◌, ◌^◌
 use Rattle.std.specs.Option.{option_or}
 use Rattle.std.specs.declared.cmp.Ordering.{Ordering}
 use Rattle.std.specs.FinMap.{find}
+use Rattle.std.specs.List.{All}
+use Rattle.trie_node.specs.Shape.{Nodes}
 use Rattle.trie_node.specs.Tree.{Tree, branch, bucket, Trees, no_trees, more_trees, entries, digits_of, IsTrie}
+
+-- the stamp of each node passes the test
+abbrev pub EachStampPasses : (ℕ → Bool) → Nodes → Type 0
+EachStampPasses test ns = All (λ n. test n.1 ≡ true) ns
 
 module _ {K V : Type 0} where
   -- the subtrie of a digit
@@ -22,14 +28,14 @@ module _ {K V : Type 0} where
   pairs_of None = []
 
   abbrev mutual
-    -- no node has a stamp above
-    pub StampsWithin : ℕ → Tree K V → Type 0
-    StampsWithin newest (branch stamp size bitmap ts) = (stamp ≤ newest) × AllStampsWithin newest ts
-    StampsWithin newest (bucket stamp es) = stamp ≤ newest
+    -- the same of a tree
+    pub StampsPass : (ℕ → Bool) → Tree K V → Type 0
+    StampsPass test (branch stamp size bitmap ts) = (test stamp ≡ true) × AllStampsPass test ts
+    StampsPass test (bucket stamp es) = test stamp ≡ true
 
-    pub AllStampsWithin : ℕ → Trees K V → Type 0
-    AllStampsWithin newest no_trees = Unit {0}
-    AllStampsWithin newest (more_trees t ts) = StampsWithin newest t × AllStampsWithin newest ts
+    pub AllStampsPass : (ℕ → Bool) → Trees K V → Type 0
+    AllStampsPass test no_trees = Unit {0}
+    AllStampsPass test (more_trees t ts) = StampsPass test t × AllStampsPass test ts
 
 -- what a key has once a value, if there is one, was put where the test holds of what it had
 abbrev pub written_over : {V : Type 0} → (Option V → Bool) → Option V → Option V → Option V
@@ -49,17 +55,17 @@ module _ {K V : Type 0} (R : K → K → Ordering) (path : K → ℕ) (level : �
     pub agree : WordsAgree (pairs_of left) (pairs_of right)
     pub room : length (pairs_of left) + length (pairs_of right) < 2 ^ 63
 
-  -- the new subtrie has the pairs of both, where the left value wins, and its new nodes have the stamp
+  -- the new subtrie has the pairs of both, where the left value wins, and each node has the stamp or one of theirs
   pub record Merges (stamp : ℕ) (left right new : Option (Tree K V)) : Type 0 where
     pub there : is_some new ≡ (is_some left || is_some right)
     pub trie : IfSome new (IsTrie R path level)
     pub finds : (q : K) → find R q (pairs_of new) ≡ option_or (find R q (pairs_of left)) (find R q (pairs_of right))
     pub most : length (pairs_of new) ≤ length (pairs_of left) + length (pairs_of right)
-    pub stamps : (newest : ℕ) → stamp ≤ newest → IfSome left (StampsWithin newest) → IfSome right (StampsWithin newest) → IfSome new (StampsWithin newest)
+    pub stamps : (test : ℕ → Bool) → test stamp ≡ true → IfSome left (StampsPass test) → IfSome right (StampsPass test) → IfSome new (StampsPass test)
 
   -- the new subtrie is the old one with each of the pairs put where the test holds of what its key has
   pub record PutsEach (stamp : ℕ) (holds : Option V → Bool) (es : List (K × V)) (old new : Tree K V) : Type 0 where
     pub trie : IsTrie R path level new
     pub finds : (q : K) → find R q (entries new) ≡ written_over holds (find R q es) (find R q (entries old))
     pub most : length (entries new) ≤ length es + length (entries old)
-    pub stamps : (newest : ℕ) → stamp ≤ newest → StampsWithin newest old → StampsWithin newest new
+    pub stamps : (test : ℕ → Bool) → test stamp ≡ true → StampsPass test old → StampsPass test new

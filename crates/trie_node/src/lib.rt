@@ -47,4 +47,6 @@ pub use removal_in_place::{remove_in, remove_in_where};
 pub use search::find;
 pub use shown::Look;
 pub use union_laws::{union_of_maps, unions_of_maps};
-pub use walk_laws::{branch_is_its_children, walk_lists_map};
+pub use walk_laws::{
+    branch_is_its_children, leaf_is_its_pairs, trie_follows_digits, walk_lists_map,
+};

@@ -1,10 +1,10 @@
 //! The root of two maps together, made from their roots.
 
-ghost use Rattle.std.specs.Prelude.{◌≡◌, ℕ, ◌+◌, ◌<◌, ◌≤◌, ◌^◌, map, length, option_map, true, Some, IfOk};
+ghost use Rattle.std.specs.Prelude.{◌≡◌, ℕ, ◌+◌, ◌<◌, ◌≤◌, ◌^◌, Bool, map, length, option_map, true, Some, IfOk};
 ghost use Rattle.trie_node.specs.declared.shown.Look.TheVariants.{Branch};
 ghost use Rattle.trie_node.specs.Looks.{Shows};
 ghost use Rattle.trie_node.specs.Map.{union};
-ghost use Rattle.trie_node.specs.Merges.{CanMerge, Merges, PutsEach, child_at};
+ghost use Rattle.trie_node.specs.Merges.{CanMerge, EachStampPasses, Merges, PutsEach, child_at};
 ghost use Rattle.trie_node.specs.Roots.{IsRoot, map_of, word_of};
 ghost use Rattle.trie_node.specs.Shape.{Fits, NoneAbove, nodes};
 ghost use Rattle.trie_node.specs.Tree.{bucket};
@@ -159,6 +159,8 @@ pub fn merged<K: PathKey + Drop, V: Drop>(
     requires room { length (map_of K.cmp (tree left.now)) + length (map_of K.cmp (tree right.now)) < 2 ^ 63 }
     ensures root { IfOk result (λ n. IsRoot K.cmp K.path_of (tree n)) }
     ensures map { IfOk result (λ n. map_of K.cmp (tree n) ≡ union K.cmp (map_of K.cmp (tree left.now)) (map_of K.cmp (tree right.now))) }
+    // Each node has the stamp, or one that a node of a side has: it passes each test that these pass.
+    ensures stamped { (test : ℕ → Bool) → test stamp.0 ≡ true → EachStampPasses test (nodes (word_of K.path_of) (tree left.now)) → EachStampPasses test (nodes (word_of K.path_of) (tree right.now)) → IfOk result (λ n. EachStampPasses test (nodes (word_of K.path_of) (tree n))) }
     ensures stamps { (newest : ℕ) → stamp.0 ≤ newest → NoneAbove newest (nodes (word_of K.path_of) (tree left.now)) → NoneAbove newest (nodes (word_of K.path_of) (tree right.now)) → IfOk result (λ n. NoneAbove newest (nodes (word_of K.path_of) (tree n))) }
 {
     if size(left) == 0 {

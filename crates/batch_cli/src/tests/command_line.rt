@@ -11,6 +11,7 @@ fn said(alloc: std::alloc::Global, words: &[&str]) -> Result<String, Fail> {
         },
         Err(ArgFault::Help(text)) => format!(in alloc; "help\n{text}")?,
         Err(ArgFault::Parser(text)) => format!(in alloc; "parser\n{text}")?,
+        Err(ArgFault::NotText) => String::from_str(alloc, "no text")?,
         Err(ArgFault::Memory) => String::from_str(alloc, "memory")?,
     };
     Ok(said)

@@ -1,6 +1,8 @@
 //! Writers and readers that fail.
-use super::text;
-use crate::{Options, RunFault, ScriptFault, execute, parse_script, read_script, run_script};
+use super::{executed, text};
+use crate::{
+    ArgFault, Options, RunFault, ScriptFault, execute, parse_script, read_script, run_script,
+};
 use std::io;
 use std::io::{Read, Write};
 use std::test::Fail;
@@ -60,7 +62,7 @@ fn a_writer_that_fails_fails_the_run(rt: HostRuntime) -> Result<(), Fail> {
         };
         let mut err = Vec::new(alloc);
         let options = Options { file: None };
-        let status = execute(alloc, &options, b"0 open 1\n", &mut out, &mut err);
+        let (status, _) = execute(alloc, &options, b"0 open 1\n", &mut out, &mut err);
         assert_eq!(rt; status, 1);
         assert_eq!(rt;
             text(alloc, &err)?.as_str(),
@@ -93,7 +95,8 @@ fn standard_error_that_fails_changes_no_status(rt: HostRuntime) -> Result<(), Fa
         most: 0,
     };
     let options = Options { file: None };
-    assert_eq!(rt; execute(alloc, &options, b"0", &mut out, &mut err), 2);
+    let (status, _) = execute(alloc, &options, b"0", &mut out, &mut err);
+    assert_eq!(rt; status, 2);
     assert_eq!(rt; out.len(), 0);
     Ok(())
 }
@@ -122,21 +125,29 @@ fn no_more_is_read_than_a_script_may_have(rt: HostRuntime) -> Result<(), Fail> {
 fn faults_show_as_they_are_printed(rt: HostRuntime) -> Result<(), Fail> {
     let alloc = rt.alloc();
     let shown = format!(in alloc;
-        "{}, {}, {}",
+        "{}, {}, {}, {}",
         ScriptFault::Memory,
         RunFault::Memory,
-        RunFault::Write
+        RunFault::Write,
+        ArgFault::Memory
     )?;
     assert_eq!(rt;
         shown.as_str(),
-        "out of memory, out of memory, cannot write output"
+        "out of memory, out of memory, cannot write output, out of memory"
     );
-    match parse_script(alloc, b"\n0 open") {
-        Ok(_) => assert!(rt; false, "the line has no handle"),
-        Err(fault) => {
-            let shown = format!(in alloc; "{fault}")?;
-            assert_eq!(rt; shown.as_str(), "line 2: missing field");
-        }
-    }
+    let help = String::from_str(alloc, "Usage")?;
+    let shown = format!(in alloc; "{}", ArgFault::Help(help))?;
+    assert_eq!(rt; shown.as_str(), "Usage");
+    let shown = format!(in alloc; "{}", ArgFault::NotText)?;
+    assert!(rt; shown.as_str().starts_with("error: invalid UTF-8"));
+    Ok(())
+}
+
+#[test]
+fn a_script_with_a_fault_is_not_run(rt: HostRuntime) -> Result<(), Fail> {
+    let (status, out, err) = executed(rt.alloc(), b"0 open 1\n0 open")?;
+    assert_eq!(rt; err.as_str(), "line 2: missing field\n");
+    assert_eq!(rt; out.as_str(), "");
+    assert_eq!(rt; status, 2);
     Ok(())
 }

@@ -1,5 +1,5 @@
 //! Scripts and their replies.
-use super::prints;
+use super::{executed, prints};
 use std::test::Fail;
 
 #[test]
@@ -74,4 +74,18 @@ fn keys_of_64_bytes_are_apart(rt: HostRuntime) -> Result<(), Fail> {
         script,
         "1 ok\n2 none\n3 none\n4 none\n5 none\n6 count 4\n7 some 1\n",
     )
+}
+
+#[test]
+fn a_script_of_65_536_command_lines_is_run(rt: HostRuntime) -> Result<(), Fail> {
+    let alloc = rt.alloc();
+    let mut script = Vec::from_slice(alloc, b"0 open 1\n")?;
+    for _ in 1..65_536 {
+        script.extend_from_slice(b"9 put 1 a -1\n")?;
+    }
+    let (status, out, err) = executed(alloc, script.as_slice())?;
+    assert_eq!(rt; (status, err.len()), (0, 0));
+    assert!(rt; out.as_str().starts_with("1 ok\n2 none\n3 some -1\n"));
+    assert!(rt; out.as_str().ends_with("\n65536 some -1\n"));
+    Ok(())
 }

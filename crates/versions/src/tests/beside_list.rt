@@ -1,8 +1,7 @@
-//! Many calls on a version and on a plain sorted list, which answer alike.
-ghost use Rattle.std.specs.Prelude.{◌<◌};
-
+//! Many calls on versions that fork from one another, and on a plain sorted list beside each, which answer alike.
 use super::plain::{Pair, find_pair, put_pair, without_pair};
-use super::{chosen, fork, plainly};
+use super::shape::walk;
+use super::{Chosen, chosen, fork, plainly, value_of};
 use crate::{NoMemory, Version};
 use generation::Source;
 use std::alloc::Global;
@@ -10,6 +9,7 @@ use std::process::Abort;
 use std::sync::Arc;
 use std::test::Fail;
 use test_keys::ChosenKey;
+use trie_node::Stamp;
 
 // Few words, which part at different levels.
 const WORDS: [u32; 8] = [
@@ -25,6 +25,11 @@ const WORDS: [u32; 8] = [
 
 // Keys of each word.
 const KEYS: u32 = 5;
+
+// How many versions there are, and how many calls are made on all of them.
+const VERSIONS: usize = 8;
+
+const CALLS: u32 = 100_000;
 
 // A number after another, in no order that a reader sees: Marsaglia's shifts of 32 bits.
 fn shuffled(number: u32) -> u32 {
@@ -42,20 +47,12 @@ fn key_of(number: u32) -> ChosenKey {
 #[derive(Drop)]
 struct Both {
     list: Vec<Pair<ChosenKey, i64>>,
-    version: Version<ChosenKey, i64>,
+    version: Chosen,
 }
 
 // The value of the key in the list.
 fn listed(list: &[Pair<ChosenKey, i64>], key: &ChosenKey) -> Option<i64> {
     match find_pair(list, key) {
-        Some(value) => Some(**value),
-        None => None,
-    }
-}
-
-// The value of the key in the version.
-fn held(version: &Version<ChosenKey, i64>, key: &ChosenKey) -> Option<i64> {
-    match version.get(key) {
         Some(value) => Some(**value),
         None => None,
     }
@@ -75,12 +72,10 @@ fn copied(
 
 impl Both {
     // An empty list and an empty version.
-    fn new(alloc: Global, source: &mut Source) -> Result<Both, Fail>
-        requires { source.old < 1000 }
-    {
+    fn new(alloc: Global) -> Result<Both, NoMemory> {
         Ok(Both {
             list: Vec::new(alloc),
-            version: Version::empty(alloc, 100, source.next())?,
+            version: Version::empty(alloc, 100, Stamp::LOOSE)?,
         })
     }
 
@@ -110,47 +105,87 @@ impl Both {
     }
 
     // A copy of the list and a fork of the version.
-    fn fork(&mut self, rt: &impl Abort, alloc: Global, source: &mut Source) -> Result<Both, Fail> {
+    fn fork(
+        &mut self,
+        rt: &impl Abort,
+        alloc: Global,
+        source: &mut Source,
+    ) -> Result<Both, NoMemory> {
         Ok(Both {
             list: copied(alloc, &self.list)?,
             version: fork(rt, &mut self.version, source)?,
         })
     }
 
+    // A put, or else a removal, which a number picks. It answers what each answers.
+    fn write(&mut self, alloc: Global, number: u32) -> Result<(Option<i64>, Option<i64>), Fail> {
+        let key = key_of(number / 2);
+        if number % 2 == 0 {
+            self.put(alloc, key, i64::from(number))
+        } else {
+            self.remove(alloc, &key)
+        }
+    }
+
     // Whether both have the same value at each key, and the same length.
     fn is_alike(&self) -> bool {
         for number in 0..8 * KEYS {
             let key = key_of(number);
-            if listed(&self.list, &key) != held(&self.version, &key) {
+            if listed(&self.list, &key) != value_of(&self.version, &key) {
                 return false;
             }
         }
         self.list.len() as u64 == self.version.len()
     }
+
+    // Whether the version has the nodes of a version into which the pairs of the list were put.
+    fn has_shape(&self, alloc: Global) -> Result<bool, Fail> {
+        let mut made = Version::empty(alloc, 100, Stamp::LOOSE)?;
+        for (key, value) in &self.list {
+            made.put(alloc, Arc::try_clone(key)?, Arc::try_clone(value)?)?;
+        }
+        let mut nodes = Vec::new(alloc);
+        let mut made_nodes = Vec::new(alloc);
+        walk(self.version.root(), 0, &mut nodes)?;
+        walk(made.root(), 0, &mut made_nodes)?;
+        Ok(nodes.as_slice() == made_nodes.as_slice())
+    }
 }
 
+// Empty lists with their versions.
+fn all_empty(alloc: Global) -> Result<Vec<Both>, Fail> {
+    let mut all = Vec::new(alloc);
+    for _ in 0..VERSIONS {
+        all.push(Both::new(alloc)?)?;
+    }
+    Ok(all)
+}
+
+// One call in 16 forks a version in place of another; the others write.
 #[test]
-fn many_calls_are_answered_as_by_a_sorted_list(rt: HostRuntime) -> Result<(), Fail> {
+fn many_calls_are_answered_as_by_sorted_lists(rt: HostRuntime) -> Result<(), Fail> {
     let alloc = rt.alloc();
     let mut source = Source::new();
-    let mut both = Both::new(alloc, &mut source)?;
-    let mut old = both.fork(&rt, alloc, &mut source)?;
+    let mut all = all_empty(alloc)?;
     let mut number = 2463534242;
-    for turn in 0..4000u32 {
+    for turn in 0..CALLS {
         number = shuffled(number);
-        let key = key_of(number / 4);
-        let answers = if number % 4 < 2 {
-            both.put(alloc, key, i64::from(turn))?
-        } else {
-            both.remove(alloc, &key)?
+        let Some(both) = all.get_mut(number as usize % VERSIONS) else {
+            return Ok(());
         };
-        assert_eq!(rt; answers.0, answers.1, "at turn {turn}");
-        if turn % 100 == 0 {
-            assert!(rt; both.is_alike(), "at turn {turn}");
-            assert!(rt; old.is_alike(), "at turn {turn}");
-            old = both.fork(&rt, alloc, &mut source)?;
+        if number / 8 % 16 == 0 {
+            let copy = both.fork(&rt, alloc, &mut source)?;
+            if let Some(place) = all.get_mut(number as usize / 128 % VERSIONS) {
+                *place = copy;
+            }
+        } else {
+            let answers = both.write(alloc, number / 128)?;
+            assert_eq!(rt; answers.0, answers.1, "at turn {turn}");
         }
     }
-    assert!(rt; old.is_alike());
+    for both in &all {
+        assert!(rt; both.is_alike());
+        assert!(rt; both.has_shape(alloc)?);
+    }
     Ok(())
 }

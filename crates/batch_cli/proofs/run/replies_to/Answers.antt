@@ -1,7 +1,7 @@
 use Rattle.std.proofs.Common.{rules, arith, ◌≡◌, ◌+◌, ◌++◌, ◌∷◌, [], ◌∙◌, ap, sym, take, string_bytes}
 use Rattle.std.proofs.lemmas.List.{take_more}
-use Rattle.batch_cli.specs.Replies.{line_text}
-use Rattle.batch_cli.specs.declared.command.CommandLine.{CommandLine}
+use Rattle.script.specs.Replies.{line_text}
+use Rattle.script.specs.declared.statement.CommandLine.{CommandLine}
 use Rattle.batch_cli.proofs.RunLemmas.{answers_more}
 use Rattle.batch_cli.proofs.run.replies_to.Goals as goal
 

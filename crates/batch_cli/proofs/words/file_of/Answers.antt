@@ -1,6 +1,6 @@
 use Rattle.std.proofs.Common.{ap, map, List, ℕ, Ok, Some, ◌∙◌}
 use Rattle.std.specs.Borrow.{Bor}
-use Rattle.batch_cli.proofs.GrammarLemmas.{file_found, fails_by}
+use Rattle.batch_cli.proofs.CommandLineLemmas.{file_found, fails_by}
 use Rattle.batch_cli.proofs.words.file_of.Goals as goal
 
 pub returns-in-Some-clause-file : goal.returns-in-Some-clause-file

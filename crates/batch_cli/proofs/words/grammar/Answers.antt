@@ -1,7 +1,7 @@
 use Rattle.std.proofs.Common.{rules, ap₂, codes, ◌≡◌, ◌∙◌}
 use Rattle.std.proofs.lemmas.Result.{IfOk-weaker}
 use Rattle.clap.specs.Words.{app_of, new_app, rule_of, with_rule}
-use Rattle.batch_cli.specs.Grammar.{file_rule}
+use Rattle.batch_cli.specs.CommandLine.{file_rule}
 use Rattle.batch_cli.proofs.words.grammar.Goals as goal
 
 pub returns : goal.returns

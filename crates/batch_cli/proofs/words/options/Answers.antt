@@ -1,4 +1,4 @@
-use Rattle.batch_cli.proofs.GrammarLemmas.{told}
+use Rattle.batch_cli.proofs.CommandLineLemmas.{told}
 use Rattle.batch_cli.proofs.words.options.Goals as goal
 
 pub returns-in-Err-clause-fault : goal.returns-in-Err-clause-fault

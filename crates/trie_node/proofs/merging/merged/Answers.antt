@@ -1,7 +1,7 @@
 use Rattle.std.proofs.Common.{sym, ap, ◌∙◌}
 use Rattle.trie_node.specs.Roots.{map_of}
 use Rattle.trie_node.specs.View.{tree}
-use Rattle.trie_node.proofs.MergedRoots.{only_left, only_right, can_merge_roots, merged_root, merged_map, merged_stamps}
+use Rattle.trie_node.proofs.MergedRoots.{only_left, only_right, can_merge_roots, merged_root, merged_map, merged_stamps, merged_none_above}
 use Rattle.trie_node.proofs.Views.{on_ok}
 use Rattle.trie_node.proofs.merging.merged.Goals as goal
 
@@ -62,6 +62,17 @@ returns-clause-map g c =
     let right = tree c.args.right.now in
     on_ok c.merge_at.result _ _ (λ n m. merged_map R path total exact small left right c.requires.left c.requires.right c.args.stamp.0 (tree n) m) c.merge_at.ensures
 
+pub returns-clause-stamped : goal.returns-clause-stamped
+returns-clause-stamped g c test stamped left_pass right_pass =
+    let R = g.K.Ord.cmp in
+    let path = g.K.PathKey.path_of in
+    let total = g.met.K.Ord.total in
+    let exact = g.met.K.PathKey.exact in
+    let small = g.met.K.PathKey.small in
+    let left = tree c.args.left.now in
+    let right = tree c.args.right.now in
+    on_ok c.merge_at.result _ _ (λ n m. merged_stamps R path total exact small left right c.requires.left c.requires.right c.args.stamp.0 (tree n) m test stamped left_pass right_pass) c.merge_at.ensures
+
 pub returns-clause-stamps : goal.returns-clause-stamps
 returns-clause-stamps g c newest le left_none right_none =
     let R = g.K.Ord.cmp in
@@ -71,4 +82,4 @@ returns-clause-stamps g c newest le left_none right_none =
     let small = g.met.K.PathKey.small in
     let left = tree c.args.left.now in
     let right = tree c.args.right.now in
-    on_ok c.merge_at.result _ _ (λ n m. merged_stamps R path total exact small left right c.requires.left c.requires.right c.args.stamp.0 (tree n) m newest le left_none right_none) c.merge_at.ensures
+    on_ok c.merge_at.result _ _ (λ n m. merged_none_above R path total exact small left right c.requires.left c.requires.right c.args.stamp.0 (tree n) m newest le left_none right_none) c.merge_at.ensures

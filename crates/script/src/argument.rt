@@ -1,0 +1,128 @@
+//! What stands behind a verb, and its readers.
+
+ghost use Rattle.std.specs.Prelude.{◌≡◌, List, IfErr, IfOk, map};
+ghost use Rattle.script.specs.Lines.{fields_of};
+ghost use Rattle.script.specs.Grammar.{Place, handle_place, key_place, value_place};
+ghost use Rattle.script.specs.Statements.{AreInRange, IsInRange, spelling_of};
+ghost use Rattle.script.specs.Statements as spec;
+ghost use Rattle.script.specs.Faults.{Faulty, StopsBy, Suits, reason_at};
+
+use crate::fault::Reason;
+use crate::fields::Fields;
+use crate::key::Key;
+use crate::number::{number_of, value_of};
+use crate::stop::Stop;
+use std::alloc::Global;
+
+/// What one field says in its place.
+pub trait Argument: Drop {
+    ghost use Rattle.script.specs.Grammar.{Place};
+    ghost use Rattle.script.specs.Statements as spec;
+
+    ghost place: { Place };
+
+    ghost argument: { Self → spec.Argument };
+
+    /// Reads the field.
+    fn read(alloc: Global, field: &[u8]) -> Result<Self, Stop>
+        ensures ok { IfOk result (λ x. IsInRange (argument x) × (field.now ≡ spelling_of (argument x))) }
+        ensures place { IfOk result (λ x. spec.place_of (argument x) ≡ place) }
+        ensures err { IfErr result (StopsBy (λ reason. ¬ (Suits place field.now) × (reason ≡ reason_at place))) };
+}
+
+/// What all fields behind a verb say, from left to right.
+pub trait Arguments {
+    ghost use Rattle.std.specs.Prelude.{List};
+    ghost use Rattle.script.specs.Grammar.{Place};
+    ghost use Rattle.script.specs.Statements as spec;
+
+    ghost places: { List Place };
+
+    ghost arguments: { Self → List spec.Argument };
+
+    /// Reads the fields.
+    fn read(alloc: Global, fields: Fields<'_>) -> Result<Self, Stop>
+        ensures lawful { IfOk result (λ x. AreInRange (arguments x)) }
+        ensures ok { IfOk result (λ x. fields_of fields.entry.0.now ≡ map spelling_of (arguments x)) }
+        ensures err { IfErr result (StopsBy (Faulty places (fields_of fields.entry.0.now))) };
+}
+
+impl Argument for u32 {
+    ghost use Rattle.script.specs.Grammar.{handle_place};
+    ghost use Rattle.script.specs.Statements.{handle_argument};
+
+    ghost place = { handle_place };
+
+    ghost argument = { handle_argument };
+
+    fn read(_alloc: Global, field: &[u8]) -> Result<u32, Stop> {
+        match number_of(field) {
+            Some(handle) => Ok(handle),
+            None => Err(Stop::Fault(Reason::BadHandle)),
+        }
+    }
+}
+
+impl Argument for Key {
+    ghost use Rattle.script.specs.Grammar.{key_place};
+    ghost use Rattle.script.specs.Statements.{key_argument};
+
+    ghost place = { key_place };
+
+    ghost argument = { key_argument };
+
+    fn read(alloc: Global, field: &[u8]) -> Result<Key, Stop> {
+        match Key::new(alloc, field)? {
+            Some(key) => Ok(key),
+            None => Err(Stop::Fault(Reason::BadKey)),
+        }
+    }
+}
+
+impl Argument for i64 {
+    ghost use Rattle.script.specs.Grammar.{value_place};
+    ghost use Rattle.script.specs.Statements.{value_argument};
+
+    ghost place = { value_place };
+
+    ghost argument = { value_argument };
+
+    fn read(_alloc: Global, field: &[u8]) -> Result<i64, Stop> {
+        match value_of(field) {
+            Some(value) => Ok(value),
+            None => Err(Stop::Fault(Reason::BadValue)),
+        }
+    }
+}
+
+impl Arguments for () {
+    ghost use Rattle.std.specs.Prelude.{[]};
+
+    ghost places = { [] };
+
+    ghost arguments = { λ _. [] };
+
+    fn read(_alloc: Global, mut fields: Fields<'_>) -> Result<(), Stop> {
+        match fields.next() {
+            Some(_) => Err(Stop::Fault(Reason::ExtraField)),
+            None => Ok(()),
+        }
+    }
+}
+
+impl<A: Argument, B: Arguments> Arguments for (A, B) {
+    ghost use Rattle.std.specs.Prelude.{◌∷◌};
+
+    ghost places = { A.place ∷ B.places };
+
+    ghost arguments = { λ x. A.argument x.0 ∷ B.arguments x.1 };
+
+    fn read(alloc: Global, mut fields: Fields<'_>) -> Result<(A, B), Stop> {
+        let Some(field) = fields.next() else {
+            return Err(Stop::Fault(Reason::MissingField));
+        };
+        let first = A::read(alloc, field)?;
+        let rest = B::read(alloc, fields)?;
+        Ok((first, rest))
+    }
+}

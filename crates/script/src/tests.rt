@@ -1,0 +1,4 @@
+//! What scripts say, by hand.
+mod faults;
+mod parts;
+mod replies;
