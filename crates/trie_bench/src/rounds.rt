@@ -4,14 +4,18 @@ use crate::arguments::{Arguments, arguments_of};
 use crate::fault::Fault;
 use crate::maps::{Map, empty, get_all, keys, put_all, remove_all, shuffled, snapshot_all};
 use crate::memory::{resident_bytes, show_bytes};
+use crate::merges::merge_all;
+use crate::questions::{Question, ask, count, exists, filter, fold_sum, map_values, told};
 use crate::stopwatch::Best;
 use crate::walks::{cut_all, walk_all};
+use combiner::Bulk;
 use generation::Source;
 use keys::ByteText;
 use std::env;
 use std::rt::Runtime;
 use std::sync::Arc;
 use std::time::Instant;
+use versions::View;
 
 /// How many snapshots a round takes, each with a put after it.
 const SNAPSHOTS: u32 = 1000;
@@ -34,7 +38,8 @@ pub fn run<R: Runtime + AllocGlobal>(rt: &R) -> Result<(), Fault> {
     fresh(rt, rounds, &mut puts, keys.as_slice())?;
     scattered(rt, rounds, &mut puts, keys.as_slice())?;
     snapshot(rt, rounds, keys.as_slice())?;
-    remove(rt, rounds, keys.as_slice())
+    remove(rt, rounds, keys.as_slice())?;
+    merge(rt, rounds, keys.as_slice())
 }
 
 /// Puts all keys into an empty map, and counts the time.
@@ -65,7 +70,8 @@ fn fresh<R: Runtime + AllocGlobal>(
     read(rt, rounds, "get_random", &map, in_random_order.as_slice())?;
     replace(rt, rounds, "replace", &mut map, keys)?;
     walk(rt, rounds, &map)?;
-    cut(rt, rounds, &map)
+    cut(rt, rounds, &map)?;
+    ask_all(rt, rounds, &map)
 }
 
 /// Reads all pairs in the order of a walk.
@@ -92,6 +98,57 @@ fn cut<R: Runtime + AllocGlobal>(rt: &R, rounds: u32, map: &Map) -> Result<(), F
         best.count(start.elapsed(rt)?);
     }
     best.show(rt, "cut", 1, i128::from(pieces))
+}
+
+/// Asks each question about all pairs.
+fn ask_all<R: Runtime + AllocGlobal>(rt: &R, rounds: u32, map: &Map) -> Result<(), Fault> {
+    let view = map.view()?;
+    let half = (map.len() / 2) as i64;
+    ask_one(rt, rounds, "count", &view, &count(half))?;
+    ask_one(rt, rounds, "exists_absent", &view, &exists(0))?;
+    ask_one(rt, rounds, "fold_sum", &view, &fold_sum())?;
+    ask_one(rt, rounds, "filter", &view, &filter(half))?;
+    ask_one(rt, rounds, "map_values", &view, &map_values(1))
+}
+
+/// Asks one question about all pairs.
+fn ask_one<R: Runtime + AllocGlobal>(
+    rt: &R,
+    rounds: u32,
+    name: &str,
+    view: &View<ByteText, i64>,
+    question: &Question,
+) -> Result<(), Fault>
+    requires { ⟦<Question as Bulk<ByteText, i64>>⟧.ready question.now }
+{
+    let mut best = Best::new();
+    let mut checksum = 0;
+    for _ in 0..rounds {
+        let start = Instant::now(rt)?;
+        let answer = ask(rt.alloc(), view, question)?;
+        best.count(start.elapsed(rt)?);
+        checksum = told(answer);
+    }
+    best.show(rt, name, 1, checksum)
+}
+
+/// Puts two maps together that have half of the keys each.
+fn merge<R: Runtime + AllocGlobal>(
+    rt: &R,
+    rounds: u32,
+    keys: &[Arc<ByteText>],
+) -> Result<(), Fault> {
+    let (low, high) = keys.split_at(keys.len() / 2);
+    let left = fill(rt, &mut Best::new(), low)?;
+    let right = fill(rt, &mut Best::new(), high)?;
+    let mut best = Best::new();
+    let mut count = 0;
+    for _ in 0..rounds {
+        let start = Instant::now(rt)?;
+        count = merge_all(rt.alloc(), &left, &right)?;
+        best.count(start.elapsed(rt)?);
+    }
+    best.show(rt, "merge", 1, i128::from(count))
 }
 
 /// Maps on the heap that dropped maps have left, whose free blocks are scattered.

@@ -16,14 +16,14 @@ use Rattle.trie_node.proofs.Opened.{Opened, below_at}
 use Rattle.trie_node.proofs.Removals.{removes_absent, removes_nothing, some_size, removes_gone, removes_left}
 
 module _ {K V : Type 0} (R : K → K → Ordering) (path : K → ℕ) (total : IsTotalOrder R) (exact : (x y : K) → R x y ≡ Equal → x ≡ y) (level stamp : ℕ) (k : K) (holds : Option V → Bool)
-    (node : Node K V) (before size bitmap : ℕ) (items : List (Node K V)) (o : Opened R path level node before size bitmap items) (d : ℕ) (below : d < 32) (here : digit (path k) level ≡ d) where
+    (node : Node K V) (before size bitmap : ℕ) (items : List (Node K V)) (o : Opened R path level (tree node) before size bitmap items) (d : ℕ) (below : d < 32) (here : digit (path k) level ≡ d) where
   -- nothing is removed where no child has the key's digit
   pub absent_below : (bit_at bitmap d == 1) ≡ false → (None ≡ find R k (entries (tree node))) × (is_removable R k holds (entries (tree node)) ≡ false)
   absent_below lacks = removes_absent R path total exact level stamp k holds d here below before size bitmap (map tree items) (tree node) o.is o.trie lacks
 
   module _ (has : (bit_at bitmap d == 1) ≡ true) (i : ℕ) (place : i ≡ count_ones (bitmap % 2 ^ d)) (child : Node K V) (e : child ≡ get_or items i child) where
     there : tree child ≡ get_or (map tree items) (count_ones (bitmap % 2 ^ d)) (tree child)
-    there = (below_at R path level node before size bitmap items o d below exact has i place child e).at ∙ ap (λ n. get_or (map tree items) n (tree child)) place
+    there = (below_at R path level (tree node) before size bitmap items o d below exact has i place child e).at ∙ ap (λ n. get_or (map tree items) n (tree child)) place
 
     -- nor where nothing is removed from the child
     pub nothing_below : (found : Option V) → (found ≡ find R k (entries (tree child))) × (is_removable R k holds (entries (tree child)) ≡ false) → (found ≡ find R k (entries (tree node))) × (is_removable R k holds (entries (tree node)) ≡ false)

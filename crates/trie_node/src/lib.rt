@@ -3,8 +3,8 @@
 //! A root is a finite map: `find` reads it, `with_put` and `with_removed` give the root of the
 //! changed map and leave the old one as it was. They copy the nodes of one path and share all
 //! others. `put_in` and `remove_in` change a root itself, and no other: they write the nodes that
-//! nobody else holds where they stand, and copy the rest of the path. Which nodes a root has is a function of its pairs; a write puts its stamp on the nodes
-//! of its key's path and on no other.
+//! nobody else holds where they stand, and copy the rest of the path. Which nodes a root has is a
+//! function of its pairs; a write puts its stamp on the nodes of its key's path and on no other.
 #![tactic(auto)]
 
 mod basics;

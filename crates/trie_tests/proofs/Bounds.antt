@@ -22,3 +22,6 @@ module _ {K V : Type 0} (R : K → K → Ordering) (path : K → ℕ) (total : I
 
   pub removal_holds : IsRoot R path new → map_of R new ≡ without R (map_of R old) k → length (map_of R old) ≤ most → IsRoot R path new × (length (map_of R new) ≤ most)
   removal_holds root map few = (root, omega (arith, ap length map, length_without R total k (map_of R old) test, few))
+
+  pub kept_holds : new ≡ old → IsRoot R path old × (length (map_of R old) ≤ most) → IsRoot R path new × (length (map_of R new) ≤ most)
+  kept_holds e = subst (λ t. IsRoot R path t × (length (map_of R t) ≤ most)) (sym e)

@@ -93,6 +93,30 @@ impl<K: PathKey + Drop, V: Drop> Held<K, V> {
         })
     }
 
+    /// Puts the value at the key where the root stands.
+    pub fn put_in(
+        &mut self,
+        alloc: Global,
+        key: Arc<K, Global>,
+        value: Arc<V, Global>,
+        stamp: Stamp,
+    ) -> Result<(), NoMemory> {
+        if self.most >= MOST_PAIRS {
+            return Err(NoMemory);
+        }
+        root_is_map::<K, V>();
+        trie_node::put_in(alloc, &mut self.root, key, value, stamp)?;
+        self.most += 1;
+        Ok(())
+    }
+
+    /// Removes the key where the root stands.
+    pub fn remove_in(&mut self, alloc: Global, key: &K, stamp: Stamp) -> Result<(), NoMemory> {
+        root_is_map::<K, V>();
+        trie_node::remove_in(alloc, &mut self.root, key, stamp)?;
+        Ok(())
+    }
+
     /// The root of both maps together, where the value of this one wins.
     pub fn merged(
         &self,

@@ -1,6 +1,7 @@
 //! What the trie of given keys looks like, by hand.
 
 mod conditions;
+mod in_place;
 mod memory;
 mod merged;
 mod random;
@@ -33,6 +34,19 @@ fn put(
     let key = Arc::new(alloc, at)?;
     let value = Arc::new(alloc, value)?;
     trie.with_put(alloc, key, value, Stamp(stamp))
+}
+
+/// Puts a value at a key where the trie stands.
+fn put_in(
+    alloc: Global,
+    trie: &mut Trie,
+    at: ChosenKey,
+    value: u32,
+    stamp: u64,
+) -> Result<(), NoMemory> {
+    let key = Arc::new(alloc, at)?;
+    let value = Arc::new(alloc, value)?;
+    trie.put_in(alloc, key, value, Stamp(stamp))
 }
 
 /// The trie of these pairs, put in their order.

@@ -29,7 +29,7 @@ fn take_all_of(alloc: Global, taken: &mut Vec<Vec<u8>>, size: usize) {
 }
 
 // Takes all the memory that there is.
-fn take_all(alloc: Global) -> Result<Vec<Vec<u8>>, AllocError> {
+pub(super) fn take_all(alloc: Global) -> Result<Vec<Vec<u8>>, AllocError> {
     let mut taken = Vec::with_capacity(alloc, MOST_BLOCKS)?;
     let mut large = 1 << 46;
     for _ in 0..34 {
@@ -45,15 +45,19 @@ fn take_all(alloc: Global) -> Result<Vec<Vec<u8>>, AllocError> {
 }
 
 // How many blocks are given back at most.
-const MOST_GIVEN: usize = 24;
+pub(super) const MOST_GIVEN: usize = 24;
 
 // A block for a node, and one for the children of a branch.
 pub(super) const NODE: usize = 64;
 
-const CHILDREN: usize = 16;
+pub(super) const CHILDREN: usize = 16;
 
 // Blocks of the two sizes in turn. The last is of the first size.
-fn spare_blocks(alloc: Global, first: usize, second: usize) -> Result<Vec<Vec<u8>>, AllocError> {
+pub(super) fn spare_blocks(
+    alloc: Global,
+    first: usize,
+    second: usize,
+) -> Result<Vec<Vec<u8>>, AllocError> {
     let mut blocks = Vec::with_capacity(alloc, MOST_GIVEN)?;
     for _ in 0..MOST_GIVEN / 2 {
         blocks.push(Vec::with_capacity(alloc, second)?)?;

@@ -21,7 +21,7 @@ put_beside-requires-clause-place g t c =
     let d = c.digit-digit in
     let o = opened R path a.level a.node.now c.deref.result.now b.stamp b.old_size b.bitmap b.children c.deref.ensures b.is c.requires.trie in
     let lacks = sym c.has_digit.ensures ∙ c.if-not-has_digit.true in
-    let within = gap_within R path a.level a.node.now b.stamp.0 b.old_size b.bitmap b.children.items o d.result d.ensures.small lacks in
+    let within = gap_within R path a.level (tree a.node.now) b.stamp.0 b.old_size b.bitmap b.children.items o d.result d.ensures.small lacks in
     subst (λ xs. count_ones (b.bitmap % 2 ^ d.result) ≤ length xs) (sym c.as_slice-all.ensures.value) within
 
 pub returns-then-not-has_digit-clause-ok : goal.returns-then-not-has_digit-clause-ok
@@ -40,7 +40,7 @@ returns-then-not-has_digit-clause-ok g t c =
     let o = opened R path a.level a.node.now c.deref.result.now b.stamp b.old_size b.bitmap b.children c.deref.ensures b.is c.requires.trie in
     let lacks = sym c.has_digit.ensures ∙ c.if-not-has_digit.true in
     let here = ap (λ w. digit w a.level) (sym c.requires.path) ∙ sym d.ensures.value in
-    let none = not_below R path a.level a.node.now b.stamp.0 b.old_size b.bitmap b.children.items o d.result d.ensures.small exact lacks k here in
+    let none = not_below R path a.level (tree a.node.now) b.stamp.0 b.old_size b.bitmap b.children.items o d.result d.ensures.small exact lacks k here in
     let wider = bit_or b.bitmap (1 * 2 ^ d.result % 2 ^ 32) in
     let i = count_ones (b.bitmap % 2 ^ d.result) in
     let leaf = bucket s ((k, v) ∷ []) in
@@ -61,7 +61,7 @@ index-old-requires g t c =
     let d = c.digit-digit in
     let o = opened R path a.level a.node.now c.deref.result.now b.stamp b.old_size b.bitmap b.children c.deref.ensures b.is c.requires.trie in
     let has = sym c.has_digit.ensures ∙ c.if-not-has_digit.false in
-    omega (arith, place_below R path a.level a.node.now b.stamp.0 b.old_size b.bitmap b.children.items o d.result d.ensures.small has c.place-at.result c.place-at.ensures, b.children.ok)
+    omega (arith, place_below R path a.level (tree a.node.now) b.stamp.0 b.old_size b.bitmap b.children.items o d.result d.ensures.small has c.place-at.result c.place-at.ensures, b.children.ok)
 
 pub put_at-requires : goal.put_at-requires
 put_at-requires g t c κs within =
@@ -74,8 +74,8 @@ put_at-requires g t c κs within =
     let old = c.index-old.result.now in
     let o = opened R path a.level a.node.now c.deref.result.now b.stamp b.old_size b.bitmap b.children c.deref.ensures b.is c.requires.trie in
     let has = sym c.has_digit.ensures ∙ c.if-not-has_digit.false in
-    let child = below_at R path a.level a.node.now b.stamp.0 b.old_size b.bitmap b.children.items o d.result d.ensures.small g.met.K.PathKey.exact has c.place-at.result c.place-at.ensures old c.index-old.ensures in
-    let agree = agree_below R path a.level a.node.now b.stamp.0 b.old_size b.bitmap b.children.items o d.result d.ensures.small w (sym d.ensures.value) c.requires.agree c.place-at.result old child in
+    let child = below_at R path a.level (tree a.node.now) b.stamp.0 b.old_size b.bitmap b.children.items o d.result d.ensures.small g.met.K.PathKey.exact has c.place-at.result c.place-at.ensures old c.index-old.ensures in
+    let agree = agree_below R path a.level (tree a.node.now) b.stamp.0 b.old_size b.bitmap b.children.items o d.result d.ensures.small w (sym d.ensures.value) c.requires.agree c.place-at.result old child in
     (omega (arith, o.level_in), (search rules, (search rules, (search rules, (child.trie, (c.requires.path, (agree, omega (arith, child.fewer, c.requires.room))))))))
 
 pub returns-in_default-clause-ok : goal.returns-in_default-clause-ok
@@ -91,7 +91,7 @@ returns-in_default-clause-ok g t c =
     let o = opened R path a.level a.node.now c.deref.result.now b.stamp b.old_size b.bitmap b.children c.deref.ensures b.is c.requires.trie in
     let has = sym c.has_digit.ensures ∙ c.if-not-has_digit.false in
     let here = ap (λ w. digit w a.level) (sym c.requires.path) ∙ sym d.ensures.value in
-    let child = below_at R path a.level a.node.now b.stamp.0 b.old_size b.bitmap b.children.items o d.result d.ensures.small g.met.K.PathKey.exact has c.place-at.result c.place-at.ensures old c.index-old.ensures in
+    let child = below_at R path a.level (tree a.node.now) b.stamp.0 b.old_size b.bitmap b.children.items o d.result d.ensures.small g.met.K.PathKey.exact has c.place-at.result c.place-at.ensures old c.index-old.ensures in
     nothing_raised R path a.level a.entry.stamp.0 k (Some a.entry.value.value) (g.C.Condition.holds a.condition.now) (tree a.node.now) (a.level + 1) (tree old) (child.finds k here)
     (option_map (λ v. v.now.value) found.field-0.previous) (option_map tree found.field-0.root) found.ensures.ok (ap (option_map tree) c.in_default.is)
 
@@ -113,7 +113,7 @@ overflow_add-new_size g t c =
     let o = opened R path a.level a.node.now c.deref.result.now b.stamp b.old_size b.bitmap b.children c.deref.ensures b.is c.requires.trie in
     let has = sym c.has_digit.ensures ∙ c.if-not-has_digit.false in
     let here = ap (λ w. digit w a.level) (sym c.requires.path) ∙ sym d.ensures.value in
-    let child = below_at R path a.level a.node.now b.stamp.0 b.old_size b.bitmap b.children.items o d.result d.ensures.small exact has c.place-at.result c.place-at.ensures old c.index-old.ensures in
+    let child = below_at R path a.level (tree a.node.now) b.stamp.0 b.old_size b.bitmap b.children.items o d.result d.ensures.small exact has c.place-at.result c.place-at.ensures old c.index-old.ensures in
     let given = written_below R path a.level s k (Some v) holds (tree a.node.now) (a.level + 1) (tree old) (child.finds k here) (option_map (λ v. v.now.value) found.field-0.previous) (option_map tree found.field-0.root) found.ensures.ok (tree new) (ap (option_map tree) c.in-Some.is) in
     let more : c.size.result ≡ length (entries (tree new)) = c.size.ensures (trie_fits R path (a.level + 1) (tree new) given.trie) in
     omega (arith, o.counted, more, given.most, child.fewer, c.requires.room)
@@ -136,7 +136,7 @@ overflow_sub-new_size g t c =
     let o = opened R path a.level a.node.now c.deref.result.now b.stamp b.old_size b.bitmap b.children c.deref.ensures b.is c.requires.trie in
     let has = sym c.has_digit.ensures ∙ c.if-not-has_digit.false in
     let here = ap (λ w. digit w a.level) (sym c.requires.path) ∙ sym d.ensures.value in
-    let child = below_at R path a.level a.node.now b.stamp.0 b.old_size b.bitmap b.children.items o d.result d.ensures.small exact has c.place-at.result c.place-at.ensures old c.index-old.ensures in
+    let child = below_at R path a.level (tree a.node.now) b.stamp.0 b.old_size b.bitmap b.children.items o d.result d.ensures.small exact has c.place-at.result c.place-at.ensures old c.index-old.ensures in
     let given = written_below R path a.level s k (Some v) holds (tree a.node.now) (a.level + 1) (tree old) (child.finds k here) (option_map (λ v. v.now.value) found.field-0.previous) (option_map tree found.field-0.root) found.ensures.ok (tree new) (ap (option_map tree) c.in-Some.is) in
     let less : c.size-in-Branch.result ≡ length (entries (tree old)) = c.size-in-Branch.ensures (trie_fits R path (a.level + 1) (tree old) child.trie) in
     omega (arith, o.counted, less, child.fewer)
@@ -150,7 +150,7 @@ with_child-requires g t c =
     let d = c.digit-digit in
     let o = opened R path a.level a.node.now c.deref.result.now b.stamp b.old_size b.bitmap b.children c.deref.ensures b.is c.requires.trie in
     let has = sym c.has_digit.ensures ∙ c.if-not-has_digit.false in
-    let within = place_below R path a.level a.node.now b.stamp.0 b.old_size b.bitmap b.children.items o d.result d.ensures.small has c.place-at.result c.place-at.ensures in
+    let within = place_below R path a.level (tree a.node.now) b.stamp.0 b.old_size b.bitmap b.children.items o d.result d.ensures.small has c.place-at.result c.place-at.ensures in
     subst (λ xs. c.place-at.result < length xs) (sym c.as_slice.ensures.value) within
 
 pub returns-in_ok-root-in-Branch-2-clause-ok : goal.returns-in_ok-root-in-Branch-2-clause-ok
@@ -171,7 +171,7 @@ returns-in_ok-root-in-Branch-2-clause-ok g t c =
     let o = opened R path a.level a.node.now c.deref.result.now b.stamp b.old_size b.bitmap b.children c.deref.ensures b.is c.requires.trie in
     let has = sym c.has_digit.ensures ∙ c.if-not-has_digit.false in
     let here = ap (λ w. digit w a.level) (sym c.requires.path) ∙ sym d.ensures.value in
-    let child = below_at R path a.level a.node.now b.stamp.0 b.old_size b.bitmap b.children.items o d.result d.ensures.small exact has c.place-at.result c.place-at.ensures old c.index-old.ensures in
+    let child = below_at R path a.level (tree a.node.now) b.stamp.0 b.old_size b.bitmap b.children.items o d.result d.ensures.small exact has c.place-at.result c.place-at.ensures old c.index-old.ensures in
     let given = written_below R path a.level s k (Some v) holds (tree a.node.now) (a.level + 1) (tree old) (child.finds k here) (option_map (λ v. v.now.value) found.field-0.previous) (option_map tree found.field-0.root) found.ensures.ok (tree new) (ap (option_map tree) c.in-Some.is) in
     let node = c.in_ok-root-in-Branch-2.root in
     let at = c.place-at.result in
@@ -199,7 +199,7 @@ returns-in_err-put_beside-in-Branch-clause-due g t c =
     let o = opened R path a.level a.node.now c.deref.result.now b.stamp b.old_size b.bitmap b.children c.deref.ensures b.is c.requires.trie in
     let here = ap (λ w. digit w a.level) (sym c.requires.path) ∙ sym d.ensures.value in
     let lacks = sym c.has_digit.ensures ∙ c.if-not-has_digit.true in
-    let none = not_below R path a.level a.node.now b.stamp.0 b.old_size b.bitmap b.children.items o d.result d.ensures.small exact lacks k here in
+    let none = not_below R path a.level (tree a.node.now) b.stamp.0 b.old_size b.bitmap b.children.items o d.result d.ensures.small exact lacks k here in
     at_err c.from_residual.result (ap holds none ∙ c.in_err-put_beside-in-Branch.ensures.due)
 
 pub returns-in_err-root-in-Branch-clause-due : goal.returns-in_err-root-in-Branch-clause-due
@@ -215,7 +215,7 @@ returns-in_err-root-in-Branch-clause-due g t c =
     let o = opened R path a.level a.node.now c.deref.result.now b.stamp b.old_size b.bitmap b.children c.deref.ensures b.is c.requires.trie in
     let here = ap (λ w. digit w a.level) (sym c.requires.path) ∙ sym d.ensures.value in
     let has = sym c.has_digit.ensures ∙ c.if-not-has_digit.false in
-    let child = below_at R path a.level a.node.now b.stamp.0 b.old_size b.bitmap b.children.items o d.result d.ensures.small exact has c.place-at.result c.place-at.ensures c.index-old.result.now c.index-old.ensures in
+    let child = below_at R path a.level (tree a.node.now) b.stamp.0 b.old_size b.bitmap b.children.items o d.result d.ensures.small exact has c.place-at.result c.place-at.ensures c.index-old.result.now c.index-old.ensures in
     at_err c.from_residual-in_err-root-in-Branch.result (ap holds (child.finds k here) ∙ c.in_err-root-in-Branch.ensures.due)
 
 pub returns-in_err-root-in-Branch-2-clause-due : goal.returns-in_err-root-in-Branch-2-clause-due
@@ -231,6 +231,6 @@ returns-in_err-root-in-Branch-2-clause-due g t c =
     let o = opened R path a.level a.node.now c.deref.result.now b.stamp b.old_size b.bitmap b.children c.deref.ensures b.is c.requires.trie in
     let here = ap (λ w. digit w a.level) (sym c.requires.path) ∙ sym d.ensures.value in
     let has = sym c.has_digit.ensures ∙ c.if-not-has_digit.false in
-    let child = below_at R path a.level a.node.now b.stamp.0 b.old_size b.bitmap b.children.items o d.result d.ensures.small exact has c.place-at.result c.place-at.ensures c.index-old.result.now c.index-old.ensures in
+    let child = below_at R path a.level (tree a.node.now) b.stamp.0 b.old_size b.bitmap b.children.items o d.result d.ensures.small exact has c.place-at.result c.place-at.ensures c.index-old.result.now c.index-old.ensures in
     let found = c.in_ok-root-in-Branch in
     at_err c.from_residual-in_err-root-in-Branch-2.result (ap holds (child.finds k here) ∙ sym found.ensures.ok.written ∙ ap (λ r. is_some (option_map tree r)) c.in-Some.is)

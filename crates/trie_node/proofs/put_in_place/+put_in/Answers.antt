@@ -12,7 +12,7 @@ use Rattle.trie_node.specs.View.{tree, tree_of}
 use Rattle.trie_node.proofs.Branches.{puts_replaced, puts_added}
 use Rattle.trie_node.proofs.Divides.{trie_fits}
 use Rattle.trie_node.proofs.Standing.{at_err, puts_equal, when_not, when_not_not}
-use Rattle.trie_node.proofs.Stands.{stands, gap_within, place_below, not_below, below_at, agree_below}
+use Rattle.trie_node.proofs.Opened.{stands, gap_within, place_below, not_below, below_at, agree_below}
 use Rattle.trie_node.specs.Writes.{KeysAgree}
 use Rattle.trie_node.proofs.Views.{tree_of-Branch}
 use Rattle.trie_node.proofs.put_in_place.+put_in.Goals as goal

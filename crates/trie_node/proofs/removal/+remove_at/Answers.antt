@@ -26,7 +26,7 @@ index-requires g t c =
     let a = c.args in
     let b = c.in-Branch in
     let o = opened R path a.level a.node.now c.deref.result.now b.stamp b.size b.bitmap b.children c.deref.ensures b.is c.requires.trie in
-    omega (arith, b.children.ok, place_below R path a.level a.node.now b.stamp.0 b.size b.bitmap b.children.items o c.digit-digit.result c.digit-digit.ensures.small (cc) c.place-at.result c.place-at.ensures)
+    omega (arith, b.children.ok, place_below R path a.level (tree a.node.now) b.stamp.0 b.size b.bitmap b.children.items o c.digit-digit.result c.digit-digit.ensures.small (cc) c.place-at.result c.place-at.ensures)
 
 pub remove_at-requires : goal.remove_at-requires
 remove_at-requires g t c κs within =
@@ -35,7 +35,7 @@ remove_at-requires g t c κs within =
     let a = c.args in
     let b = c.in-Branch in
     let o = opened R path a.level a.node.now c.deref.result.now b.stamp b.size b.bitmap b.children c.deref.ensures b.is c.requires.trie in
-    let child = below_at R path a.level a.node.now b.stamp.0 b.size b.bitmap b.children.items o c.digit-digit.result c.digit-digit.ensures.small g.met.K.PathKey.exact (cc) c.place-at.result c.place-at.ensures c.index.result.now c.index.ensures in
+    let child = below_at R path a.level (tree a.node.now) b.stamp.0 b.size b.bitmap b.children.items o c.digit-digit.result c.digit-digit.ensures.small g.met.K.PathKey.exact (cc) c.place-at.result c.place-at.ensures c.index.result.now c.index.ensures in
     (omega (arith, o.level_in), (search rules, (search rules, (search rules, (c.requires.path, child.trie)))))
 
 pub without_rest-requires : goal.without_rest-requires
@@ -49,7 +49,7 @@ without_rest-requires g t c =
     let gone = subst (Removes R path (a.level + 1) a.stamp.0 a.key.now holds (tree c.index.result.now)) c.in-Gone.is c.in_ok-found-in-Branch.ensures.ok in
     record {
       digit = c.digit-digit.ensures.small;
-      at = omega (arith, ap length c.as_slice.ensures.value, place_below R path a.level a.node.now b.stamp.0 b.size b.bitmap b.children.items o c.digit-digit.result c.digit-digit.ensures.small (cc) c.place-at.result c.place-at.ensures);
+      at = omega (arith, ap length c.as_slice.ensures.value, place_below R path a.level (tree a.node.now) b.stamp.0 b.size b.bitmap b.children.items o c.digit-digit.result c.digit-digit.ensures.small (cc) c.place-at.result c.place-at.ensures);
       size = size_below R path g.met.K.Ord.total g.met.K.PathKey.exact a.level a.stamp.0 a.key.now holds a.node.now b.stamp.0 b.size b.bitmap b.children.items o
           c.digit-digit.result c.digit-digit.ensures.small (cc) (cc) c.place-at.result c.place-at.ensures c.index.result.now c.index.ensures _ gone.0;
     }
@@ -64,7 +64,7 @@ with_rest-requires g t c =
     let o = opened R path a.level a.node.now c.deref.result.now b.stamp b.size b.bitmap b.children c.deref.ensures b.is c.requires.trie in
     let left = subst (Removes R path (a.level + 1) a.stamp.0 a.key.now holds (tree c.index.result.now)) c.in-Left.is c.in_ok-found-in-Branch.ensures.ok in
     record {
-      at = omega (arith, ap length c.as_slice.ensures.value, place_below R path a.level a.node.now b.stamp.0 b.size b.bitmap b.children.items o c.digit-digit.result c.digit-digit.ensures.small (cc) c.place-at.result c.place-at.ensures);
+      at = omega (arith, ap length c.as_slice.ensures.value, place_below R path a.level (tree a.node.now) b.stamp.0 b.size b.bitmap b.children.items o c.digit-digit.result c.digit-digit.ensures.small (cc) c.place-at.result c.place-at.ensures);
       size = size_below R path g.met.K.Ord.total g.met.K.PathKey.exact a.level a.stamp.0 a.key.now holds a.node.now b.stamp.0 b.size b.bitmap b.children.items o
           c.digit-digit.result c.digit-digit.ensures.small (cc) (cc) c.place-at.result c.place-at.ensures c.index.result.now c.index.ensures _ left.taken;
     }
@@ -140,7 +140,7 @@ returns-in_err-found-in-Branch-clause-due g t c =
     let o = opened R path a.level a.node.now c.deref.result.now b.stamp b.size b.bitmap b.children c.deref.ensures b.is c.requires.trie in
     let here = ap (λ w. digit w a.level) (sym c.requires.path) ∙ sym d.ensures.value in
     let has = sym c.has_digit.ensures ∙ c.if-not-has_digit.false in
-    let child = below_at R path a.level a.node.now b.stamp.0 b.size b.bitmap b.children.items o d.result d.ensures.small exact has c.place-at.result c.place-at.ensures c.index.result.now c.index.ensures in
+    let child = below_at R path a.level (tree a.node.now) b.stamp.0 b.size b.bitmap b.children.items o d.result d.ensures.small exact has c.place-at.result c.place-at.ensures c.index.result.now c.index.ensures in
     at_err c.from_residual.result (ap (λ o. is_some o && holds o) (child.finds k here) ∙ c.in_err-found-in-Branch.ensures.due)
 
 pub returns-in_err-rest-in-Gone-clause-due : goal.returns-in_err-rest-in-Gone-clause-due
@@ -156,7 +156,7 @@ returns-in_err-rest-in-Gone-clause-due g t c =
     let o = opened R path a.level a.node.now c.deref.result.now b.stamp b.size b.bitmap b.children c.deref.ensures b.is c.requires.trie in
     let here = ap (λ w. digit w a.level) (sym c.requires.path) ∙ sym d.ensures.value in
     let has = sym c.has_digit.ensures ∙ c.if-not-has_digit.false in
-    let child = below_at R path a.level a.node.now b.stamp.0 b.size b.bitmap b.children.items o d.result d.ensures.small exact has c.place-at.result c.place-at.ensures c.index.result.now c.index.ensures in
+    let child = below_at R path a.level (tree a.node.now) b.stamp.0 b.size b.bitmap b.children.items o d.result d.ensures.small exact has c.place-at.result c.place-at.ensures c.index.result.now c.index.ensures in
     let gone = subst (Removes R path (a.level + 1) a.stamp.0 k holds (tree c.index.result.now)) c.in-Gone.is c.in_ok-found-in-Branch.ensures.ok in
     at_err c.from_residual-in_err-rest-in-Gone.result (ap (λ o. is_some o && holds o) (child.finds k here ∙ gone.0.0) ∙ gone.0.1)
 
@@ -173,6 +173,6 @@ returns-in_err-rest-in-Left-clause-due g t c =
     let o = opened R path a.level a.node.now c.deref.result.now b.stamp b.size b.bitmap b.children c.deref.ensures b.is c.requires.trie in
     let here = ap (λ w. digit w a.level) (sym c.requires.path) ∙ sym d.ensures.value in
     let has = sym c.has_digit.ensures ∙ c.if-not-has_digit.false in
-    let child = below_at R path a.level a.node.now b.stamp.0 b.size b.bitmap b.children.items o d.result d.ensures.small exact has c.place-at.result c.place-at.ensures c.index.result.now c.index.ensures in
+    let child = below_at R path a.level (tree a.node.now) b.stamp.0 b.size b.bitmap b.children.items o d.result d.ensures.small exact has c.place-at.result c.place-at.ensures c.index.result.now c.index.ensures in
     let left = subst (Removes R path (a.level + 1) a.stamp.0 k holds (tree c.index.result.now)) c.in-Left.is c.in_ok-found-in-Branch.ensures.ok in
     at_err c.from_residual-in_err-rest-in-Left.result (ap (λ o. is_some o && holds o) (child.finds k here ∙ left.taken.0) ∙ left.taken.1)

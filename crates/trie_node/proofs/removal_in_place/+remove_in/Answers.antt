@@ -14,7 +14,7 @@ use Rattle.trie_node.specs.Removals.{drawn_up, Leaves}
 use Rattle.trie_node.specs.RemovalInPlace.{TakesOut}
 use Rattle.trie_node.proofs.Removals.{removes_absent, removes_nothing, some_size, removes_gone, removes_left}
 use Rattle.trie_node.proofs.Standing.{at_err, takes_equal}
-use Rattle.trie_node.proofs.Stands.{stands, place_below, below_at}
+use Rattle.trie_node.proofs.Opened.{stands, place_below, below_at}
 use Rattle.trie_node.proofs.Views.{tree_of-Branch, on_ok}
 use Rattle.trie_node.proofs.removal_in_place.+remove_in.Goals as goal
 

@@ -1,0 +1,206 @@
+//! Writes where a root stands: with memory refused, over nodes that others hold, and at the widest
+//! branch and a long bucket.
+
+use super::memory::{CHILDREN, MOST_GIVEN, NODE, assert_same, spare_blocks, take_all};
+use super::random::{KEYS, Random, WORDS, assert_holds, in_walk_order};
+use super::{Trie, branch, key, pairs, put_in, trie_of};
+use crate::held::Held;
+use crate::outline::outline_of;
+use std::alloc::Global;
+use std::collections::BTreeMap;
+use std::process::Abort;
+use std::sync::Arc;
+use std::test::Fail;
+use test_keys::ChosenKey;
+use trie_node::{Stamp, size};
+
+// Keys whose words differ in their last digit alone.
+const P: ChosenKey = ChosenKey { path: 0, id: 0 };
+
+const Q: ChosenKey = ChosenKey {
+    path: 0xc000_0000,
+    id: 0,
+};
+
+// A body that copied a node would ask for memory.
+#[test]
+fn a_sole_holder_replaces_and_removes_without_memory(rt: HostRuntime) -> Result<(), Fail> {
+    let alloc = rt.alloc();
+    let mut trie = trie_of(alloc, &[(P, 1), (Q, 2), (key(1, 0), 3)])?;
+    let at = Arc::new(alloc, P)?;
+    let value = Arc::new(alloc, 4)?;
+    let taken = take_all(alloc)?;
+    let put = trie.put_in(alloc, at, value, Stamp(2));
+    let removed = trie.remove_in(alloc, &Q, Stamp(2));
+    drop(taken);
+    assert!(rt; put.is_ok());
+    assert!(rt; removed.is_ok());
+    assert_holds(&rt, alloc, &trie, &[(P, 4), (key(1, 0), 3)])
+}
+
+// Puts Q with one request more granted each time, until the put is done. Until then the trie is as
+// it was.
+fn assert_put_takes(
+    rt: &impl Abort,
+    alloc: Global,
+    trie: &mut Trie,
+    requests: usize,
+) -> Result<(), Fail> {
+    let before = outline_of(alloc, trie.root())?;
+    for given in 0..MOST_GIVEN {
+        let at = Arc::new(alloc, Q)?;
+        let value = Arc::new(alloc, 3)?;
+        let mut spare = spare_blocks(alloc, NODE, CHILDREN)?;
+        let taken = take_all(alloc)?;
+        for _ in 0..given {
+            let _ = spare.pop();
+        }
+        let answer = trie.put_in(alloc, at, value, Stamp(2));
+        drop(taken);
+        if answer.is_ok() {
+            assert_eq!(rt; given, requests);
+            assert_eq!(rt; trie.find(&Q).map(|v| **v), Some(3));
+            return Ok(());
+        }
+        assert_same(rt, alloc, trie, &before)?;
+    }
+    assert!(rt; false, "a put is refused with memory to spare");
+    Ok(())
+}
+
+// A leaf gives way to six branches and two leaves, of which one is new: thirteen requests. Where
+// another holds the root, that is copied too: two more.
+#[test]
+fn refused_puts_leave_the_root_as_it_stands(rt: HostRuntime) -> Result<(), Fail> {
+    let alloc = rt.alloc();
+    let mut sole = trie_of(alloc, &[(P, 1), (key(1, 0), 2)])?;
+    let mut shared = sole.try_clone()?;
+    let other = shared.try_clone()?;
+    let before = outline_of(alloc, other.root())?;
+    assert_put_takes(&rt, alloc, &mut shared, 15)?;
+    assert_same(&rt, alloc, &other, &before)?;
+    drop(other);
+    drop(shared);
+    assert_put_takes(&rt, alloc, &mut sole, 13)
+}
+
+// A removal from a root that another holds copies seven branches.
+#[test]
+fn refused_removals_leave_the_root_as_it_stands(rt: HostRuntime) -> Result<(), Fail> {
+    let alloc = rt.alloc();
+    let mut trie = trie_of(alloc, &[(P, 1), (Q, 2), (key(0x8000_0000, 0), 3)])?;
+    let other = trie.try_clone()?;
+    let before = outline_of(alloc, trie.root())?;
+    for given in 0..MOST_GIVEN {
+        let mut spare = spare_blocks(alloc, CHILDREN, NODE)?;
+        let taken = take_all(alloc)?;
+        for _ in 0..given {
+            let _ = spare.pop();
+        }
+        let answer = trie.remove_in(alloc, &Q, Stamp(2));
+        drop(taken);
+        assert_same(&rt, alloc, &other, &before)?;
+        if answer.is_ok() {
+            assert_eq!(rt; given, 14);
+            assert!(rt; trie.find(&Q).is_none());
+            return Ok(());
+        }
+        assert_same(&rt, alloc, &trie, &before)?;
+    }
+    assert!(rt; false, "a removal is refused with memory to spare");
+    Ok(())
+}
+
+// A put or a removal, of the trie and of a plain map.
+fn write(
+    alloc: Global,
+    trie: &mut Trie,
+    map: &mut BTreeMap<ChosenKey, u32>,
+    at: ChosenKey,
+    put: bool,
+    step: u32,
+) -> Result<(), Fail> {
+    if put {
+        put_in(alloc, trie, at, step, u64::from(step))?;
+        map.insert(at, step)?;
+    } else {
+        trie.remove_in(alloc, &at, Stamp(u64::from(step)))?;
+        map.remove(&at);
+    }
+    Ok(())
+}
+
+#[test]
+fn roots_that_share_nodes_are_written_apart(rt: HostRuntime) -> Result<(), Fail> {
+    let alloc = rt.alloc();
+    let mut random = Random(10);
+    let mut first = Held::new(alloc, Stamp::LOOSE)?;
+    let mut second = first.try_clone()?;
+    let mut firsts = BTreeMap::new(alloc);
+    let mut seconds = BTreeMap::new(alloc);
+    for step in 0..4_000 {
+        let at = key(WORDS[random.next(8) as usize % 8], random.next(KEYS));
+        let put = random.next(2) == 0;
+        match random.next(16) {
+            0 => {
+                second = first.try_clone()?;
+                seconds = firsts.clone()?;
+            }
+            1 => {
+                first = second.try_clone()?;
+                firsts = seconds.clone()?;
+            }
+            2..=8 => write(alloc, &mut first, &mut firsts, at, put, step)?,
+            _ => write(alloc, &mut second, &mut seconds, at, put, step)?,
+        }
+        let pairs = in_walk_order(alloc, &firsts)?;
+        assert_holds(&rt, alloc, &first, pairs.as_slice())?;
+        let pairs = in_walk_order(alloc, &seconds)?;
+        assert_holds(&rt, alloc, &second, pairs.as_slice())?;
+    }
+    Ok(())
+}
+
+#[test]
+fn a_hundred_keys_of_one_word_share_a_bucket(rt: HostRuntime) -> Result<(), Fail> {
+    let alloc = rt.alloc();
+    let mut trie = Held::new(alloc, Stamp(1))?;
+    for id in 0..100 {
+        put_in(alloc, &mut trie, key(7, id * 37 % 101), id, 1)?;
+    }
+    let seen = outline_of(alloc, trie.root())?;
+    assert_eq!(rt;
+        seen.lines.as_slice(),
+        [branch(0, 1 << 7, 100), pairs(1, 100)].as_slice()
+    );
+    for id in 0..100 {
+        assert_eq!(rt; trie.find(&key(7, id * 37 % 101)).map(|v| **v), Some(id));
+    }
+    for id in 0..99 {
+        trie.remove_in(alloc, &key(7, id * 37 % 101), Stamp(2))?;
+    }
+    assert_holds(&rt, alloc, &trie, &[(key(7, 99 * 37 % 101), 99)])
+}
+
+#[test]
+fn a_branch_has_thirty_two_children(rt: HostRuntime) -> Result<(), Fail> {
+    let alloc = rt.alloc();
+    let mut trie = Held::new(alloc, Stamp(1))?;
+    for digit in 0..32 {
+        put_in(alloc, &mut trie, key(digit * 5 % 32, 0), digit, 1)?;
+    }
+    let seen = outline_of(alloc, trie.root())?;
+    assert_eq!(rt; seen.lines.len(), 33);
+    assert_eq!(rt; seen.lines.first(), Some(&branch(0, u32::MAX, 32)));
+    for digit in 0..32 {
+        assert_eq!(rt;
+            trie.find(&key(digit * 5 % 32, 0)).map(|v| **v),
+            Some(digit)
+        );
+    }
+    for digit in 0..32 {
+        trie.remove_in(alloc, &key(digit, 0), Stamp(2))?;
+    }
+    assert_eq!(rt; size(trie.root()), 0);
+    assert_holds(&rt, alloc, &trie, &[])
+}
