@@ -1,6 +1,7 @@
 -- What a walk keeps of the path that it is on.
 use Rattle.std.specs.Prelude.{ℕ, suc, ◌-◌, ◌^◌, ◌<◌, ◌≤◌, List, [], ◌∷◌, ◌++◌, length, Option, Some, None}
 use Rattle.std.specs.declared.cmp.Ordering.{Ordering}
+use Rattle.hash_path.specs.Digits.{word_digits}
 use Rattle.trie_node.specs.Outline.{children}
 use Rattle.trie_node.specs.Tree.{Tree}
 use Rattle.trie_node.specs.View.{tree}
@@ -47,7 +48,7 @@ module _ {K V : Type 0} (R : K → K → Ordering) (path : K → ℕ) where
   -- the subtries stand where the levels say, and there is room for a whole path
   pub record IsSound (a : Ahead K V) : Type 0 where
     pub deep : length a.above.items < a.level
-    pub low : a.level ≤ 7
+    pub low : a.level ≤ word_digits
     pub room : 8 ≤ a.above.capacity
     pub within : IsWithin a.here
     pub here : AllStand R path a.level (trees_of a.here)

@@ -1,6 +1,7 @@
 //! What a walk has still to enter.
 
 ghost use Rattle.std.specs.Prelude.{◌≡◌, ◌+◌, ◌<◌, ◌≤◌, ◌++◌, ◌^◌, [], length, map, IfNone, IfSome};
+ghost use Rattle.hash_path.specs.Digits.{last_level};
 ghost use Rattle.trie_node.specs.Outline.{children};
 ghost use Rattle.trie_node.specs.Tree.{IsTrie};
 ghost use Rattle.trie_node.specs.View.{pair_values, tree};
@@ -38,7 +39,7 @@ impl<'a, K: PathKey, V> Ahead<'a, K, V> {
         to: u32,
     ) -> Ahead<'a, K, V>
         requires trie { IsTrie K.cmp K.path_of level (tree branch.now) }
-        requires level { level ≤ 6 }
+        requires level { level ≤ last_level }
         requires order { from ≤ to }
         requires within { to ≤ length (children (tree branch.now)) }
         ensures subtries { subtries result ≡ children_between (tree branch.now) from to }

@@ -2,6 +2,7 @@
 
 ghost use Rattle.std.specs.Prelude.{◌≡◌, ◌+◌, ◌<◌, ◌≤◌, ◌^◌, [], length};
 ghost use Rattle.std.specs.Iterator.{YieldsFirstBy, item_count};
+ghost use Rattle.hash_path.specs.Digits.{last_level};
 ghost use Rattle.trie_node.specs.Outline.{children};
 ghost use Rattle.trie_node.specs.Tree.{IsTrie};
 ghost use Rattle.trie_node.specs.View.{tree};
@@ -50,7 +51,7 @@ impl<'a, K: PathKey, V> Pairs<'a, K, V> {
         left: u64,
     ) -> Pairs<'a, K, V>
         requires trie { IsTrie K.cmp K.path_of level (tree branch.now) }
-        requires level { level ≤ 6 }
+        requires level { level ≤ last_level }
         requires order { from ≤ to }
         requires within { to ≤ length (children (tree branch.now)) }
         requires left { left ≡ length (pairs_of_all (children_between (tree branch.now) from to)) }

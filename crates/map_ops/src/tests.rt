@@ -3,20 +3,20 @@ mod limits;
 mod nodes;
 
 use crate::{get_or_else_update, put, put_if_absent, remove, remove_if, replace, replace_if};
+use keys::ByteText;
 use std::alloc::Global;
 use std::sync::Arc;
 use std::test::Fail;
-use test_keys::ByteKey;
 use trie_node::{NoMemory, Stamp};
 use versions::{Refusal, Version};
 
 // A map of texts to numbers.
-type Map = Version<ByteKey, i64>;
+type Map = Version<ByteText, i64>;
 
 // A key of the bytes of a text.
-fn key(alloc: Global, text: &str) -> Result<Arc<ByteKey>, NoMemory> {
+fn key(alloc: Global, text: &str) -> Result<Arc<ByteText>, NoMemory> {
     let bytes = Vec::from_slice(alloc, text.as_bytes())?;
-    Ok(Arc::new(alloc, ByteKey::new(bytes))?)
+    Ok(Arc::new(alloc, ByteText::new(bytes))?)
 }
 
 // An empty map of up to ten pairs.

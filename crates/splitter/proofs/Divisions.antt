@@ -16,7 +16,7 @@ use Rattle.trie_node.specs.Order.{walked}
 use Rattle.trie_node.specs.Outline.{children}
 use Rattle.trie_node.specs.Shape.{Fits}
 use Rattle.trie_node.specs.Tree.{Tree, IsTrie, digits_of, entries}
-use Rattle.trie_node.specs.declared.shown.Look.TheVariants.{Branch}
+use Rattle.trie_node.specs.declared.looks.Look.TheVariants.{Branch}
 use Rattle.iter.specs.Subtries.{children_between, pairs_of_all}
 use Rattle.iter.specs.Intervals.{lies_in, part}
 use Rattle.iter.specs.declared.interval.Interval.{Interval}

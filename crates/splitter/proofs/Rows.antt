@@ -10,7 +10,7 @@ use Rattle.trie_node.specs.Tree.{Tree, branch, bucket, Trees, no_trees, more_tre
 use Rattle.trie_node.specs.Looks.{Shows}
 use Rattle.trie_node.specs.Outline.{children, list_of}
 use Rattle.trie_node.specs.Shape.{Fits, count_of}
-use Rattle.trie_node.specs.declared.shown.Look.TheVariants.{Branch}
+use Rattle.trie_node.specs.declared.looks.Look.TheVariants.{Branch}
 use Rattle.iter.specs.Subtries.{pairs_of_all}
 
 -- 1. Rising digits.

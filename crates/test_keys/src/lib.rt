@@ -6,7 +6,6 @@ mod chosen;
 mod memory;
 
 pub use chosen::ChosenKey;
-pub use keys::ByteText as ByteKey;
 pub use memory::{spare_blocks, take_all};
 
 #[cfg(test)]

@@ -7,7 +7,7 @@ use Rattle.trie_node.specs.Outline.{children, list_of}
 use Rattle.trie_node.specs.Counts.{node_count, count_of_all}
 use Rattle.trie_node.specs.Looks.{Shows}
 use Rattle.trie_node.specs.View.{pair_values}
-use Rattle.trie_node.specs.declared.shown.Look.TheVariants.{Branch, Pairs}
+use Rattle.trie_node.specs.declared.looks.Look.TheVariants.{Branch, Pairs}
 
 module _ {K V : Type 0} where
   entries_flat : (ts : Trees K V) → entries_of_all ts ≡ flat_map entries (list_of ts)

@@ -8,7 +8,7 @@ use Rattle.std.specs.FinMap.{find}
 use Rattle.std.specs.Int.{bit_at}
 use Rattle.std.specs.Int.RustNames.{count_ones}
 use Rattle.hash_path.specs.Digits.{digit}
-use Rattle.trie_node.specs.declared.shown.Look.TheVariants.{Branch}
+use Rattle.trie_node.specs.declared.looks.Look.TheVariants.{Branch}
 use Rattle.trie_node.specs.Looks.{Shows}
 use Rattle.trie_node.specs.Merges.{child_among, child_at, pairs_of}
 use Rattle.trie_node.specs.Outline.{children, list_of}

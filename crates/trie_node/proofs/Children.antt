@@ -5,7 +5,7 @@ use Rattle.trie_node.specs.Tree.{Tree, branch, bucket, Trees, no_trees, more_tre
 use Rattle.trie_node.specs.Shape.{Fits, AllFit, count_of}
 use Rattle.trie_node.specs.Outline.{children, list_of}
 use Rattle.trie_node.specs.Looks.{Shows}
-use Rattle.trie_node.specs.declared.shown.Look.TheVariants.{Branch}
+use Rattle.trie_node.specs.declared.looks.Look.TheVariants.{Branch}
 use Rattle.trie_node.proofs.Bits.{length-digits_of}
 
 module _ {K V : Type 0} where

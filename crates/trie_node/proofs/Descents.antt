@@ -10,7 +10,7 @@ use Rattle.hash_path.specs.Digits.{digit}
 use Rattle.trie_node.specs.Tree.{Tree, branch, bucket, Trees, no_trees, more_trees, digits_of, entries, IsTrie, AreTries, KeysHaveDigit}
 use Rattle.trie_node.specs.Outline.{children, list_of}
 use Rattle.trie_node.specs.Looks.{Shows}
-use Rattle.trie_node.specs.declared.shown.Look.TheVariants.{Branch, Pairs}
+use Rattle.trie_node.specs.declared.looks.Look.TheVariants.{Branch, Pairs}
 use Rattle.trie_node.proofs.Counts.{has_pair}
 use Rattle.trie_node.proofs.Ordered.{all_found}
 

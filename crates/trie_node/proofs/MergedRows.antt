@@ -12,7 +12,7 @@ use Rattle.std.proofs.lemmas.List.{append-nil, get_or_default}
 use Rattle.std.proofs.lemmas.Nat.{or_lt}
 use Rattle.std.proofs.lemmas.Nat.Bits.{bit_at_or, bit_at-suc, bit_at_lowest}
 use Rattle.hash_path.specs.Digits.{digit}
-use Rattle.trie_node.specs.declared.shown.Look.TheVariants.{Branch}
+use Rattle.trie_node.specs.declared.looks.Look.TheVariants.{Branch}
 use Rattle.trie_node.specs.Looks.{Shows}
 use Rattle.trie_node.specs.Merges.{CanMerge, Merges, StampsPass, AllStampsPass, child_among, child_at, pairs_of}
 use Rattle.trie_node.specs.Outline.{children}

@@ -10,7 +10,7 @@ use Rattle.hash_path.specs.Digits.{digit}
 use Rattle.trie_node.specs.Tree.{Tree, branch, trees, entries, entries_of_all, digits_of, KeysHaveDigit, IsTrie, AreTries}
 use Rattle.trie_node.specs.View.{tree}
 use Rattle.trie_node.specs.Writes.{KeysAgree}
-use Rattle.trie_node.specs.declared.basics.Stamp.{Stamp}
+use Rattle.trie_node.specs.declared.stamps.Stamp.{Stamp}
 use Rattle.trie_node.specs.declared.node.Node.{Node}
 use Rattle.trie_node.specs.declared.node.Inner.{Inner}
 use Rattle.trie_node.specs.declared.node.Inner.TheVariants.{Branch}

@@ -3,7 +3,7 @@ use Rattle.std.proofs.Common.{◌≡◌, ℕ, List, [], ◌∷◌, map, refl, ap
 use Rattle.trie_node.specs.Tree.{Tree, branch, more_trees, trees}
 use Rattle.trie_node.specs.Outline.{children, list_of}
 use Rattle.trie_node.specs.View.{tree_of, trees_of_row, tree}
-use Rattle.trie_node.specs.declared.basics.Stamp.{Stamp}
+use Rattle.trie_node.specs.declared.stamps.Stamp.{Stamp}
 use Rattle.trie_node.specs.declared.node.Node.{Node}
 use Rattle.trie_node.specs.declared.node.Inner.{Inner, Branch', Row_of-Node, end_of-Node, more_of-Node, items-the_row-Node, items_hidden-the_row-Node-0}
 use Rattle.trie_node.specs.declared.node.Inner.TheVariants.{Branch}

@@ -2,8 +2,8 @@
 use Rattle.std.specs.Prelude.{◌≡◌, map}
 use Rattle.trie_node.specs.Tree.{Tree, branch, bucket}
 use Rattle.trie_node.specs.View.{pair_values}
-use Rattle.trie_node.specs.declared.shown.Look.{Look}
-use Rattle.trie_node.specs.declared.shown.Look.TheVariants.{Branch, Pairs}
+use Rattle.trie_node.specs.declared.looks.Look.{Look}
+use Rattle.trie_node.specs.declared.looks.Look.TheVariants.{Branch, Pairs}
 
 -- a branch shows its bitmap, a leaf or bucket its pairs
 abbrev pub Shows : {K V : Type 0} → Look K V → Tree K V → Type 0

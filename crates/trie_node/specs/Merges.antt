@@ -4,6 +4,7 @@ use Rattle.std.specs.Option.{option_or}
 use Rattle.std.specs.declared.cmp.Ordering.{Ordering}
 use Rattle.std.specs.FinMap.{find}
 use Rattle.std.specs.List.{All}
+use Rattle.hash_path.specs.Digits.{word_digits, digit_bits}
 use Rattle.trie_node.specs.Shape.{Nodes}
 use Rattle.trie_node.specs.Tree.{Tree, branch, bucket, Trees, no_trees, more_trees, entries, digits_of, IsTrie}
 
@@ -45,11 +46,11 @@ written_over holds (Some v) found = cond (holds found) (Some v) found
 module _ {K V : Type 0} (R : K → K → Ordering) (path : K → ℕ) (level : ℕ) where
   -- the words of the keys of both agree in the digits below the level
   abbrev pub WordsAgree : List (K × V) → List (K × V) → Type 0
-  WordsAgree es fs = (q r : K) → is_some (find R q es) ≡ true → is_some (find R r fs) ≡ true → path q % 2 ^ (5 * level) ≡ path r % 2 ^ (5 * level)
+  WordsAgree es fs = (q r : K) → is_some (find R q es) ≡ true → is_some (find R r fs) ≡ true → path q % 2 ^ (digit_bits * level) ≡ path r % 2 ^ (digit_bits * level)
 
   -- two subtries that can stand at one place of a trie
   pub record CanMerge (left right : Option (Tree K V)) : Type 0 where
-    pub depth : level ≤ 7
+    pub depth : level ≤ word_digits
     pub left_trie : IfSome left (IsTrie R path level)
     pub right_trie : IfSome right (IsTrie R path level)
     pub agree : WordsAgree (pairs_of left) (pairs_of right)

@@ -3,8 +3,8 @@ use Rattle.std.specs.Prelude.{◌≡◌, ℕ, suc, ◌+◌, ◌<◌, Bool, true,
 use Rattle.std.specs.declared.cmp.Ordering.{Ordering}
 use Rattle.std.specs.Ordering.{eq_by_cmp}
 use Rattle.std.specs.FinMap.{find}
-use Rattle.trie_node.specs.declared.outcome.Removal.{Removal}
-use Rattle.trie_node.specs.declared.outcome.Removal.TheVariants.{Nothing, Gone, Left}
+use Rattle.trie_node.specs.declared.removal_outcome.Removal.{Removal}
+use Rattle.trie_node.specs.declared.removal_outcome.Removal.TheVariants.{Nothing, Gone, Left}
 use Rattle.trie_node.specs.Tree.{Tree, branch, bucket, no_trees, more_trees, entries}
 use Rattle.trie_node.specs.View.{tree}
 use Rattle.trie_node.specs.Writes.{Writes}

@@ -2,6 +2,7 @@
 -- A word is the list of its digits, in full; a prefix is a list of digits.
 use Rattle.std.specs.Prelude.{◌≡◌, ◌≢◌, ℕ, suc, ◌<◌, ◌≤◌, ◌^◌, Bool, true, false, not, ◌||◌, ◌&&◌, if◌then◌else◌, ◌==◌, nat_eq, List, [], ◌∷◌, ◌++◌, length, filter, MatchBool, All, Contains, count_by, bytes_eq}
 use Rattle.std.specs.List.{list_any, starts_with}
+use Rattle.hash_path.specs.Digits.{fan_out}
 use Rattle.trie_node.specs.Tree.{Tree, branch, bucket, Trees, no_trees, more_trees, digits_of, entries_of_all}
 
 -- what stands where a list of digits leads from the root: no node, a branch, or a leaf or bucket with these pairs
@@ -72,7 +73,7 @@ module _ {K V : Type 0} where
   abbrev mutual
     -- each branch has a child for each digit of its bitmap, and tells its number of pairs
     pub Fits : Tree K V → Type 0
-    Fits (branch stamp size bitmap ts) = (bitmap < 2 ^ 32) × (count_of ts ≡ length (digits_of bitmap)) × (size ≡ length (entries_of_all ts)) × AllFit ts
+    Fits (branch stamp size bitmap ts) = (bitmap < 2 ^ fan_out) × (count_of ts ≡ length (digits_of bitmap)) × (size ≡ length (entries_of_all ts)) × AllFit ts
     Fits (bucket stamp es) = Unit {0}
 
     pub AllFit : Trees K V → Type 0

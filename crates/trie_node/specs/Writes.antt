@@ -4,6 +4,7 @@ use Rattle.std.specs.declared.cmp.Ordering.{Ordering}
 use Rattle.std.specs.Ordering.{eq_by_cmp}
 use Rattle.std.specs.FinMap.{find}
 use Rattle.std.specs.List.{starts_with}
+use Rattle.hash_path.specs.Digits.{digit_bits}
 use Rattle.trie_node.specs.Tree.{Tree, entries, IsTrie}
 use Rattle.trie_node.specs.Shape.{nodes_below, Restamps}
 use Rattle.trie_node.specs.Roots.{word_of}
@@ -25,4 +26,4 @@ pub record WritesWhere {K V : Type 0} (R : K → K → Ordering) (path : K → �
 
 -- the words of the keys that are found begin with the digits below a level that w has
 abbrev pub KeysAgree : {K V : Type 0} → (K → K → Ordering) → (K → ℕ) → ℕ → ℕ → List (K × V) → Type 0
-KeysAgree R path level w es = (q : _) → is_some (find R q es) ≡ true → path q % 2 ^ (5 * level) ≡ w % 2 ^ (5 * level)
+KeysAgree R path level w es = (q : _) → is_some (find R q es) ≡ true → path q % 2 ^ (digit_bits * level) ≡ w % 2 ^ (digit_bits * level)

@@ -3,10 +3,11 @@
 ghost use Rattle.std.specs.Prelude.{◌≡◌, ◌<◌, ◌%◌, ◌^◌, ◌==◌};
 ghost use Rattle.std.specs.Int.{bit_at};
 ghost use Rattle.std.specs.Int.RustNames.{count_ones};
+ghost use Rattle.hash_path.specs.Digits.{fan_out};
 
 /// Whether a bitmap has a digit.
 pub(crate) fn has_digit(bitmap: u32, digit: u32) -> bool
-    requires { digit < 32 }
+    requires { digit < fan_out }
     ensures { result ≡ (bit_at bitmap digit == 1) }
 {
     (bitmap >> digit) & 1 == 1
@@ -14,7 +15,7 @@ pub(crate) fn has_digit(bitmap: u32, digit: u32) -> bool
 
 /// The number of a bitmap's digits below one.
 pub(crate) fn place(bitmap: u32, digit: u32) -> usize
-    requires { digit < 32 }
+    requires { digit < fan_out }
     ensures { result ≡ count_ones (bitmap % 2 ^ digit) }
 {
     (bitmap & ((1 << digit) - 1)).count_ones() as usize

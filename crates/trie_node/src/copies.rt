@@ -5,8 +5,9 @@ ghost use Rattle.std.specs.List.{insert};
 ghost use Rattle.trie_node.specs.Tree.{branch, trees};
 ghost use Rattle.trie_node.specs.View.{tree};
 
-use crate::basics::{NoMemory, Stamp};
+use crate::no_memory::NoMemory;
 use crate::node::{Node, make_branch};
+use crate::stamps::Stamp;
 use std::alloc::Global;
 
 /// Appends handles on the same nodes.

@@ -4,7 +4,7 @@ ghost use Rattle.std.specs.Prelude.{◌<◌, get_or, ◌≡◌, ◌↔◌, ◌+�
 ghost use Rattle.std.specs.Ordering.{nat_cmp};
 ghost use Rattle.std.specs.Cmp.Lexicographic.{slice_cmp};
 ghost use Rattle.std.specs.Int.RustNames.{count_ones};
-ghost use Rattle.trie_node.specs.declared.shown.Look.TheVariants.{Branch};
+ghost use Rattle.trie_node.specs.declared.looks.Look.TheVariants.{Branch};
 ghost use Rattle.trie_node.specs.Looks.{Shows};
 ghost use Rattle.trie_node.specs.Outline.{children};
 ghost use Rattle.trie_node.specs.Map.{IsMap};

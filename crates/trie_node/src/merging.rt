@@ -1,7 +1,8 @@
 //! The root of two maps together, made from their roots.
 
 ghost use Rattle.std.specs.Prelude.{◌≡◌, ℕ, ◌+◌, ◌<◌, ◌≤◌, ◌^◌, Bool, map, length, option_map, true, Some, IfOk};
-ghost use Rattle.trie_node.specs.declared.shown.Look.TheVariants.{Branch};
+ghost use Rattle.hash_path.specs.Digits.{fan_out};
+ghost use Rattle.trie_node.specs.declared.looks.Look.TheVariants.{Branch};
 ghost use Rattle.trie_node.specs.Looks.{Shows};
 ghost use Rattle.trie_node.specs.Map.{union};
 ghost use Rattle.trie_node.specs.Merges.{CanMerge, EachStampPasses, Merges, PutsEach, child_at};
@@ -10,14 +11,15 @@ ghost use Rattle.trie_node.specs.Shape.{Fits, NoneAbove, nodes};
 ghost use Rattle.trie_node.specs.Tree.{bucket};
 ghost use Rattle.trie_node.specs.View.{tree, pair_values};
 
-use crate::basics::{NoMemory, Stamp};
 use crate::bitmap::{has_digit, place};
 use crate::condition::{Always, Condition, IfAbsent};
+use crate::looks::Look;
+use crate::no_memory::NoMemory;
 use crate::node::{Node, make_branch};
 use crate::put::{Entry, put_at};
 use crate::reading::{child, look, size};
-use crate::shown::Look;
-use hash_path::PathKey;
+use crate::stamps::Stamp;
+use hash_path::{FAN_OUT, PathKey};
 use std::alloc::Global;
 use std::sync::Arc;
 
@@ -25,7 +27,7 @@ use std::sync::Arc;
 fn child_of<K, V>(branch: &Node<K, V>, bitmap: u32, digit: u32) -> Option<&Node<K, V>>
     requires branch { Shows (Branch bitmap) (tree branch.now) }
     requires fits { Fits (tree branch.now) }
-    requires digit { digit < 32 }
+    requires digit { digit < fan_out }
     ensures { option_map (λ n. tree n.now) result ≡ child_at (tree branch.now) digit }
 {
     if has_digit(bitmap, digit) {
@@ -130,7 +132,7 @@ fn merge_branches<K: PathKey + Drop, V: Drop>(
     let bitmap = left_bitmap | right_bitmap;
     let mut children = Vec::with_capacity(alloc, bitmap.count_ones() as usize)?;
     let mut pairs = 0;
-    for digit in 0..32 {
+    for digit in 0..FAN_OUT {
         let left_child = child_of(left, left_bitmap, digit);
         let right_child = child_of(right, right_bitmap, digit);
         let merged = merge_children(alloc, left_child, right_child, stamp, level + 1)?;

@@ -6,7 +6,8 @@ ghost use Rattle.trie_node.specs.View.{tree, pair_values};
 ghost use Rattle.trie_node.specs.Shape.{nodes};
 ghost use Rattle.trie_node.specs.Roots.{IsRoot, map_of, word_of};
 
-use crate::basics::{NoMemory, Stamp};
+use crate::no_memory::NoMemory;
+use crate::stamps::Stamp;
 use hash_path::PathKey;
 use std::alloc::Global;
 use std::sync::Arc;

@@ -5,7 +5,7 @@ ghost use Rattle.std.specs.FinMap.{find};
 ghost use Rattle.std.specs.FinMap.Entries.{put as put_in_order};
 ghost use Rattle.trie_node.specs.View.{pair_values};
 
-use crate::basics::NoMemory;
+use crate::no_memory::NoMemory;
 use hash_path::PathKey;
 use std::alloc::Global;
 use std::cmp::Ordering;

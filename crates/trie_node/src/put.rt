@@ -5,6 +5,7 @@ ghost use Rattle.std.specs.List.{insert};
 ghost use Rattle.std.specs.Int.RustNames.{count_ones};
 ghost use Rattle.std.specs.FinMap.{find as first_of};
 ghost use Rattle.std.specs.FinMap.Entries.{put as put_in_order};
+ghost use Rattle.hash_path.specs.Digits.{digit_bits, fan_out};
 ghost use Rattle.trie_node.specs.Map.{value_at};
 ghost use Rattle.trie_node.specs.Tree.{IsTrie, KeysHaveWord, branch, bucket, trees, entries};
 ghost use Rattle.trie_node.specs.View.{tree, pair_values};
@@ -13,13 +14,14 @@ ghost use Rattle.trie_node.specs.Roots.{IsRoot, map_of};
 ghost use Rattle.trie_node.specs.Writes.{Writes, WritesWhere, KeysAgree};
 ghost use Rattle.trie_node.specs.Changes.{IsPut};
 
-use crate::basics::{NoMemory, Stamp};
 use crate::bitmap::{has_digit, place};
 use crate::condition::{Always, Condition};
 use crate::copies::{with_child, with_more};
+use crate::no_memory::NoMemory;
 use crate::node::{Inner, Node, make_bucket, make_leaf};
 use crate::pairs::{find_pair, put_pair};
 use crate::reading::size as count;
+use crate::stamps::Stamp;
 use hash_path::{Path, PathKey};
 use std::alloc::Global;
 use std::slice;
@@ -52,7 +54,7 @@ fn add_leaf<K: Drop, V: Drop>(
     digit: u32,
     entry: Entry<K, V>,
 ) -> Result<Node<K, V>, NoMemory>
-    requires digit { digit < 32 }
+    requires digit { digit < fan_out }
     requires room { size < 2 ^ 63 }
     requires place { count_ones (bitmap % 2 ^ digit) ≤ length children.now }
     ensures { IfOk result (λ n. tree n ≡ branch entry.stamp.0 (size + 1) (bit_or bitmap (1 * 2 ^ digit % 2 ^ 32)) (trees (insert (map tree children.now) (count_ones (bitmap % 2 ^ digit)) (bucket entry.stamp.0 ((entry.key.value, entry.value.value) ∷ []))))) }
@@ -87,7 +89,7 @@ fn put_beside<'a, K: PathKey + Drop, V: Drop, C: Condition<V>>(
     entry: Entry<K, V>,
     condition: &C,
 ) -> Result<Option<Node<K, V>>, NoMemory>
-    requires digit { digit < 32 }
+    requires digit { digit < fan_out }
     requires room { size < 2 ^ 63 }
     requires place { count_ones (bitmap % 2 ^ digit) ≤ length children.now }
     ensures written { IfOk result (λ r. is_some r ≡ C.holds condition.now None) }
@@ -144,7 +146,7 @@ fn split<K: PathKey + Drop, V: Drop>(
     requires word { KeysHaveWord K.cmp K.path_of old_path.0 (entries (tree old.now)) }
     requires path { entry.path.0 ≡ K.path_of entry.key.value }
     requires apart { old_path.0 ≢ entry.path.0 }
-    requires agree { old_path.0 % 2 ^ (5 * level) ≡ entry.path.0 % 2 ^ (5 * level) }
+    requires agree { old_path.0 % 2 ^ (digit_bits * level) ≡ entry.path.0 % 2 ^ (digit_bits * level) }
     requires size { size ≡ length (entries (tree old.now)) }
     requires room { size < 2 ^ 63 }
     ensures { IfOk result (λ n. Writes K.cmp K.path_of level entry.stamp.0 entry.key.value (Some entry.value.value) (tree old.now) (tree n)) }

@@ -12,12 +12,13 @@ ghost use Rattle.trie_node.specs.View.{tree, tree_of, pair_values};
 ghost use Rattle.trie_node.specs.Writes.{KeysAgree};
 ghost use Rattle.trie_node.specs.PutInPlace.{PutsIn, PutsInside, is_refusable};
 
-use crate::basics::{NoMemory, Stamp};
 use crate::bitmap::{has_digit, place};
 use crate::condition::{Always, Condition};
+use crate::no_memory::NoMemory;
 use crate::node::{Inner, Node, make_leaf};
 use crate::put::{Entry, Written, put_at};
 use crate::reading::size as count;
+use crate::stamps::Stamp;
 use hash_path::PathKey;
 use std::alloc::Global;
 use std::cmp::Ordering;

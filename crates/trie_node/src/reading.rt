@@ -7,9 +7,9 @@ ghost use Rattle.trie_node.specs.Shape.{Fits};
 ghost use Rattle.trie_node.specs.Outline.{stamp_of, children};
 ghost use Rattle.trie_node.specs.Looks.{Shows};
 
-use crate::basics::Stamp;
+use crate::looks::Look;
 use crate::node::{Inner, Node};
-use crate::shown::Look;
+use crate::stamps::Stamp;
 use std::slice;
 
 /// The number of pairs below a node. It takes no walk: each branch keeps its number.

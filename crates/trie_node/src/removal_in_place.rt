@@ -11,14 +11,15 @@ ghost use Rattle.trie_node.specs.Tree.{IsTrie, branch, trees, entries};
 ghost use Rattle.trie_node.specs.View.{tree, tree_of};
 ghost use Rattle.trie_node.specs.RemovalInPlace.{TakesOut, TakesInside};
 
-use crate::basics::{NoMemory, Stamp};
 use crate::bitmap::{has_digit, place};
 use crate::branch_in_place::{count_out, lose_child};
 use crate::condition::{Always, Condition};
+use crate::no_memory::NoMemory;
 use crate::node::{Inner, Node};
-use crate::outcome::Removal;
 use crate::put_in_place::{Done, shared};
 use crate::removal::remove_at;
+use crate::removal_outcome::Removal;
+use crate::stamps::Stamp;
 use hash_path::{Path, PathKey};
 use std::alloc::Global;
 use std::sync::Arc;

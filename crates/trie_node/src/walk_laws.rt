@@ -3,8 +3,8 @@
 ghost use Rattle.std.specs.Prelude.{◌≡◌, ◌+◌, ◌<◌, ◌≤◌, ℕ, suc, All, Bool, Contains, IsTrue, [], length, get_or, flat_map, map, sum_by};
 ghost use Rattle.std.specs.FinMap.{is_sorted};
 ghost use Rattle.std.specs.FinMap.Entries.{where_key};
-ghost use Rattle.hash_path.specs.Digits.{digit};
-ghost use Rattle.trie_node.specs.declared.shown.Look.TheVariants.{Branch, Pairs};
+ghost use Rattle.hash_path.specs.Digits.{digit, last_level};
+ghost use Rattle.trie_node.specs.declared.looks.Look.TheVariants.{Branch, Pairs};
 ghost use Rattle.trie_node.specs.Counts.{node_count};
 ghost use Rattle.trie_node.specs.Listings.{IsListing, gathered};
 ghost use Rattle.trie_node.specs.Looks.{Shows};
@@ -49,7 +49,7 @@ pub fn leaf_is_its_pairs<K, V>()
 pub fn trie_follows_digits<K: PathKey, V>()
     ensures root { (t : Tree K V) → IsRoot K.cmp K.path_of t → IsTrie K.cmp K.path_of 0 t }
     ensures fits { (t : Tree K V) (level : ℕ) → IsTrie K.cmp K.path_of level t → Fits t }
-    ensures branch { (t : Tree K V) (level b : ℕ) → IsTrie K.cmp K.path_of level t → Shows (Branch b) t → level ≤ 6 }
+    ensures branch { (t : Tree K V) (level b : ℕ) → IsTrie K.cmp K.path_of level t → Shows (Branch b) t → level ≤ last_level }
     ensures below { (t u : Tree K V) (level n : ℕ) → IsTrie K.cmp K.path_of level t → n < length (children t) → u ≡ get_or (children t) n u → IsTrie K.cmp K.path_of (level + 1) u × (0 < length (entries u)) }
     ensures digits { (t u : Tree K V) (level b n : ℕ) → IsTrie K.cmp K.path_of level t → Shows (Branch b) t → n < length (children t) → u ≡ get_or (children t) n u → All (λ e. digit (K.path_of e.0) level ≡ get_or (digits_of b) n 0) (entries u) }
     ensures leaf { (t : Tree K V) (ps : _) (level : ℕ) → IsTrie K.cmp K.path_of level t → Shows (Pairs ps) t → 0 < level }

@@ -10,22 +10,23 @@ mod views;
 use crate::{NoMemory, Refusal, Version};
 use generation::Source;
 use hash_path::PathKey;
+use keys::ByteText;
 use std::alloc::Global;
 use std::process::Abort;
 use std::sync::Arc;
 use std::test::Fail;
-use test_keys::{ByteKey, ChosenKey};
+use test_keys::ChosenKey;
 use trie_node::{Condition, IfAbsent, IfEqual, IfPresent, Stamp};
 
 // A map from texts.
-type Texts = Version<ByteKey, i64>;
+type Texts = Version<ByteText, i64>;
 
 // A map from keys whose path words are chosen.
 type Chosen = Version<ChosenKey, i64>;
 
 // A key of the bytes of a text.
-fn text(alloc: Global, text: &str) -> Result<Arc<ByteKey>, NoMemory> {
-    Ok(Arc::new(alloc, ByteKey::from_text(alloc, text)?)?)
+fn text(alloc: Global, text: &str) -> Result<Arc<ByteText>, NoMemory> {
+    Ok(Arc::new(alloc, ByteText::from_text(alloc, text)?)?)
 }
 
 // A key with this path word.
@@ -73,7 +74,7 @@ fn put_text(
     at: &str,
     value: i64,
 ) -> Result<Option<i64>, Refusal> {
-    put(alloc, version, ByteKey::from_text(alloc, at)?, value)
+    put(alloc, version, ByteText::from_text(alloc, at)?, value)
 }
 
 // Removes the text, and answers the value before, or none.

@@ -1,8 +1,8 @@
 //! Views of a version, and versions of a root.
 use super::{Texts, at_text, of_three, put_text, remove_text, text};
 use crate::{Refusal, Version, View};
+use keys::ByteText;
 use std::test::Fail;
-use test_keys::ByteKey;
 use trie_node::Stamp;
 
 // Takes a value that other threads may have and read.
@@ -11,7 +11,7 @@ fn for_threads<T: Send + Sync>(value: T) -> T {
 }
 
 // The value of the key, or none.
-fn seen(view: &View<ByteKey, i64>, key: &ByteKey) -> Option<i64> {
+fn seen(view: &View<ByteText, i64>, key: &ByteText) -> Option<i64> {
     match view.get(key) {
         Some(value) => Some(**value),
         None => None,

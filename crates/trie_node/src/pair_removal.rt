@@ -7,10 +7,11 @@ ghost use Rattle.trie_node.specs.Tree.{IsTrie, bucket};
 ghost use Rattle.trie_node.specs.View.{tree, pair_values};
 ghost use Rattle.trie_node.specs.Removals.{IsAt, Removes, is_removable};
 
-use crate::basics::{NoMemory, Stamp};
 use crate::condition::Condition;
+use crate::no_memory::NoMemory;
 use crate::node::{Node, make_bucket, make_leaf};
-use crate::outcome::Removal;
+use crate::removal_outcome::Removal;
+use crate::stamps::Stamp;
 use hash_path::PathKey;
 use std::alloc::Global;
 use std::cmp::Ordering;

@@ -4,7 +4,7 @@ use Rattle.std.specs.Int.RustNames.{bit_and}
 use Rattle.trie_node.specs.Tree.{branch, trees}
 use Rattle.trie_node.specs.View.{tree}
 use Rattle.trie_node.proofs.Shortened.{appended_remove}
-use Rattle.trie_node.proofs.drawing.without_child.Goals as goal
+use Rattle.trie_node.proofs.contraction.without_child.Goals as goal
 
 pub returns : goal.returns
 returns g c =

@@ -6,8 +6,8 @@ use Rattle.trie_node.specs.View.{tree}
 use Rattle.trie_node.specs.Removals.{drawn_up}
 use Rattle.trie_node.proofs.Removals.{drawn_up_only, drawn_up_root, drawn_up_more, drawn_up_branch}
 use Rattle.trie_node.proofs.Shortened.{set_only}
-use Rattle.trie_node.proofs.drawing.with_rest.Goals as goal
-use Rattle.trie_node.proofs.drawing.with_rest.Goals.{else-level-gt0-via-then-level-gt0+then-old-eq1+else-is_pairs, else-level-gt0-via-then-level-gt0+else-old-eq1, else-level-gt0-via-else-level-gt0}
+use Rattle.trie_node.proofs.contraction.with_rest.Goals as goal
+use Rattle.trie_node.proofs.contraction.with_rest.Goals.{else-level-gt0-via-then-level-gt0+then-old-eq1+else-is_pairs, else-level-gt0-via-then-level-gt0+else-old-eq1, else-level-gt0-via-else-level-gt0}
 
 pub returns-then-is_pairs : goal.returns-then-is_pairs
 returns-then-is_pairs g c =

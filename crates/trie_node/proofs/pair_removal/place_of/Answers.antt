@@ -2,7 +2,7 @@ use Rattle.std.proofs.Common.{◌≡◌, ap, sym, ◌∙◌, get_or}
 use Rattle.std.specs.declared.cmp.Ordering.TheVariants.{Equal}
 use Rattle.trie_node.specs.View.{pair_values}
 use Rattle.trie_node.proofs.Taken.{at_place, equal_of_index}
-use Rattle.trie_node.proofs.taking.place_of.Goals as goal
+use Rattle.trie_node.proofs.pair_removal.place_of.Goals as goal
 
 pub returns-then-eq-clause-there : goal.returns-then-eq-clause-there
 returns-then-eq-clause-there g c =

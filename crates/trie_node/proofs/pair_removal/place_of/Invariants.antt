@@ -1,7 +1,7 @@
 use Rattle.std.proofs.Common.{◌≡◌, map, drop}
 use Rattle.std.specs.FinMap.{find}
 use Rattle.trie_node.specs.View.{pair_values}
-use Rattle.trie_node.proofs.taking.place_of.Given as goal
+use Rattle.trie_node.proofs.pair_removal.place_of.Given as goal
 
 abbrev pub invariant-loop-i : goal.invariant-loop-i
 invariant-loop-i g l = find g.K.Ord.cmp l.key (map pair_values (drop l.i l.pairs)) ≡ find g.K.Ord.cmp l.key (map pair_values l.pairs)

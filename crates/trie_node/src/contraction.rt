@@ -3,13 +3,15 @@
 ghost use Rattle.std.specs.Prelude.{◌≡◌, ◌<◌, ◌-◌, ◌*◌, ◌%◌, ◌^◌, IfOk, length, map, bit_and, slice_set as set};
 ghost use Rattle.std.specs.Int.{bit_not, w32};
 ghost use Rattle.std.specs.List.{remove};
+ghost use Rattle.hash_path.specs.Digits.{fan_out};
 ghost use Rattle.trie_node.specs.Tree.{branch, trees};
 ghost use Rattle.trie_node.specs.View.{tree};
 ghost use Rattle.trie_node.specs.Removals.{is_bucket, drawn_up};
 
-use crate::basics::{NoMemory, Stamp};
 use crate::copies::{push_copies, with_child};
+use crate::no_memory::NoMemory;
 use crate::node::{Inner, Node, make_branch};
+use crate::stamps::Stamp;
 use std::alloc::Global;
 
 /// A branch below one of whose children a pair is removed.
@@ -67,7 +69,7 @@ fn without_child<K: Drop, V: Drop>(
     digit: u32,
     at: usize,
 ) -> Result<Node<K, V>, NoMemory>
-    requires digit { digit < 32 }
+    requires digit { digit < fan_out }
     requires at { at < length old.now.children.now }
     requires size { 0 < old.now.size }
     ensures { IfOk result (λ n. tree n ≡ branch stamp.0 (old.now.size - 1) (bit_and old.now.bitmap (bit_not w32 (1 * 2 ^ digit % 2 ^ 32))) (trees (remove (map tree old.now.children.now) at))) }
@@ -89,7 +91,7 @@ pub(crate) fn without_rest<K: Drop, V: Drop>(
     at: usize,
     level: u32,
 ) -> Result<Node<K, V>, NoMemory>
-    requires digit { digit < 32 }
+    requires digit { digit < fan_out }
     requires at { at < length old.now.children.now }
     requires size { 0 < old.now.size }
     ensures { IfOk result (λ n. tree n ≡ drawn_up level (branch stamp.0 (old.now.size - 1) (bit_and old.now.bitmap (bit_not w32 (1 * 2 ^ digit % 2 ^ 32))) (trees (remove (map tree old.now.children.now) at)))) }

@@ -9,8 +9,8 @@ use Rattle.trie_node.specs.View.{tree}
 use Rattle.trie_node.specs.Removals.{drawn_up}
 use Rattle.trie_node.proofs.Removals.{drawn_up_only, drawn_up_root, drawn_up_more, drawn_up_branch}
 use Rattle.trie_node.proofs.Shortened.{remove_of_two}
-use Rattle.trie_node.proofs.drawing.without_rest.Goals as goal
-use Rattle.trie_node.proofs.drawing.without_rest.Goals.{then-level-gt0+then-old-eq2+else-is_pairs, else-level-gt0, else-level-gt0-via-then-level-gt0+else-old-eq2, else-level-gt0-via-else-level-gt0}
+use Rattle.trie_node.proofs.contraction.without_rest.Goals as goal
+use Rattle.trie_node.proofs.contraction.without_rest.Goals.{then-level-gt0+then-old-eq2+else-is_pairs, else-level-gt0, else-level-gt0-via-then-level-gt0+else-old-eq2, else-level-gt0-via-else-level-gt0}
 
 pub returns-then-is_pairs : goal.returns-then-is_pairs
 returns-then-is_pairs g c =

@@ -6,7 +6,7 @@ use Rattle.trie_node.specs.View.{pair_values}
 use Rattle.trie_node.specs.Writes.{Writes}
 use Rattle.trie_node.proofs.Taken.{removes_pair, takes_only, value_at_place}
 use Rattle.trie_node.proofs.Standing.{at_err}
-use Rattle.trie_node.proofs.taking.take_pair.Goals as goal
+use Rattle.trie_node.proofs.pair_removal.take_pair.Goals as goal
 
 pub returns-then-not-holds-clause-ok : goal.returns-then-not-holds-clause-ok
 returns-then-not-holds-clause-ok g c =
