@@ -1,0 +1,10 @@
+pub mod Covers
+mod WorkedSteps
+pub mod Weights
+pub mod Runs
+pub mod KeptBoards
+pub mod KeptCores
+pub mod Tilings
+pub mod Coverings
+pub mod NeverTwice
+pub mod Wholes
