@@ -20,7 +20,7 @@ pub cuts_within : {K V : Type 0} (path : K → ℕ) → CutsDivide V path → (m
 cuts_within path divide m grain i mid e = let d = divide m i grain mid e in (d.low, d.high)
 
 module _ (point : Interval → Option ℕ) (cuts : CutsWithin point) where
-  covers_kept : (p : ℕ) → CutsKeep (λ i. once i p) point
+  pub covers_kept : (p : ℕ) → CutsKeep (λ i. once i p) point
   covers_kept p i mid e = let c = cuts i mid e in once_cut i mid p (omega (arith, c.0)) (omega (arith, c.1))
 
   emptiness_kept : CutsKeep emptiness point

@@ -8,3 +8,7 @@ pub mod Tilings
 pub mod Coverings
 pub mod NeverTwice
 pub mod Wholes
+pub mod Stations
+pub mod Takings
+pub mod Workings
+pub mod Beginnings

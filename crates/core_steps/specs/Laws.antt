@@ -1,11 +1,14 @@
 -- What is true of every run of a core.
-use Rattle.std.specs.Prelude.{◌≡◌, ◌↔◌, ℕ, List, [], true, is_some}
+use Rattle.std.specs.Prelude.{◌≡◌, ◌↔◌, ℕ, ◌<◌, Bool, All, List, [], length, true, is_some}
+use Rattle.versions.specs.Map.{Map}
 use Rattle.handles.specs.Machine.{Kind, Run, job_at}
+use Rattle.iter.specs.declared.interval.Interval.{Interval}
+use Rattle.splitter.specs.Cuts.{cut_point}
 use Rattle.iter.specs.Intervals.{whole, AreApart, Tile, parts}
-use Rattle.core_steps.specs.Boards.{all_worked}
+use Rattle.core_steps.specs.Boards.{Board, Move, all_worked, moved, named_by}
 use Rattle.core_steps.specs.Cores.{CoreState, Asked, Told, Division, CoreStep, board_of, frozen_map}
 use Rattle.core_steps.specs.Traces.{client_requests, client_outcomes, covered, CoreRun}
-use Rattle.core_steps.specs.Invariants.{IsCore, waiting}
+use Rattle.core_steps.specs.Invariants.{IsBoard, IsCore, waiting}
 
 module _ {K V Q A B : Type 0} (kind : Kind K V Q A B) (division : Division K V Q) where
   -- what clients see of a run of a core is a run of the machine
@@ -37,3 +40,9 @@ abbrev pub TiledIsWhole : {K : Type 0} → Type 0 → Type 0 → (K → ℕ) →
 TiledIsWhole {K} V Q path =
     (s : CoreState K V Q) (j : ℕ)
     → Tile (all_worked (board_of s j)) whole → parts path (frozen_map s j) (all_worked (board_of s j)) ≡ frozen_map s j
+
+-- a move that names none but workers of a board leaves a board of as many workers
+abbrev pub MovesKeepBoards : {K : Type 0} → Type 0 → (K → ℕ) → Type 0
+MovesKeepBoards {K} V path =
+    (m : Map K V) (grain workers : ℕ) (size : Interval → ℕ) (settled : Bool) (b : Board) (x : Move)
+    → All (λ w. w < length b) (named_by x) → IsBoard workers b → IsBoard workers (moved (λ i. cut_point path m i grain) size settled b x).1

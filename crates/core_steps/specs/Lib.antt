@@ -4,3 +4,5 @@ pub mod Invariants
 pub mod Traces
 pub mod Laws
 pub mod Queries
+pub mod Desks
+pub mod Views

@@ -1,9 +1,10 @@
 //! Laws of the core. Their functions do nothing: each contract is the law.
 ghost use Rattle.std.specs.Prelude.{◌≤◌, ℕ};
 ghost use Rattle.handles.specs.declared.limits.Limits.{Limits};
+ghost use Rattle.core_steps.specs.Boards.{first_board};
 ghost use Rattle.core_steps.specs.Cores.{new_core};
-ghost use Rattle.core_steps.specs.Invariants.{IsCore};
-ghost use Rattle.core_steps.specs.Laws.{NoneWorkedTwice, RunsAreMachineRuns, StepsKeepCores, TileWhereNoneWaits, TiledIsWhole};
+ghost use Rattle.core_steps.specs.Invariants.{IsBoard, IsCore};
+ghost use Rattle.core_steps.specs.Laws.{MovesKeepBoards, NoneWorkedTwice, RunsAreMachineRuns, StepsKeepCores, TileWhereNoneWaits, TiledIsWhole};
 ghost use Rattle.core_steps.specs.Queries.{asked, divided};
 
 use bulk_ops::Asks;
@@ -39,4 +40,12 @@ pub fn law_of_tilings<K: PathKey, V, Q: Asks<K, V>>()
     ensures whole { TiledIsWhole V Q K.path_of }
 {
     parts_follow_intervals::<K, V>();
+}
+
+/// The intervals of a job's first board tile all positions, none of them is empty, and every move keeps that.
+pub fn law_of_boards<K: PathKey, V>()
+    ensures first { (workers : ℕ) → 1 ≤ workers → IsBoard workers (first_board workers) }
+    ensures kept { MovesKeepBoards V K.path_of }
+{
+    law_of_cuts::<K, V>();
 }

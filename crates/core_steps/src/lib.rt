@@ -5,6 +5,12 @@
 //! states, steps and runs are definitions in `specs/`; the laws say what is true of every run.
 #![tactic(auto)]
 
+mod board;
+mod desk;
 mod laws;
+mod progress;
+mod working;
 
-pub use laws::{law_of_cores, law_of_coverings, law_of_runs, law_of_tilings};
+pub use board::{Board, first_board, work_on};
+pub use laws::{law_of_boards, law_of_cores, law_of_coverings, law_of_runs, law_of_tilings};
+pub use progress::Progress;
