@@ -1,6 +1,6 @@
 //! The events of statements: what each asks of the table, and how that is answered.
 
-ghost use Rattle.std.specs.Prelude.{◌≡◌, IfOk, Some, false};
+ghost use Rattle.std.specs.Prelude.{◌≡◌, ◌≢◌, IfOk, OnOk, Some, false};
 ghost use Rattle.handles.specs.Views.{lacks_memory, outcome_of, request_of};
 ghost use Rattle.handles.specs.Machine.{view};
 ghost use Rattle.batch_cli.specs.Events.{MayAnswer, MayReply, MayStore, asked, reply_to};
@@ -25,12 +25,31 @@ pub fn answer(
 ) -> Result<LineReply, NoMemory>
     ensures { IfOk result (λ reply. MayAnswer table.old statement.now reply table.new) }
 {
-    let reply = event(alloc, table, ask_of(alloc, statement)?)?;
-    match (statement, reply) {
-        (Statement::GetOrElse { handle, key, value }, LineReply::Absent) => {
-            put_missing(alloc, table, *handle, key, *value)
+    let ask = ask_of(alloc, statement)?;
+    let reply = event(alloc, table, ask)?;
+    match statement {
+        Statement::GetOrElse { handle, key, value } => {
+            or_else(alloc, table, *handle, key, *value, reply)
         }
-        (_, reply) => Ok(reply),
+        _ => Ok(reply),
+    }
+}
+
+/// Where a get found nothing, makes the second event of its `getorelse`.
+fn or_else(
+    alloc: Global,
+    table: &mut ProgramTable,
+    handle: u32,
+    key: &Key,
+    value: i64,
+    found: LineReply,
+) -> Result<LineReply, NoMemory>
+    ensures stored { found ≡ LineReply.Absent → IfOk result (λ reply. MayStore table.old handle key.now value reply table.new) }
+    ensures kept { found ≢ LineReply.Absent → IfOk result (λ reply. (reply ≡ found) × (table.new ≡ table.old)) }
+{
+    match found {
+        LineReply::Absent => put_missing(alloc, table, handle, key, value),
+        reply => Ok(reply),
     }
 }
 
@@ -63,8 +82,7 @@ fn listed(alloc: Global, table: &mut ProgramTable, handle: u32) -> Result<LineRe
 {
     match table.view(handle) {
         Ok(view) => Ok(LineReply::Pairs(listing_of(alloc, &view)?)),
-        Err(Refusal::NoMemory) => Err(NoMemory),
-        Err(refusal) => Ok(LineReply::Refused(refusal)),
+        Err(refusal) => refused(refusal),
     }
 }
 
@@ -97,7 +115,17 @@ fn reply_of(answer: &Result<CallReply<i64>, Refusal>) -> Result<LineReply, NoMem
         Ok(CallReply::Reply(Reply::Done(done))) => Ok(LineReply::Truth(*done)),
         Ok(CallReply::Reply(Reply::Size(pairs))) => Ok(LineReply::Count(*pairs)),
         Ok(CallReply::Reply(Reply::Cleared)) => Ok(LineReply::Done),
-        Err(Refusal::NoMemory) => Err(NoMemory),
-        Err(refusal) => Ok(LineReply::Refused(*refusal)),
+        Err(refusal) => refused(*refusal),
+    }
+}
+
+/// The reply that tells the refusal, unless memory was wanting.
+fn refused(refusal: Refusal) -> Result<LineReply, NoMemory>
+    ensures shown { IfOk result (λ reply. reply ≡ LineReply.Refused refusal) }
+    ensures memory { OnOk result (refusal ≢ Refusal.NoMemory) }
+{
+    match refusal {
+        Refusal::NoMemory => Err(NoMemory),
+        _ => Ok(LineReply::Refused(refusal)),
     }
 }

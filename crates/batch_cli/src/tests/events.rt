@@ -51,7 +51,12 @@ fn a_getorelse_that_finds_no_room_is_full(rt: HostRuntime) -> Result<(), Fail> {
 
 #[test]
 fn a_list_makes_one_entry(rt: HostRuntime) -> Result<(), Fail> {
-    ends_with(&rt, b"0 open 1\n0 put 1 b 2\n0 put 1 a 1\n0 list 1", b"4 pairs a=1 b=2\n", 1)?;
+    ends_with(
+        &rt,
+        b"0 open 1\n0 put 1 b 2\n0 put 1 a 1\n0 list 1",
+        b"4 pairs a=1 b=2\n",
+        1,
+    )?;
     ends_with(&rt, b"0 list 9", b"1 refused NoHandle\n", 1)
 }
 

@@ -8,10 +8,7 @@ use versions::Refusal;
 
 /// The key with these bytes.
 fn key(alloc: Global, bytes: &[u8]) -> Result<MapKey, AllocError> {
-    Ok(MapKey::new(Arc::new(
-        alloc,
-        ByteText::from_slice(alloc, bytes)?,
-    )?))
+    Ok(MapKey::new(Arc::new(alloc, ByteText::from_slice(alloc, bytes)?)?))
 }
 
 #[test]
