@@ -4,6 +4,8 @@ pub mod LineLemmas
 pub mod ListingLemmas
 pub mod FaultLemmas
 pub mod VerbLemmas
+pub mod BehindLemmas
+pub mod QuestionLemmas
 pub mod WordLemmas
 pub mod OneFault
 pub mod ScriptLemmas

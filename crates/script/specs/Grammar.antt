@@ -7,6 +7,9 @@ pub data Place : Type 0 where
   handle_place : Place
   key_place : Place
   value_place : Place
+  test_place : Place
+  map_place : Place
+  fold_place : Place
 
 -- a verb's name, and the places of its arguments from left to right
 pub record Verb : Type 0 where

@@ -51,13 +51,25 @@ impl Key {
         self.text.as_bytes()
     }
 
+    /// The same key. No byte is copied.
+    ///
+    /// # Errors
+    ///
+    /// The text has as many owners as it may.
+    pub fn try_clone(&self) -> Result<Key, AllocError>
+        ensures { IfOk result (λ key. key ≡ self.now) }
+    {
+        Ok(Key { text: self.text()? })
+    }
+
     /// The key's own text, to be a key of a map. No byte is copied.
     ///
     /// # Errors
     ///
     /// The text has as many owners as it may.
     pub fn text(&self) -> Result<Arc<ByteText>, AllocError>
-        ensures { IfOk result (λ text. arc_value text ≡ self.now) }
+        ensures text { IfOk result (λ text. arc_value text ≡ self.now) }
+        ensures lawful { IfOk result (λ text. IsKey (arc_value text)) }
     {
         Arc::try_clone(&self.text)
     }
