@@ -1,5 +1,6 @@
 //! What tests and maps say of pairs.
-use crate::{Key, Mapping, Test};
+use crate::argument::Argument;
+use crate::{Folding, Key, Mapping, Test};
 use std::test::Fail;
 
 #[test]
@@ -63,4 +64,70 @@ fn each_map_has_its_new_value(rt: HostRuntime) {
     assert_eq!(rt; Mapping::Add(i64::MIN).new_value(b"a", i64::MIN), 0);
     assert_eq!(rt; Mapping::KeyLength.new_value(&[b'k'; 64], 5), 64);
     assert_eq!(rt; Mapping::KeyLength.new_value(b"abc", -1), 3);
+}
+
+#[test]
+fn tests_have_one_spelling(rt: HostRuntime) {
+    let alloc = rt.alloc();
+    for field in [
+        b"all".as_slice(),
+        b"even",
+        b"odd",
+        b"lt:-9223372036854775808",
+        b"ge:9223372036854775807",
+        b"eq:0",
+        b"prefix:prefix:a=b",
+        b"prefix:aaaaaaaaaaaaaaaaaaaaaaaaaaaaaaaaaaaaaaaaaaaaaaaaaaaaaaaaaaaaaaaa",
+    ] {
+        assert!(rt; Test::read(alloc, field).is_ok());
+    }
+    for field in [
+        b"".as_slice(),
+        b"All",
+        b"all:",
+        b"evens",
+        b"gt:1",
+        b"lt",
+        b"lt:",
+        b"lt:x",
+        b"lt:01",
+        b"lt:-0",
+        b"lt:+1",
+        b"lt:-9223372036854775809",
+        b"ge:9223372036854775808",
+        b"prefix",
+        b"prefix:",
+        b"prefix:a b",
+        b"prefix:aaaaaaaaaaaaaaaaaaaaaaaaaaaaaaaaaaaaaaaaaaaaaaaaaaaaaaaaaaaaaaaaa",
+    ] {
+        assert!(rt; Test::read(alloc, field).is_err());
+    }
+}
+
+#[test]
+fn maps_and_folds_have_one_spelling(rt: HostRuntime) {
+    let alloc = rt.alloc();
+    for field in [
+        b"set:9223372036854775807".as_slice(),
+        b"add:-9223372036854775808",
+        b"keylen",
+    ] {
+        assert!(rt; Mapping::read(alloc, field).is_ok());
+    }
+    for field in [
+        b"set".as_slice(),
+        b"set:",
+        b"add:9223372036854775808",
+        b"add:-0",
+        b"keylen:",
+        b"twice",
+    ] {
+        assert!(rt; Mapping::read(alloc, field).is_err());
+    }
+    for field in [b"sum".as_slice(), b"least", b"greatest"] {
+        assert!(rt; Folding::read(alloc, field).is_ok());
+    }
+    for field in [b"product".as_slice(), b"Sum", b"sum:", b""] {
+        assert!(rt; Folding::read(alloc, field).is_err());
+    }
 }
