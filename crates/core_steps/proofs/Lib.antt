@@ -12,3 +12,4 @@ pub mod Stations
 pub mod Takings
 pub mod Workings
 pub mod Beginnings
+pub mod JobSteps

@@ -43,6 +43,13 @@ impl<K: PathKey + Drop, V: Drop, P> Board<K, V, P> {
         self.desks[0].queue = queue;
     }
 
+    /// How many workers there are.
+    pub fn workers(&self) -> usize
+        ensures { result ≡ length self.now }
+    {
+        self.desks.len()
+    }
+
     /// The part of what the worker has worked, if there is such a worker.
     pub fn part(&self, worker: u32) -> Option<&P>
         ensures { option_map (λ part. part.now) result ≡ option_map (λ desk. desk.part) (slice_get self.now worker) }

@@ -4,10 +4,11 @@ ghost use Rattle.handles.specs.declared.limits.Limits.{Limits};
 ghost use Rattle.core_steps.specs.Boards.{first_board};
 ghost use Rattle.core_steps.specs.Cores.{new_core};
 ghost use Rattle.core_steps.specs.Invariants.{IsBoard, IsCore};
-ghost use Rattle.core_steps.specs.Laws.{MovesKeepBoards, NoneWorkedTwice, RunsAreMachineRuns, StepsKeepCores, TileWhereNoneWaits, TiledIsWhole};
+ghost use Rattle.core_steps.specs.Laws.{MovesKeepBoards, NoneWorkedTwice, RunsAreMachineRuns, StepsKeepCores, TileWhereNoneWaits, TiledIsWhole, TurnsKeepJobs};
 ghost use Rattle.core_steps.specs.Queries.{asked, divided};
 
 use bulk_ops::Asks;
+use combiner::Bulk;
 use hash_path::PathKey;
 use iter::parts_follow_intervals;
 use splitter::law_of_cuts;
@@ -47,5 +48,14 @@ pub fn law_of_boards<K: PathKey, V>()
     ensures first { (workers : ℕ) → 1 ≤ workers → IsBoard workers (first_board workers) }
     ensures kept { MovesKeepBoards V K.path_of }
 {
+    law_of_cuts::<K, V>();
+}
+
+/// Each worker's turn keeps what is true of the desks of a job on a map: the pieces are of the map, each part answers what
+/// its worker has worked, and no two intervals share a position.
+pub fn law_of_jobs<K: PathKey, V, B: Bulk<K, V>>(bulk: &B)
+    ensures { TurnsKeepJobs K.cmp K.path_of (B.answers bulk.now) (B.decides bulk.now) }
+{
+    let _ = bulk;
     law_of_cuts::<K, V>();
 }

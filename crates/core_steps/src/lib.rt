@@ -12,5 +12,10 @@ mod progress;
 mod working;
 
 pub use board::{Board, first_board, work_on};
-pub use laws::{law_of_boards, law_of_cores, law_of_coverings, law_of_runs, law_of_tilings};
+pub use laws::{
+    law_of_boards, law_of_cores, law_of_coverings, law_of_jobs, law_of_runs, law_of_tilings,
+};
 pub use progress::Progress;
+
+#[cfg(test)]
+mod tests;

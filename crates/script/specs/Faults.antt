@@ -3,10 +3,10 @@ use Rattle.std.specs.Prelude.{◌≡◌, ℕ, ◌<◌, ◌⊎◌, List, [], ◌�
 use Rattle.std.specs.List.{list_any}
 use Rattle.std.specs.Fmt.{decimal}
 use Rattle.script.specs.Lines.{fields_of, is_skipped, is_bad_byte}
-use Rattle.script.specs.Grammar.{Place, handle_place, key_place, value_place, verb_named}
+use Rattle.script.specs.Grammar.{Place, handle_place, key_place, value_place, test_place, map_place, fold_place, verb_named}
 use Rattle.script.specs.Statements.{Argument, place_of, spelling_of, IsInRange}
 use Rattle.script.specs.declared.fault.Reason.{Reason}
-use Rattle.script.specs.declared.fault.Reason.TheVariants.{TooManyLines, LineTooLong, BadByte, MissingField, BadClient, UnknownVerb, BadHandle, BadKey, BadValue, ExtraField}
+use Rattle.script.specs.declared.fault.Reason.TheVariants.{TooManyLines, LineTooLong, BadByte, MissingField, BadClient, UnknownVerb, BadHandle, BadKey, BadValue, BadTest, BadMap, BadFold, ExtraField}
 use Rattle.script.specs.declared.stop.Stop.{Stop}
 use Rattle.script.specs.declared.stop.Stop.TheVariants.{Memory, Fault}
 
@@ -22,6 +22,9 @@ abbrev pub reason_at : Place → Reason
 reason_at handle_place = BadHandle
 reason_at key_place = BadKey
 reason_at value_place = BadValue
+reason_at test_place = BadTest
+reason_at map_place = BadMap
+reason_at fold_place = BadFold
 
 -- the first fault of fields that should stand in these places
 abbrev pub Faulty : List Place → List (List ℕ) → Reason → Type 0

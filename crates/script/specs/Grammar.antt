@@ -7,6 +7,9 @@ pub data Place : Type 0 where
   handle_place : Place
   key_place : Place
   value_place : Place
+  test_place : Place
+  map_place : Place
+  fold_place : Place
 
 -- a verb's name, and the places of its arguments from left to right
 pub record Verb : Type 0 where
@@ -29,6 +32,7 @@ verbs =
     ∷ record { name = codes "getorelse"; places = handle_place ∷ key_place ∷ value_place ∷ [] }
     ∷ record { name = codes "size"; places = handle_place ∷ [] }
     ∷ record { name = codes "clear"; places = handle_place ∷ [] }
+    ∷ record { name = codes "list"; places = handle_place ∷ [] }
     ∷ []
 
 -- the verb of this name, if there is one

@@ -1,6 +1,7 @@
 pub mod Keys
 pub mod Lines
 pub mod Numbers
+pub mod Questions
 pub mod Grammar
 pub mod Statements
 pub mod Faults

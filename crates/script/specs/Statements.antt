@@ -3,9 +3,13 @@ use Rattle.std.specs.Prelude.{ℕ, ℤ, List, [], ◌∷◌, ◌<◌, ◌^◌, F
 use Rattle.std.specs.Int.{w64}
 use Rattle.std.specs.Fmt.{decimal, signed_decimal}
 use Rattle.script.specs.Keys.{IsKey}
-use Rattle.script.specs.Grammar.{Place, handle_place, key_place, value_place}
+use Rattle.script.specs.Questions.{IsMapping, IsTest, folding_text, mapping_text, test_text}
+use Rattle.script.specs.Grammar.{Place, handle_place, key_place, value_place, test_place, map_place, fold_place}
+use Rattle.script.specs.declared.passing.Test.{Test}
+use Rattle.script.specs.declared.mapping.Mapping.{Mapping}
+use Rattle.script.specs.declared.folding.Folding.{Folding}
 use Rattle.script.specs.declared.statement.Statement.{Statement}
-use Rattle.script.specs.declared.statement.Statement.TheVariants.{Open, Snap, Drop, Get, Put, PutIfAbsent, Replace, ReplaceIf, Remove, RemoveIf, GetOrElse, Size, Clear}
+use Rattle.script.specs.declared.statement.Statement.TheVariants.{Open, Snap, Drop, Get, Put, PutIfAbsent, Replace, ReplaceIf, Remove, RemoveIf, GetOrElse, Size, Clear, Pairs}
 use Rattle.script.specs.declared.statement.CommandLine.{CommandLine}
 
 -- what stands behind a verb
@@ -13,24 +17,36 @@ pub data Argument : Type 0 where
   handle_argument : ℕ → Argument
   key_argument : List ℕ → Argument
   value_argument : ℤ → Argument
+  test_argument : Test → Argument
+  map_argument : Mapping → Argument
+  fold_argument : Folding → Argument
 
 -- where it may stand
 abbrev pub place_of : Argument → Place
 place_of (handle_argument number) = handle_place
 place_of (key_argument bytes) = key_place
 place_of (value_argument number) = value_place
+place_of (test_argument test) = test_place
+place_of (map_argument mapping) = map_place
+place_of (fold_argument folding) = fold_place
 
 -- its one spelling: a number has no leading zero and no sign but the minus of a value below 0
 abbrev pub spelling_of : Argument → List ℕ
 spelling_of (handle_argument number) = decimal number
 spelling_of (key_argument bytes) = bytes
 spelling_of (value_argument number) = signed_decimal number
+spelling_of (test_argument test) = test_text test
+spelling_of (map_argument mapping) = mapping_text mapping
+spelling_of (fold_argument folding) = folding_text folding
 
--- it is in its range: a handle in that of u32, a value in that of i64
+-- it is in its range: a handle in that of u32, a value, of a test or a map too, in that of i64
 abbrev pub IsInRange : Argument → Type 0
 IsInRange (handle_argument number) = number < 2 ^ 32
 IsInRange (key_argument bytes) = IsKey bytes
 IsInRange (value_argument number) = FitsSigned w64 number
+IsInRange (test_argument test) = IsTest test
+IsInRange (map_argument mapping) = IsMapping mapping
+IsInRange (fold_argument folding) = Unit {0}
 
 -- each of them is in its range
 abbrev pub AreInRange : List Argument → Type 0
@@ -57,6 +73,7 @@ phrase_of (RemoveIf handle key value) = record { name = codes "removeif"; argume
 phrase_of (GetOrElse handle key value) = record { name = codes "getorelse"; arguments = handle_argument handle ∷ key_argument key ∷ value_argument value ∷ [] }
 phrase_of (Size handle) = record { name = codes "size"; arguments = handle_argument handle ∷ [] }
 phrase_of (Clear handle) = record { name = codes "clear"; arguments = handle_argument handle ∷ [] }
+phrase_of (Pairs handle) = record { name = codes "list"; arguments = handle_argument handle ∷ [] }
 
 -- what a statement spells: its verb's name and its arguments, a field each
 abbrev pub words_of : Statement → List (List ℕ)

@@ -23,6 +23,12 @@ pub enum Reason {
     BadKey,
     #[error("bad value")]
     BadValue,
+    #[error("bad test")]
+    BadTest,
+    #[error("bad map")]
+    BadMap,
+    #[error("bad fold")]
+    BadFold,
     #[error("extra field")]
     ExtraField,
 }

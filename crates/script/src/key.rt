@@ -51,6 +51,19 @@ impl Key {
         self.text.as_bytes()
     }
 
+    /// The same key. No byte is copied.
+    ///
+    /// # Errors
+    ///
+    /// The text has as many owners as it may.
+    pub fn try_clone(&self) -> Result<Key, AllocError>
+        ensures { IfOk result (λ key. key ≡ self.now) }
+    {
+        Ok(Key {
+            text: self.lawful_text()?,
+        })
+    }
+
     /// The key's own text, to be a key of a map. No byte is copied.
     ///
     /// # Errors
@@ -58,6 +71,14 @@ impl Key {
     /// The text has as many owners as it may.
     pub fn text(&self) -> Result<Arc<ByteText>, AllocError>
         ensures { IfOk result (λ text. arc_value text ≡ self.now) }
+    {
+        Arc::try_clone(&self.text)
+    }
+
+    /// The same text, which is a key's.
+    fn lawful_text(&self) -> Result<Arc<ByteText>, AllocError>
+        ensures text { IfOk result (λ text. arc_value text ≡ self.now) }
+        ensures lawful { IfOk result (λ text. IsKey (arc_value text)) }
     {
         Arc::try_clone(&self.text)
     }

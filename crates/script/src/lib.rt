@@ -6,14 +6,20 @@
 #![tactic(auto)]
 
 mod argument;
+mod behind;
 mod fault;
 mod fields;
+mod folding;
 mod key;
 pub mod law;
 mod line;
 mod lines;
+mod listing;
+mod map_key;
+mod mapping;
 mod number;
 mod parse;
+mod passing;
 mod reply;
 mod statement;
 mod stop;
@@ -21,7 +27,12 @@ mod stop;
 mod tests;
 
 pub use fault::{Reason, ScriptFault};
+pub use folding::Folding;
 pub use key::Key;
+pub use listing::Listing;
+pub use map_key::MapKey;
+pub use mapping::Mapping;
 pub use parse::{Script, parse_script};
+pub use passing::Test;
 pub use reply::{LineReply, push_line};
 pub use statement::{CommandLine, Statement};

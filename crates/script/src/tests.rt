@@ -1,4 +1,5 @@
 //! What scripts say, by hand.
 mod faults;
 mod parts;
+mod questions;
 mod replies;

@@ -1,0 +1,67 @@
+//! Maps of values to new ones.
+
+ghost use Rattle.std.specs.Prelude.{◌≡◌, ◌≢◌, MatchOption};
+ghost use Rattle.script.specs.Questions.{IsMapping, mapping_text, new_value};
+ghost use Rattle.script.specs.declared.mapping.Mapping.{Mapping};
+
+use crate::argument::Argument;
+use crate::behind::value_behind;
+use crate::fault::Reason;
+use crate::stop::Stop;
+use std::alloc::Global;
+
+/// What a pair's new value is.
+#[derive(Clone, Copy, Debug)]
+pub enum Mapping {
+    /// This value.
+    Set(i64),
+    /// The sum of the value and this one, wrapped to 64 bits.
+    Add(i64),
+    /// The number of bytes in the key.
+    KeyLength,
+}
+
+impl Mapping {
+    /// The new value of the pair of a key's bytes and a value.
+    pub fn new_value(self, key: &[u8], value: i64) -> i64
+        ensures { result ≡ new_value self key.now value }
+    {
+        match self {
+            Mapping::Set(new) => new,
+            Mapping::Add(more) => value.wrapping_add(more),
+            Mapping::KeyLength => key.len() as i64,
+        }
+    }
+}
+
+impl Argument for Mapping {
+    ghost use Rattle.script.specs.Grammar.{map_place};
+    ghost use Rattle.script.specs.Statements.{map_argument};
+
+    ghost place = { map_place };
+
+    ghost argument = { map_argument };
+
+    fn read(_alloc: Global, field: &[u8]) -> Result<Mapping, Stop> {
+        match mapping_of(field) {
+            Some(mapping) => Ok(mapping),
+            None => Err(Stop::Fault(Reason::BadMap)),
+        }
+    }
+}
+
+/// The map that the field spells, if it spells one.
+fn mapping_of(field: &[u8]) -> Option<Mapping>
+    ensures { MatchOption result ((m : Mapping) → IsMapping m → field.now ≢ mapping_text m) (λ m. IsMapping m × (field.now ≡ mapping_text m)) }
+{
+    if let Some(value) = value_behind(b"set:", field) {
+        return Some(Mapping::Set(value));
+    }
+    if let Some(value) = value_behind(b"add:", field) {
+        return Some(Mapping::Add(value));
+    }
+    match field {
+        b"keylen" => Some(Mapping::KeyLength),
+        _ => None,
+    }
+}

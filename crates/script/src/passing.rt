@@ -1,0 +1,117 @@
+//! Tests of pairs.
+
+ghost use Rattle.std.specs.Prelude.{◌≡◌, ◌≢◌, ◌++◌, codes, IfOk, MatchOption};
+ghost use Rattle.script.specs.Questions.{IsTest, passes, test_text};
+ghost use Rattle.script.specs.declared.passing.Test.{Test};
+
+use crate::argument::Argument;
+use crate::behind::{key_behind, value_behind};
+use crate::fault::Reason;
+use crate::key::Key;
+use crate::stop::Stop;
+use std::alloc::{AllocError, Global};
+
+/// A test that a pair passes or fails.
+#[derive(Debug, Drop)]
+pub enum Test {
+    /// Every pair passes.
+    All,
+    /// A value that is a multiple of 2 passes.
+    Even,
+    /// A value that is none passes.
+    Odd,
+    /// A value below this one passes.
+    Below(i64),
+    /// This value and those above it pass.
+    AtLeast(i64),
+    /// This value passes.
+    Equal(i64),
+    /// A key that begins with the bytes of this one passes.
+    Prefix(Key),
+}
+
+impl Test {
+    /// Whether the pair of a key's bytes and a value passes.
+    pub fn passes(&self, key: &[u8], value: i64) -> bool
+        ensures { result ≡ passes self.now key.now value }
+    {
+        match self {
+            Test::All => true,
+            Test::Even => value.unsigned_abs() % 2 == 0,
+            Test::Odd => value.unsigned_abs() % 2 != 0,
+            Test::Below(limit) => value < *limit,
+            Test::AtLeast(limit) => value >= *limit,
+            Test::Equal(other) => value == *other,
+            Test::Prefix(front) => key.starts_with(front.as_slice()),
+        }
+    }
+
+    /// The same test. The bytes of a key are shared.
+    ///
+    /// # Errors
+    ///
+    /// The key's text has as many owners as it may.
+    pub fn try_clone(&self) -> Result<Test, AllocError>
+        ensures { IfOk result (λ test. test ≡ self.now) }
+    {
+        Ok(match self {
+            Test::All => Test::All,
+            Test::Even => Test::Even,
+            Test::Odd => Test::Odd,
+            Test::Below(limit) => Test::Below(*limit),
+            Test::AtLeast(limit) => Test::AtLeast(*limit),
+            Test::Equal(other) => Test::Equal(*other),
+            Test::Prefix(front) => Test::Prefix(front.try_clone()?),
+        })
+    }
+}
+
+impl Argument for Test {
+    ghost use Rattle.script.specs.Grammar.{test_place};
+    ghost use Rattle.script.specs.Statements.{test_argument};
+
+    ghost place = { test_place };
+
+    ghost argument = { test_argument };
+
+    fn read(alloc: Global, field: &[u8]) -> Result<Test, Stop> {
+        match test_of(alloc, field)? {
+            Some(test) => Ok(test),
+            None => Err(Stop::Fault(Reason::BadTest)),
+        }
+    }
+}
+
+/// The test that the field spells, if it spells one.
+fn test_of(alloc: Global, field: &[u8]) -> Result<Option<Test>, AllocError>
+    ensures { IfOk result (λ test. MatchOption test ((t : Test) → IsTest t → field.now ≢ test_text t) (λ t. IsTest t × (field.now ≡ test_text t))) }
+{
+    if let Some(test) = word_of(field) {
+        return Ok(Some(test));
+    }
+    if let Some(value) = value_behind(b"lt:", field) {
+        return Ok(Some(Test::Below(value)));
+    }
+    if let Some(value) = value_behind(b"ge:", field) {
+        return Ok(Some(Test::AtLeast(value)));
+    }
+    if let Some(value) = value_behind(b"eq:", field) {
+        return Ok(Some(Test::Equal(value)));
+    }
+    match key_behind(alloc, b"prefix:", field)? {
+        Some(key) => Ok(Some(Test::Prefix(key))),
+        None => Ok(None),
+    }
+}
+
+/// The test of one word that the field spells, if it spells one.
+fn word_of(field: &[u8]) -> Option<Test>
+    ensures { MatchOption result ((field.now ≢ codes "all") × (field.now ≢ codes "even") × (field.now ≢ codes "odd")) (λ t. IsTest t × (field.now ≡ test_text t)) }
+{
+    match field {
+        b"all" => Some(Test::All),
+        b"even" => Some(Test::Even),
+        b"odd" => Some(Test::Odd),
+        _ => None,
+    }
+}
