@@ -4,7 +4,7 @@ ghost use Rattle.std.specs.Prelude.{◌≡◌, IfOk, Some, false};
 ghost use Rattle.handles.specs.Views.{lacks_memory, outcome_of, request_of};
 ghost use Rattle.batch_cli.specs.Events.{MayAnswer, MayReply, MayStore, reply_to, request_for};
 
-use handles::{Call, CallReply, Command, Reply, Table, law_of_answers};
+use handles::{Call, CallReply, Command, NoQuery, Reply, Table, law_of_answers};
 use keys::ByteText;
 use script::{Key, LineReply, Statement};
 use std::alloc::Global;
@@ -40,7 +40,7 @@ fn event(
 ) -> Result<LineReply, NoMemory>
     ensures { IfOk result (λ reply. MayReply table.old (request_of call) reply table.new) }
 {
-    law_of_answers::<ByteText, i64>();
+    law_of_answers::<ByteText, i64, NoQuery>();
     let answer = table.serve(alloc, call);
     reply_of(&answer)
 }

@@ -1,4 +1,6 @@
 //! What calls of a table answer, by hand.
+mod asking;
+mod jobs;
 mod memory;
 mod operations;
 mod refusals;
