@@ -3,9 +3,9 @@ use Rattle.std.proofs.Common.{◌≡◌, Bool, true, false, ℕ, ◌+◌, ◌∙
 use Rattle.std.specs.Prelude.{ℤ, if◌then◌else◌}
 use Rattle.versions.specs.declared.refusal.Refusal.{Refusal}
 use Rattle.std.specs.Ordering.{nat_cmp}
-use Rattle.versions.specs.Map.{without}
+use Rattle.versions.specs.Map.{Map, without}
 use Rattle.versions.specs.Commands as commands
-use Rattle.handles.specs.Machine.{Step, Granted, refusal, is_entry, live_with, held_by, open_handle, snapshot, drop_handle, on, made, replied, viewed, frozen, finished, unfinished, refused, worked}
+use Rattle.handles.specs.Machine.{Step, Granted, refusal, is_entry, live_with, held_by, open_handle, snapshot, drop_handle, on, view, made, replied, viewed, frozen, finished, unfinished, refused, worked}
 use Rattle.script.specs.Replies.{line_text}
 use Rattle.batch_cli.specs.Events.{program, ProgramState, ProgramRequest, ProgramOutcome, Event, request_for, reply_with, Ends, IsRun, MayAnswer}
 use Rattle.batch_cli.specs.Runs.{LineAnswer, EachMakes, events_of, text_for}
@@ -75,6 +75,16 @@ one_drop s h unfinished t g = absurd g
 one_drop s h (refused e) t g = absurd g
 one_drop s h worked t g = absurd g
 
+one_view : (s : ProgramState) (h : ℕ) (o : ProgramOutcome) (t : ProgramState) → Granted program s (view h) o t → (o ≡ viewed (held_by s h)) × (t ≡ record s { entries = s.entries + 1 })
+one_view s h (viewed m) t g = (ap (λ (pairs : Map (List ℕ) ℤ). viewed pairs) g.0, g.1)
+one_view s h made t g = absurd g
+one_view s h (replied y) t g = absurd g
+one_view s h (frozen j m) t g = absurd g
+one_view s h (finished b) t g = absurd g
+one_view s h unfinished t g = absurd g
+one_view s h (refused e) t g = absurd g
+one_view s h worked t g = absurd g
+
 -- two ways to be granted are one
 abbrev OneGrant : ProgramRequest → Type 0
 OneGrant r = (s t u : ProgramState) (o p : ProgramOutcome) → Granted program s r o t → Granted program s r p u → (o ≡ p) × (t ≡ u)
@@ -91,12 +101,16 @@ snapshot_once h to s t u o p g k = let a = one_snapshot s h to o t g in let b = 
 drop_once : (h : ℕ) → OneGrant (drop_handle h)
 drop_once h s t u o p g k = let a = one_drop s h o t g in let b = one_drop s h p u k in (a.0 ∙ sym b.0, a.1 ∙ sym b.1)
 
+view_once : (h : ℕ) → OneGrant (view h)
+view_once h s t u o p g k = let a = one_view s h o t g in let b = one_view s h p u k in (a.0 ∙ sym b.0, a.1 ∙ sym b.1)
+
 -- whether the request is one of these
 abbrev is_granted_once : ProgramRequest → Bool
 is_granted_once (open_handle h) = true
 is_granted_once (snapshot h to) = true
 is_granted_once (drop_handle h) = true
 is_granted_once (on h c) = true
+is_granted_once (view h) = true
 is_granted_once _ = false
 
 granted_once : (r : ProgramRequest) → is_granted_once r ≡ true → OneGrant r
@@ -104,6 +118,7 @@ granted_once (open_handle h) e = open_once h
 granted_once (snapshot h to) e = snapshot_once h to
 granted_once (drop_handle h) e = drop_once h
 granted_once (on h c) e = one_command h c
+granted_once (view h) e = view_once h
 granted_once r e = λ s t u o p g k. cc
 
 asks_once : (c : Statement) → is_granted_once (request_for c) ≡ true

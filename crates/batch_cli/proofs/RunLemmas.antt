@@ -1,10 +1,12 @@
 -- Runs that go on: by an event, and by a line.
-use Rattle.std.proofs.Common.{◌≡◌, ℕ, ◌∙◌, false, List, [], ◌∷◌, ◌++◌, Some, None, Result, Ok, Err, IfOk, inl, inr, refl, sym, ap, subst, append_assoc, append-nil}
-use Rattle.std.specs.Prelude.{ℤ}
+use Rattle.std.proofs.Common.{◌≡◌, ◌≢◌, ℕ, ◌∙◌, false, List, [], ◌∷◌, ◌++◌, Some, None, Result, Ok, Err, IfOk, inl, inr, refl, sym, ap, subst, append_assoc, append-nil}
+use Rattle.std.specs.Prelude.{ℤ, OnOk}
+use Rattle.versions.specs.Map.{Map}
 use Rattle.versions.specs.declared.refusal.Refusal.{Refusal}
+use Rattle.versions.specs.declared.refusal.Refusal.TheVariants.{NoMemory}
 use Rattle.handles.specs.declared.call_reply.CallReply.{CallReply}
 use Rattle.versions.specs.Commands.{get, put_if_absent, old, done, count, cleared}
-use Rattle.handles.specs.Machine.{Step, on, made, replied, viewed, frozen, finished, unfinished, refused, worked}
+use Rattle.handles.specs.Machine.{Step, on, view, made, replied, viewed, frozen, finished, unfinished, refused, worked}
 use Rattle.handles.specs.Views.{IsStep, call_outcome, outcome_of, lacks_memory}
 use Rattle.handles.specs.Laws.{AnswersAreSteps}
 use Rattle.script.specs.Replies.{line_text}
@@ -14,7 +16,7 @@ use Rattle.script.specs.declared.statement.Statement.{Statement}
 use Rattle.script.specs.declared.statement.Statement.TheVariants.{GetOrElse}
 use Rattle.script.specs.declared.statement.CommandLine.{CommandLine}
 use Rattle.script.specs.declared.reply.LineReply.{LineReply}
-use Rattle.script.specs.declared.reply.LineReply.TheVariants.{Absent}
+use Rattle.script.specs.declared.reply.LineReply.TheVariants.{Absent, Pairs, Refused}
 use Rattle.batch_cli.proofs.Ends.{missing_or_done}
 
 -- what the table answered is an event of the machine
@@ -23,6 +25,21 @@ pub answered : {E : Type 0} → AnswersAreSteps program → (s t : ProgramState)
     → IfOk result (λ reply. MayReply s r reply t)
 answered law s t r answer (Ok reply) step shown memory = (outcome_of answer, law s t r answer memory step, shown)
 answered law s t r answer (Err e) step shown memory = tt
+
+-- a refusal for another reason than memory is a step
+refused_step : {T : Type 0} (s t : ProgramState) (r : ProgramRequest) (shown : T → ProgramOutcome) (e : Refusal) → e ≢ NoMemory → IsStep program s r shown (Err e) t → Step program s r (refused e) t
+refused_step s t r shown NoMemory other step = absurd (other refl)
+refused_step s t r shown e other step = step
+
+-- what was refused so is an event of the machine
+pub refusal_shown : {E T : Type 0} (s t : ProgramState) (r : ProgramRequest) (shown : T → ProgramOutcome) (e : Refusal) (result : Result LineReply E)
+    → IsStep program s r shown (Err e) t → IfOk result (λ reply. reply ≡ Refused e) → OnOk result (e ≢ NoMemory) → IfOk result (λ reply. MayReply s r reply t)
+refusal_shown s t r shown e (Ok reply) step is other = (refused e, refused_step s t r shown e other step, ap (λ (x : LineReply). Some x) (sym is))
+refusal_shown s t r shown e (Err x) step is other = tt
+
+-- what lists a view's pairs is an event of the machine
+pub view_shown : (s t : ProgramState) (h : ℕ) (m pairs : Map (List ℕ) ℤ) → Step program s (view h) (viewed m) t → pairs ≡ m → MayReply s (view h) (Pairs pairs) t
+view_shown s t h m pairs step same = (viewed m, step, ap (λ (x : Map (List ℕ) ℤ). Some (Pairs x)) (sym same))
 
 -- a reply that something is absent shows that nothing was found
 pub absent : (outcome : ProgramOutcome) → reply_to outcome ≡ Some Absent → outcome ≡ replied (old None)
@@ -60,6 +77,16 @@ stored_then s m t statement request handle key value reply (Ok last) is nothing 
     let none : first ≡ replied (old None) = absent first (shown ∙ ap (λ (r : LineReply). Some r) nothing) in
     let get_step : Step program s (on handle (get key)) (replied (old None)) m = rw (asked, is, none) at step in
     rw is ((on handle (get key), replied (old None)) ∷ (on handle (put_if_absent key value), second) ∷ [], (replied (old None), (on handle (put_if_absent key value), second) ∷ [], refl, (second, refl, told)), (m, get_step, (t, later, refl)))
+
+-- the line of a getorelse
+pub or_else_answers : {E : Type 0} (s m t : ProgramState) (statement : Statement) (request : ProgramRequest) (handle : ℕ) (key : List ℕ) (value : ℤ) (found : LineReply) (result : Result LineReply E)
+    → statement ≡ GetOrElse handle key value → request ≡ request_for statement → MayReply s request found m
+    → (found ≡ Absent → IfOk result (λ reply. MayStore m handle key value reply t)) → (found ≢ Absent → IfOk result (λ reply. (reply ≡ found) × (t ≡ m))) → IfOk result (λ reply. MayAnswer s statement reply t)
+or_else_answers s m t statement request handle key value Absent result is asked replies stored kept = stored_then s m t statement request handle key value Absent result is refl asked replies (stored refl)
+or_else_answers s m t statement request handle key value found (Ok reply) is asked replies stored kept =
+    let same : (reply ≡ found) × (t ≡ m) = kept (λ e. cc) in
+    rw (same.0, same.1) (done_at_once s m statement request found (λ h k v g e. cc) asked replies)
+or_else_answers s m t statement request handle key value found (Err e) is asked replies stored kept = tt
 
 -- one run after another
 run_append : (s t u : ProgramState) (es fs : List Event) → IsRun s es t → IsRun t fs u → IsRun s (es ++ fs) u

@@ -2,16 +2,18 @@
 use Rattle.std.specs.Prelude.{◌≡◌, ℕ, ℤ, List, [], ◌∷◌, Option, Some, None, map}
 use Rattle.std.specs.Ordering.{int_eq}
 use Rattle.versions.specs.Commands.{get, put, put_if_absent, replace, replace_if, remove, remove_if, size, clear, old, done, count, cleared}
-use Rattle.handles.specs.Machine.{Kind, State, Request, open_handle, snapshot, drop_handle, on, Outcome, made, replied, refused, Step, Run}
+use Rattle.handles.specs.Machine.{Kind, State, Request, open_handle, snapshot, drop_handle, on, view, Outcome, made, replied, viewed, refused, Step, Run}
 use Rattle.handles.specs.NoQueries.{no_answer, no_target}
-use Rattle.handles.specs.Views.{machine}
+use Rattle.handles.specs.Views.{machine, request_of}
 use Rattle.handles.specs.declared.no_query.NoQuery.{NoQuery}
 use Rattle.bulk_ops.specs.Answers as plain
 use Rattle.keys.specs.Order.{bytes_cmp}
 use Rattle.script.specs.declared.statement.Statement.{Statement}
-use Rattle.script.specs.declared.statement.Statement.TheVariants.{Open, Snap, Drop, Get, Put, PutIfAbsent, Replace, ReplaceIf, Remove, RemoveIf, GetOrElse, Size, Clear}
+use Rattle.script.specs.declared.statement.Statement.TheVariants.{Open, Snap, Drop, Get, Put, PutIfAbsent, Replace, ReplaceIf, Remove, RemoveIf, GetOrElse, Size, Clear, Pairs}
 use Rattle.script.specs.declared.reply.LineReply.{LineReply}
 use Rattle.script.specs.declared.reply.LineReply.TheVariants as replies
+use Rattle.batch_cli.specs.declared.ask.Ask.{Ask}
+use Rattle.batch_cli.specs.declared.ask.Ask.TheVariants as asks
 
 -- what the program is answered by a query, of which it asks none
 abbrev pub ProgramAnswer : Type 0
@@ -56,6 +58,12 @@ request_for (RemoveIf handle key value) = on handle (remove_if key value)
 request_for (GetOrElse handle key value) = on handle (get key)
 request_for (Size handle) = on handle size
 request_for (Clear handle) = on handle clear
+request_for (Pairs handle) = view handle
+
+-- the request that something asked of the table is
+abbrev pub asked : Ask → ProgramRequest
+asked (asks.Call call) = request_of call
+asked (asks.View handle) = view handle
 
 -- the reply that shows the outcome of a request
 abbrev pub reply_to : ProgramOutcome → Option LineReply
@@ -65,6 +73,7 @@ reply_to (replied (old (Some value))) = Some (replies.Found value)
 reply_to (replied (done b)) = Some (replies.Truth b)
 reply_to (replied (count number)) = Some (replies.Count number)
 reply_to (replied cleared) = Some replies.Done
+reply_to (viewed pairs) = Some (replies.Pairs pairs)
 reply_to (refused refusal) = Some (replies.Refused refusal)
 reply_to _ = None
 

@@ -1,9 +1,12 @@
 //! The events of statements: what each asks of the table, and how that is answered.
 
-ghost use Rattle.std.specs.Prelude.{◌≡◌, IfOk, Some, false};
+ghost use Rattle.std.specs.Prelude.{◌≡◌, ◌≢◌, IfOk, OnOk, Some, false};
 ghost use Rattle.handles.specs.Views.{lacks_memory, outcome_of, request_of};
-ghost use Rattle.batch_cli.specs.Events.{MayAnswer, MayReply, MayStore, reply_to, request_for};
+ghost use Rattle.handles.specs.Machine.{view};
+ghost use Rattle.batch_cli.specs.Events.{MayAnswer, MayReply, MayStore, asked, reply_to};
 
+use crate::ask::{Ask, ask_of};
+use crate::listing::listing_of;
 use handles::{Call, CallReply, Command, NoQuery, Reply, Table, law_of_answers};
 use keys::ByteText;
 use script::{Key, LineReply, Statement};
@@ -22,18 +25,46 @@ pub fn answer(
 ) -> Result<LineReply, NoMemory>
     ensures { IfOk result (λ reply. MayAnswer table.old statement.now reply table.new) }
 {
-    let call = call_of(alloc, statement)?;
-    let reply = event(alloc, table, call)?;
-    match (statement, reply) {
-        (Statement::GetOrElse { handle, key, value }, LineReply::Absent) => {
-            put_missing(alloc, table, *handle, key, *value)
+    let ask = ask_of(alloc, statement)?;
+    let reply = event(alloc, table, ask)?;
+    match statement {
+        Statement::GetOrElse { handle, key, value } => {
+            or_else(alloc, table, *handle, key, *value, reply)
         }
         _ => Ok(reply),
     }
 }
 
+/// Where a get found nothing, makes the second event of its `getorelse`.
+fn or_else(
+    alloc: Global,
+    table: &mut ProgramTable,
+    handle: u32,
+    key: &Key,
+    value: i64,
+    found: LineReply,
+) -> Result<LineReply, NoMemory>
+    ensures stored { found ≡ LineReply.Absent → IfOk result (λ reply. MayStore table.old handle key.now value reply table.new) }
+    ensures kept { found ≢ LineReply.Absent → IfOk result (λ reply. (reply ≡ found) × (table.new ≡ table.old)) }
+{
+    match found {
+        LineReply::Absent => put_missing(alloc, table, handle, key, value),
+        reply => Ok(reply),
+    }
+}
+
+/// Makes the event, and gives the reply that shows its outcome.
+fn event(alloc: Global, table: &mut ProgramTable, ask: Ask) -> Result<LineReply, NoMemory>
+    ensures { IfOk result (λ reply. MayReply table.old (asked ask) reply table.new) }
+{
+    match ask {
+        Ask::Call(call) => served(alloc, table, call),
+        Ask::View(handle) => listed(alloc, table, handle),
+    }
+}
+
 /// Makes the call, and gives the reply that shows its answer.
-fn event(
+fn served(
     alloc: Global,
     table: &mut ProgramTable,
     call: Call<ByteText, i64>,
@@ -43,6 +74,16 @@ fn event(
     law_of_answers::<ByteText, i64, NoQuery>();
     let answer = table.serve(alloc, call);
     reply_of(&answer)
+}
+
+/// Views the map of the handle, and gives the reply that lists its pairs.
+fn listed(alloc: Global, table: &mut ProgramTable, handle: u32) -> Result<LineReply, NoMemory>
+    ensures { IfOk result (λ reply. MayReply table.old (view handle) reply table.new) }
+{
+    match table.view(handle) {
+        Ok(view) => Ok(LineReply::Pairs(listing_of(alloc, &view)?)),
+        Err(refusal) => refused(refusal),
+    }
 }
 
 /// Maps the key to the value where it has none, and gives the reply that tells the value that it has then.
@@ -56,53 +97,10 @@ fn put_missing(
     ensures { IfOk result (λ reply. MayStore table.old handle key.now value reply table.new) }
 {
     let command = Command::PutIfAbsent(key.text()?, Arc::new(alloc, value)?);
-    match event(alloc, table, Call::On(handle, command))? {
+    match served(alloc, table, Call::On(handle, command))? {
         LineReply::Absent => Ok(LineReply::Found(value)),
         reply => Ok(reply),
     }
-}
-
-/// The call of a statement; of `getorelse`, which may make two, the first.
-fn call_of(alloc: Global, statement: &Statement) -> Result<Call<ByteText, i64>, NoMemory>
-    ensures { IfOk result (λ call. request_of call ≡ request_for statement.now) }
-{
-    let call = match statement {
-        Statement::Open { handle } => Call::Open(*handle),
-        Statement::Snap { handle, target } => Call::Snapshot(*handle, *target),
-        Statement::Drop { handle } => Call::Drop(*handle),
-        Statement::Get { handle, key } => Call::On(*handle, Command::Get(key.text()?)),
-        Statement::Put { handle, key, value } => {
-            let value = Arc::new(alloc, *value)?;
-            Call::On(*handle, Command::Put(key.text()?, value))
-        }
-        Statement::PutIfAbsent { handle, key, value } => {
-            let value = Arc::new(alloc, *value)?;
-            Call::On(*handle, Command::PutIfAbsent(key.text()?, value))
-        }
-        Statement::Replace { handle, key, value } => {
-            let value = Arc::new(alloc, *value)?;
-            Call::On(*handle, Command::Replace(key.text()?, value))
-        }
-        Statement::ReplaceIf {
-            handle,
-            key,
-            old,
-            new,
-        } => {
-            let old = Arc::new(alloc, *old)?;
-            let new = Arc::new(alloc, *new)?;
-            Call::On(*handle, Command::ReplaceIf(key.text()?, old, new))
-        }
-        Statement::Remove { handle, key } => Call::On(*handle, Command::Remove(key.text()?)),
-        Statement::RemoveIf { handle, key, value } => {
-            let value = Arc::new(alloc, *value)?;
-            Call::On(*handle, Command::RemoveIf(key.text()?, value))
-        }
-        Statement::GetOrElse { handle, key, .. } => Call::On(*handle, Command::Get(key.text()?)),
-        Statement::Size { handle } => Call::On(*handle, Command::Size),
-        Statement::Clear { handle } => Call::On(*handle, Command::Clear),
-    };
-    Ok(call)
 }
 
 /// The reply that shows the answer, unless memory was wanting.
@@ -117,7 +115,17 @@ fn reply_of(answer: &Result<CallReply<i64>, Refusal>) -> Result<LineReply, NoMem
         Ok(CallReply::Reply(Reply::Done(done))) => Ok(LineReply::Truth(*done)),
         Ok(CallReply::Reply(Reply::Size(pairs))) => Ok(LineReply::Count(*pairs)),
         Ok(CallReply::Reply(Reply::Cleared)) => Ok(LineReply::Done),
-        Err(Refusal::NoMemory) => Err(NoMemory),
-        Err(refusal) => Ok(LineReply::Refused(*refusal)),
+        Err(refusal) => refused(*refusal),
+    }
+}
+
+/// The reply that tells the refusal, unless memory was wanting.
+fn refused(refusal: Refusal) -> Result<LineReply, NoMemory>
+    ensures shown { IfOk result (λ reply. reply ≡ LineReply.Refused refusal) }
+    ensures memory { OnOk result (refusal ≢ Refusal.NoMemory) }
+{
+    match refusal {
+        Refusal::NoMemory => Err(NoMemory),
+        _ => Ok(LineReply::Refused(refusal)),
     }
 }

@@ -6,9 +6,11 @@
 #![tactic(auto)]
 
 mod arguments;
+mod ask;
 mod events;
 mod input;
 pub mod law;
+mod listing;
 mod run;
 mod status;
 mod words;
@@ -17,7 +19,8 @@ pub use arguments::{ArgFault, Options};
 pub use input::read_script;
 pub use run::{RunFault, run_script};
 pub use script::{
-    CommandLine, Key, LineReply, Reason, Script, ScriptFault, Statement, parse_script,
+    CommandLine, Key, LineReply, Listing, MapKey, Reason, Script, ScriptFault, Statement,
+    parse_script,
 };
 pub use status::execute;
 pub use words::options;

@@ -1,6 +1,6 @@
 //! The run of a script.
 
-ghost use Rattle.std.specs.Prelude.{◌≡◌, IfOk, OnOk, IsErrOf, List, ℕ, string_bytes};
+ghost use Rattle.std.specs.Prelude.{◌≡◌, IfOk, OnOk, IsErrOf, List, ℕ};
 ghost use Rattle.std.specs.Io.KnownBytes.{Appends, Keeps};
 ghost use Rattle.batch_cli.specs.Runs.{IsOutputOf};
 
@@ -42,21 +42,23 @@ pub fn run_script<W: Write>(alloc: Global, script: &Script, writer: &mut W) -> R
     let Ok(replies) = replies_to(alloc, script.lines()) else {
         return Err(RunFault::Memory);
     };
-    match writer.write_all(replies.as_bytes()) {
+    match writer.write_all(replies.as_slice()) {
         Ok(()) => Ok(()),
         Err(_) => Err(RunFault::Write),
     }
 }
 
 /// The replies of the lines, run from no handles.
-fn replies_to(alloc: Global, lines: &[CommandLine]) -> Result<String, NoMemory>
-    ensures { IfOk result (λ replies. IsOutputOf lines.now (string_bytes replies)) }
+fn replies_to(alloc: Global, lines: &[CommandLine]) -> Result<Vec<u8>, NoMemory>
+    ensures { IfOk result (λ replies. IsOutputOf lines.now replies.items) }
 {
     let mut table = Table::new(alloc, LARGEST)?;
-    let mut replies = String::new(alloc);
+    let mut replies = Vec::new(alloc);
     for line in lines {
         let reply = answer(alloc, &mut table, &line.statement)?;
-        push_line(&mut replies, line.number, reply)?;
+        if push_line(&mut replies, line.number, &reply).is_err() {
+            return Err(NoMemory);
+        }
     }
     Ok(replies)
 }

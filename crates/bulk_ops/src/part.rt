@@ -98,6 +98,20 @@ impl<K: PathKey + Drop, V: Drop, I> Part<K, V, I> {
             _ => unreachable!(),
         }
     }
+
+    /// Puts another handle on a pair into the map of a part that made one. After `NoMemory` the part is as before.
+    pub(crate) fn put_shared(
+        &mut self,
+        alloc: Global,
+        key: &Arc<K>,
+        value: &Arc<V>,
+    ) -> Result<(), NoMemory>
+        requires { HasRoom self.old }
+        ensures put { OnOk result (IsPut K.cmp self.old key.now.value value.now.value self.new) }
+        ensures err { OnErr result (self.new ≡ self.old) }
+    {
+        self.put(alloc, Arc::try_clone(key)?, Arc::try_clone(value)?)
+    }
 }
 
 /// A map of a part, with no pairs: it has the largest limit, and no generation's stamp.

@@ -1,5 +1,7 @@
 //! What a small map answers, by hand. Its keys have chosen path words; its values are at the ends of `i64`.
 
+mod memory;
+
 use crate::{
     Answer, Pair, PairFn, Part, Query, Stored, StoredItem, StoredMap, StoredTest, ask, work,
 };
@@ -8,6 +10,7 @@ use hash_path::PathKey;
 use iter::parts_follow_intervals;
 use splitter::{Cut, cut, law_of_cuts, whole};
 use std::alloc::Global;
+use std::process::Abort;
 use std::sync::Arc;
 use std::test::Fail;
 use test_keys::ChosenKey;
@@ -137,6 +140,28 @@ fn joined<K: PathKey + Drop, V: Drop, B: Bulk<K, V>>(
     Ok(Some(bulk.join(alloc, &below, &above)?))
 }
 
+// The number that a query is answered of all three pairs, and of the two pieces of a cut.
+fn assert_counts(rt: &impl Abort, alloc: Global, id: u32, count: u64) -> Result<(), Fail> {
+    let query = Asked::Count(below(id));
+    let (told, made) = ask(alloc, first(alloc, 3)?, &query)?;
+    assert!(rt; matches!(&told, Answer::Count(number) if *number == count));
+    assert!(rt; made.is_none());
+    let part = joined(alloc, first(alloc, 3)?, &query)?;
+    assert!(rt; matches!(&part, Some(Part::Number(number)) if *number == count));
+    Ok(())
+}
+
+// The truth that a query is answered of all three pairs, and of the two pieces of a cut.
+fn assert_is(rt: &impl Abort, alloc: Global, query: &Asked, truth: bool) -> Result<(), Fail>
+    requires { ⟦<Asked as Bulk<ChosenKey, i64>>⟧.ready query.now }
+{
+    let (told, _) = ask(alloc, first(alloc, 3)?, query)?;
+    assert!(rt; matches!(&told, Answer::Truth(found) if *found == truth));
+    let part = joined(alloc, first(alloc, 3)?, query)?;
+    assert!(rt; matches!(&part, Some(Part::Truth(found)) if *found == truth));
+    Ok(())
+}
+
 // Of three pairs, those with keys below a number: how many there are, whether there are some, whether they are all.
 #[test]
 fn numbers_and_truths(rt: HostRuntime) -> Result<(), Fail> {
@@ -148,43 +173,16 @@ fn numbers_and_truths(rt: HostRuntime) -> Result<(), Fail> {
         (4, 3, true, true),
     ];
     for (id, count, exists, for_all) in table {
-        let query = Asked::Count(below(id));
-        let (told, made) = ask(alloc, first(alloc, 3)?, &query)?;
-        assert!(rt;
-            matches!(&told, Answer::Count(number) if *number == count),
-            "count at {id}"
-        );
-        assert!(rt; made.is_none());
-        let part = joined(alloc, first(alloc, 3)?, &query)?;
-        assert!(rt;
-            matches!(&part, Some(Part::Number(number)) if *number == count),
-            "count at {id}"
-        );
-
-        let query = Asked::Exists(below(id));
-        let (told, _) = ask(alloc, first(alloc, 3)?, &query)?;
-        assert!(rt;
-            matches!(&told, Answer::Truth(truth) if *truth == exists),
-            "exists at {id}"
-        );
-        let part = joined(alloc, first(alloc, 3)?, &query)?;
-        assert!(rt;
-            matches!(&part, Some(Part::Truth(truth)) if *truth == exists),
-            "exists at {id}"
-        );
-
-        let query = Asked::ForAll(below(id));
-        let (told, _) = ask(alloc, first(alloc, 3)?, &query)?;
-        assert!(rt;
-            matches!(&told, Answer::Truth(truth) if *truth == for_all),
-            "for_all at {id}"
-        );
-        let part = joined(alloc, first(alloc, 3)?, &query)?;
-        assert!(rt;
-            matches!(&part, Some(Part::Truth(truth)) if *truth == for_all),
-            "for_all at {id}"
-        );
+        assert_counts(&rt, alloc, id, count)?;
+        assert_is(&rt, alloc, &Asked::Exists(below(id)), exists)?;
+        assert_is(&rt, alloc, &Asked::ForAll(below(id)), for_all)?;
     }
+    Ok(())
+}
+
+#[test]
+fn no_pairs_pass_all_and_none(rt: HostRuntime) -> Result<(), Fail> {
+    let alloc = rt.alloc();
     let (told, _) = ask(alloc, first(alloc, 0)?, &Asked::ForAll(below(0)))?;
     assert!(rt; matches!(&told, Answer::Truth(true)));
     let (told, _) = ask(alloc, first(alloc, 0)?, &Asked::Exists(below(4)))?;

@@ -93,18 +93,15 @@ impl<
     ) -> Result<(), NoMemory> {
         match self {
             Query::Count(test) => {
-                let (first, second) = (u64::from(test.at(key, value)), part.number());
-                *part = Part::Number(first + second);
+                *part = Part::Number(u64::from(test.at(key, value)) + part.number());
                 Ok(())
             }
             Query::Exists(test) => {
-                let (first, second) = (test.at(key, value), part.truth());
-                *part = Part::Truth(first || second);
+                *part = Part::Truth(test.at(key, value) | part.truth());
                 Ok(())
             }
             Query::ForAll(test) => {
-                let (first, second) = (test.at(key, value), part.truth());
-                *part = Part::Truth(first && second);
+                *part = Part::Truth(test.at(key, value) & part.truth());
                 Ok(())
             }
             Query::Find(test) => {
@@ -116,8 +113,7 @@ impl<
             Query::Filter(test, _) => {
                 let passes = test.at(key, value);
                 if passes {
-                    let (key, value) = copy_of(key, value)?;
-                    part.put(alloc, key, value)?;
+                    part.put_shared(alloc, key, value)?;
                 }
                 Ok(())
             }

@@ -1,6 +1,7 @@
 pub mod NumberLemmas
 pub mod FieldLemmas
 pub mod LineLemmas
+pub mod ListingLemmas
 pub mod FaultLemmas
 pub mod VerbLemmas
 pub mod WordLemmas

@@ -29,6 +29,7 @@ verbs =
     ∷ record { name = codes "getorelse"; places = handle_place ∷ key_place ∷ value_place ∷ [] }
     ∷ record { name = codes "size"; places = handle_place ∷ [] }
     ∷ record { name = codes "clear"; places = handle_place ∷ [] }
+    ∷ record { name = codes "list"; places = handle_place ∷ [] }
     ∷ []
 
 -- the verb of this name, if there is one

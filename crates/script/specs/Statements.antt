@@ -5,7 +5,7 @@ use Rattle.std.specs.Fmt.{decimal, signed_decimal}
 use Rattle.script.specs.Keys.{IsKey}
 use Rattle.script.specs.Grammar.{Place, handle_place, key_place, value_place}
 use Rattle.script.specs.declared.statement.Statement.{Statement}
-use Rattle.script.specs.declared.statement.Statement.TheVariants.{Open, Snap, Drop, Get, Put, PutIfAbsent, Replace, ReplaceIf, Remove, RemoveIf, GetOrElse, Size, Clear}
+use Rattle.script.specs.declared.statement.Statement.TheVariants.{Open, Snap, Drop, Get, Put, PutIfAbsent, Replace, ReplaceIf, Remove, RemoveIf, GetOrElse, Size, Clear, Pairs}
 use Rattle.script.specs.declared.statement.CommandLine.{CommandLine}
 
 -- what stands behind a verb
@@ -57,6 +57,7 @@ phrase_of (RemoveIf handle key value) = record { name = codes "removeif"; argume
 phrase_of (GetOrElse handle key value) = record { name = codes "getorelse"; arguments = handle_argument handle ∷ key_argument key ∷ value_argument value ∷ [] }
 phrase_of (Size handle) = record { name = codes "size"; arguments = handle_argument handle ∷ [] }
 phrase_of (Clear handle) = record { name = codes "clear"; arguments = handle_argument handle ∷ [] }
+phrase_of (Pairs handle) = record { name = codes "list"; arguments = handle_argument handle ∷ [] }
 
 -- what a statement spells: its verb's name and its arguments, a field each
 abbrev pub words_of : Statement → List (List ℕ)

@@ -12,6 +12,8 @@ mod key;
 pub mod law;
 mod line;
 mod lines;
+mod listing;
+mod map_key;
 mod number;
 mod parse;
 mod reply;
@@ -22,6 +24,8 @@ mod tests;
 
 pub use fault::{Reason, ScriptFault};
 pub use key::Key;
+pub use listing::Listing;
+pub use map_key::MapKey;
 pub use parse::{Script, parse_script};
 pub use reply::{LineReply, push_line};
 pub use statement::{CommandLine, Statement};

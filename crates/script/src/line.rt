@@ -103,6 +103,7 @@ fn statement_of(alloc: Global, verb: &str, fields: Fields<'_>) -> Result<Stateme
         "getorelse" => statement!(alloc, fields, GetOrElse { handle, key, value }),
         "size" => statement!(alloc, fields, Size { handle }),
         "clear" => statement!(alloc, fields, Clear { handle }),
+        "list" => statement!(alloc, fields, Pairs { handle }),
         _ => Err(Stop::Fault(Reason::UnknownVerb)),
     }
 }

@@ -1,13 +1,15 @@
 //! The replies of command lines.
 
-ghost use Rattle.std.specs.Prelude.{◌≡◌, ◌++◌, OnOk, string_bytes};
+ghost use Rattle.std.specs.Prelude.{◌≡◌, ◌++◌, OnOk};
 ghost use Rattle.script.specs.Replies.{line_text, refusal_name, text_of};
 
-use std::alloc::AllocError;
+use crate::listing::Listing;
+use std::io;
+use std::io::Write;
 use versions::Refusal;
 
 /// What a command line is answered.
-#[derive(Clone, Copy, Debug, PartialEq, Eq)]
+#[derive(Debug, Drop)]
 pub enum LineReply {
     /// It was done, and there is nothing to tell.
     Done,
@@ -19,35 +21,42 @@ pub enum LineReply {
     Truth(bool),
     /// How many pairs there are.
     Count(u64),
+    /// All pairs.
+    Pairs(Listing),
     /// It was refused.
     Refused(Refusal),
 }
 
 /// Appends a line with the number and the reply.
-pub fn push_line(out: &mut String, number: u32, reply: LineReply) -> Result<(), AllocError>
-    ensures { OnOk result (string_bytes out.new ≡ string_bytes out.old ++ line_text number reply) }
+///
+/// # Errors
+///
+/// Memory was refused.
+pub fn push_line(out: &mut Vec<u8>, number: u32, reply: &LineReply) -> io::Result<()>
+    ensures { OnOk result (out.new.items ≡ out.old.items ++ line_text number reply.now) }
 {
     write!(out, "{number} ")?;
     push_reply(out, reply)?;
-    out.push('\n')?;
+    out.push(b'\n')?;
     Ok(())
 }
 
 /// Appends the text of the reply.
-pub fn push_reply(out: &mut String, reply: LineReply) -> Result<(), AllocError>
-    ensures { OnOk result (string_bytes out.new ≡ string_bytes out.old ++ text_of reply) }
+pub fn push_reply(out: &mut Vec<u8>, reply: &LineReply) -> io::Result<()>
+    ensures { OnOk result (out.new.items ≡ out.old.items ++ text_of reply.now) }
 {
     match reply {
-        LineReply::Done => out.push_str("ok"),
-        LineReply::Absent => out.push_str("none"),
+        LineReply::Done => write!(out, "ok"),
+        LineReply::Absent => write!(out, "none"),
         LineReply::Found(value) => write!(out, "some {value}"),
-        LineReply::Truth(true) => out.push_str("true"),
-        LineReply::Truth(false) => out.push_str("false"),
+        LineReply::Truth(true) => write!(out, "true"),
+        LineReply::Truth(false) => write!(out, "false"),
         LineReply::Count(number) => write!(out, "count {number}"),
-        LineReply::Refused(refusal) => {
-            out.push_str("refused ")?;
-            out.push_str(name_of(refusal))
+        LineReply::Pairs(pairs) => {
+            write!(out, "pairs")?;
+            pairs.push_to(out)
         }
+        LineReply::Refused(refusal) => write!(out, "refused {}", name_of(*refusal)),
     }
 }
 

@@ -73,6 +73,10 @@ pub enum Statement {
     Clear {
         handle: u32,
     },
+    /// Asks for all pairs, in the order of their keys.
+    Pairs {
+        handle: u32,
+    },
 }
 
 /// A statement, the client that makes it and the number of its line, which counts from 1.

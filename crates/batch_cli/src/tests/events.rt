@@ -1,49 +1,63 @@
 //! How many entries of the journal a statement makes.
 use crate::events::answer;
-use crate::{LineReply, law, parse_script};
+use crate::{law, parse_script};
 use handles::{Limits, Table};
+use script::push_line;
+use std::alloc::Global;
 use std::test::Fail;
-use versions::Refusal;
 
-/// The reply of the last line of the script, and how many entries it made.
-fn last_reply(alloc: std::alloc::Global, script: &[u8]) -> Result<(Option<LineReply>, u32), Fail> {
+/// Whether the last line of the script has this reply, and makes so many entries.
+fn ends_with(
+    rt: &(impl std::process::Abort + AllocGlobal),
+    script: &[u8],
+    reply: &[u8],
+    entries: u32,
+) -> Result<(), Fail> {
+    let alloc = rt.alloc();
     let limits = Limits {
         pairs: 2,
         entries: 20,
     };
     let mut table = Table::new(alloc, limits)?;
-    let mut last = None;
+    let mut last = Vec::new(alloc);
     let mut before = 0;
     for line in parse_script(alloc, script)?.lines() {
         before = table.entries();
-        last = Some(answer(alloc, &mut table, &line.statement)?);
+        last.clear();
+        let reply = answer(alloc, &mut table, &line.statement)?;
+        push_line(&mut last, line.number, &reply)?;
     }
-    Ok((last, table.entries().saturating_sub(before)))
+    assert_eq!(rt; last.as_slice(), reply);
+    assert_eq!(rt; table.entries().saturating_sub(before), entries);
+    Ok(())
 }
 
 #[test]
 fn getorelse_makes_two_entries_only_where_its_get_finds_nothing(
     rt: HostRuntime,
 ) -> Result<(), Fail> {
-    let alloc = rt.alloc();
-    let refused = LineReply::Refused(Refusal::NoHandle);
-    assert_eq!(rt;
-        last_reply(alloc, b"0 getorelse 9 a 1")?,
-        (Some(refused), 1)
-    );
+    ends_with(&rt, b"0 getorelse 9 a 1", b"1 refused NoHandle\n", 1)?;
     let missing = b"0 open 1\n0 getorelse 1 a 1";
-    assert_eq!(rt; last_reply(alloc, missing)?, (Some(LineReply::Found(1)), 2));
+    ends_with(&rt, missing, b"2 some 1\n", 2)?;
     let there = b"0 open 1\n0 put 1 a 5\n0 getorelse 1 a 1";
-    assert_eq!(rt; last_reply(alloc, there)?, (Some(LineReply::Found(5)), 1));
-    Ok(())
+    ends_with(&rt, there, b"3 some 5\n", 1)
 }
 
 #[test]
 fn a_getorelse_that_finds_no_room_is_full(rt: HostRuntime) -> Result<(), Fail> {
     let full = b"0 open 1\n0 put 1 a 5\n0 put 1 b 6\n0 getorelse 1 c 7";
-    let refused = LineReply::Refused(Refusal::Full);
-    assert_eq!(rt; last_reply(rt.alloc(), full)?, (Some(refused), 2));
-    Ok(())
+    ends_with(&rt, full, b"4 refused Full\n", 2)
+}
+
+#[test]
+fn a_list_makes_one_entry(rt: HostRuntime) -> Result<(), Fail> {
+    ends_with(
+        &rt,
+        b"0 open 1\n0 put 1 b 2\n0 put 1 a 1\n0 list 1",
+        b"4 pairs a=1 b=2\n",
+        1,
+    )?;
+    ends_with(&rt, b"0 list 9", b"1 refused NoHandle\n", 1)
 }
 
 #[test]

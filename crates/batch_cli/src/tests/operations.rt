@@ -47,3 +47,14 @@ fn replies_tell_of_the_map_before(rt: HostRuntime) -> Result<(), Fail> {
     let replies = "1 ok\n2 none\n3 some 5\n4 some -6\n5 none\n6 false\n7 false\n8 count 0\n";
     prints(&rt, script, replies)
 }
+
+#[test]
+fn a_listing_has_the_pairs_in_order_of_their_keys(rt: HostRuntime) -> Result<(), Fail> {
+    let script = b"0 open 1\n0 list 1\n0 put 1 b 2\n0 put 1 a 1\n0 list 1\n0 snap 1 2\n\
+        0 put 1 B=9 -3\n0 put 1 ab -9223372036854775808\n0 remove 1 b\n0 list 1\n0 list 2\n0 list 7\n\
+        0 list 1024\n";
+    let replies = "1 ok\n2 pairs\n3 none\n4 none\n5 pairs a=1 b=2\n6 ok\n7 none\n8 none\n\
+        9 some 2\n10 pairs B=9=-3 a=1 ab=-9223372036854775808\n11 pairs a=1 b=2\n\
+        12 refused NoHandle\n13 refused BadNumber\n";
+    prints(&rt, script, replies)
+}

@@ -56,6 +56,8 @@ fn each_verb_has_its_fields(rt: HostRuntime) -> Result<(), Fail> {
     is_refused(&rt, b"0 removeif 1 a", "line 1: missing field")?;
     is_refused(&rt, b"0 getorelse 1 a", "line 1: missing field")?;
     is_refused(&rt, b"0 clear", "line 1: missing field")?;
+    is_refused(&rt, b"0 list", "line 1: missing field")?;
+    is_refused(&rt, b"0 list 1 2", "line 1: extra field")?;
     is_refused(&rt, b"0 Clear 1", "line 1: unknown verb")?;
     is_refused(&rt, b"0 putIfAbsent 1 a 5", "line 1: unknown verb")
 }

@@ -1,0 +1,24 @@
+use Rattle.std.proofs.Common.{◌≡◌, ◌∙◌, rules}
+use Rattle.hash_path.specs.Fnv.{fnv1a}
+use Rattle.keys.specs.Order.{bytes_cmp}
+use Rattle.trie_node.specs.Order.{walked}
+use Rattle.versions.specs.Map.{with_pair}
+use Rattle.batch_cli.proofs.listing.listing_of.Goals as goal
+
+pub loop-key-init : goal.loop-key-init
+loop-key-init c =
+    let walk : c.into_iter-key-iterator.result.rest ≡ walked bytes_cmp fnv1a c.args.view.now = (λ i. (c.into_iter-key-iterator.ensures.into_iter_gives i).rest) ∙ c.in_ok-items.ensures.rest in
+    record {
+      next = tt;
+      finite = tt;
+      listed = rw (c.new-listing.ensures, walk) (c.walk_lists_map.ensures.gathered c.args.view.now c.len.ensures.sorted);
+    }
+
+pub loop-key-preserved : goal.loop-key-preserved
+loop-key-preserved c =
+    let put : c.insert.new.self ≡ with_pair bytes_cmp c.loop-key.listing c.in-Some.key.now.value c.in-Some.value.now.value = search rules in
+    record {
+      next = tt;
+      finite = tt;
+      listed = rw put (rw c.in-Some.ensures.steps at c.loop-key.invariant.listed);
+    }

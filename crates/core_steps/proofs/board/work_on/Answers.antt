@@ -1,0 +1,35 @@
+use Rattle.std.proofs.Common.{◌<◌, length, set, sym, subst}
+use Rattle.core_steps.specs.Desks.{IsJobOn, Works}
+use Rattle.core_steps.specs.Views.{turn_of}
+use Rattle.core_steps.proofs.Takings.{if_ok}
+use Rattle.core_steps.proofs.Workings.{can_work, works_on}
+use Rattle.core_steps.proofs.board.work_on.Goals as goal
+
+pub work_held-requires-clause-map : goal.work_held-requires-clause-map
+work_held-requires-clause-map g c =
+    let R = g.K.Ord.cmp in
+    let path = g.K.PathKey.path_of in
+    let answers = g.B.Bulk.answers c.args.bulk.now in
+    let desks = c.board.inside.desks.items in
+    let m = c.requires.job.0 in
+    let there = subst (λ ds. c.args.worker < length ds) (sym c.board.view_is) c.requires.worker in
+    let job = subst (IsJobOn R path answers m) (sym c.board.view_is) c.requires.job.1 in
+    (m, can_work R path answers m desks c.args.worker c.index_mut.result.now there c.index_mut.ensures.value job)
+
+pub returns-clause-ok : goal.returns-clause-ok
+returns-clause-ok g c =
+    let R = g.K.Ord.cmp in
+    let path = g.K.PathKey.path_of in
+    let answers = g.B.Bulk.answers c.args.bulk.now in
+    let decides = g.B.Bulk.decides c.args.bulk.now in
+    let desks = c.board.inside.desks.items in
+    let desk = c.index_mut.result.now in
+    let there = subst (λ ds. c.args.worker < length ds) (sym c.board.view_is) c.requires.worker in
+    let after = set desks c.args.worker c.work_held.new.desk in
+    if_ok _ _ c.work_held.result
+    (λ progress works m given.
+    let job = subst (IsJobOn R path answers m) (sym c.board.view_is) given in
+    subst (λ ds. Works R path answers m decides ds c.args.worker (turn_of progress) after) c.board.view_is
+    (works_on R path answers m decides desks c.args.worker desk c.work_held.new.desk (turn_of progress) there c.index_mut.ensures.value job
+    (works m (can_work R path answers m desks c.args.worker desk there c.index_mut.ensures.value job))))
+    c.work_held.ensures.ok

@@ -1,0 +1,141 @@
+//! The board of one job: the desks of its workers.
+
+ghost use Rattle.std.specs.Prelude.{All, ◌≡◌, ◌<◌, ◌≤◌, IfOk, OnErr, length, option_map, slice_get, slice_index_or, slice_set};
+ghost use Rattle.core_steps.specs.Boards.{first_board};
+ghost use Rattle.versions.specs.Map.{Map};
+ghost use Rattle.splitter.specs.Cuts.{cut_point};
+ghost use Rattle.core_steps.specs.Desks.{HasPieces, IsJobOn, IsVacant, Leaves, Station, Works, board, splitting_turn, stealing_turn, taking_turn};
+ghost use Rattle.core_steps.specs.Views.{turn_of};
+
+use crate::desk::Desk;
+use crate::progress::Progress;
+use crate::working::work_held;
+use combiner::Bulk;
+use hash_path::PathKey;
+use splitter::{Piece, whole};
+use std::alloc::Global;
+use std::collections::VecDeque;
+use std::marker::Model;
+use trie_node::NoMemory;
+use versions::View;
+
+/// The desks of a job's workers, in order of the workers' numbers.
+#[derive(Drop)]
+pub struct Board<K: PathKey, V, P> {
+    desks: Vec<Desk<K, V, P>>,
+}
+
+impl<K: PathKey, V, P> Model for Board<K, V, P> {
+    ghost use Rattle.std.specs.Prelude.{List};
+    ghost use Rattle.core_steps.specs.Desks.{Station};
+
+    ghost Value = { List (Station K V P) };
+
+    ghost view = { λ b. b.desks.items };
+}
+
+impl<K: PathKey + Drop, V: Drop, P> Board<K, V, P> {
+    /// These pieces wait for worker 0 now. It takes no memory.
+    pub(crate) fn begin(&mut self, queue: VecDeque<Piece<K, V>>)
+        requires { 0 < length self.old }
+        ensures { (d : Station K V P) → self.new ≡ slice_set self.old 0 (record (slice_index_or self.old 0 d) { queue = queue.items }) }
+    {
+        self.desks[0].queue = queue;
+    }
+
+    /// The part of what the worker has worked, if there is such a worker.
+    pub fn part(&self, worker: u32) -> Option<&P>
+        ensures { option_map (λ part. part.now) result ≡ option_map (λ desk. desk.part) (slice_get self.now worker) }
+    {
+        match self.desks.get(worker as usize) {
+            Some(desk) => Some(&desk.part),
+            None => None,
+        }
+    }
+
+    /// A worker that holds no piece takes the newest one of its queue.
+    pub fn take(&mut self, worker: u32) -> Progress
+        requires { worker < length self.old }
+        ensures { Leaves self.old self.new (turn_of result) (taking_turn self.old worker) }
+    {
+        self.desks[worker as usize].take()
+    }
+
+    /// A worker that holds no piece takes the oldest one of another's queue.
+    pub fn steal(&mut self, worker: u32, from: u32) -> Progress
+        requires thief { worker < length self.old }
+        requires owner { from < length self.old }
+        ensures { Leaves self.old self.new (turn_of result) (stealing_turn self.old worker from) }
+    {
+        if !self.desks[worker as usize].is_free() {
+            return Progress::Idle;
+        }
+        match self.desks[from as usize].oldest() {
+            Some(piece) => self.desks[worker as usize].hold(piece),
+            None => Progress::Idle,
+        }
+    }
+
+    /// A worker cuts the piece that it holds, which keeps its lower side; the upper one is the newest of its queue then.
+    /// After `NoMemory` all is as before.
+    pub fn split(&mut self, worker: u32, grain: u64) -> Result<Progress, NoMemory>
+        requires { worker < length self.old }
+        ensures ok { IfOk result (λ progress. (m : Map K V) → All (HasPieces m) self.old → Leaves self.old self.new (turn_of progress) (splitting_turn (λ i. cut_point K.path_of m i grain) self.old worker)) }
+        ensures err { OnErr result (self.new ≡ self.old) }
+    {
+        self.desks[worker as usize].split(grain)
+    }
+}
+
+/// The board of a job that asks a view so many workers: the piece of the whole view waits for worker 0, and each worker
+/// has the part of no pairs.
+pub fn first_board<K: PathKey + Drop, V: Drop, B: Bulk<K, V>>(
+    alloc: Global,
+    bulk: &B,
+    workers: u32,
+    view: View<K, V>,
+) -> Result<Board<K, V, B::Part>, NoMemory>
+    requires { 1 ≤ workers }
+    ensures first { IfOk result (λ desks. board desks ≡ first_board workers) }
+    ensures job { IfOk result (λ desks. IsJobOn K.cmp K.path_of (B.answers bulk.now) view desks) }
+{
+    let mut board = vacant(alloc, bulk, workers)?;
+    let mut queue = VecDeque::with_capacity(alloc, 1)?;
+    view.len();
+    queue.push_back(whole(alloc, view))?;
+    board.begin(queue);
+    Ok(board)
+}
+
+/// A board for whose workers nothing waits yet. Each has the part of no pairs.
+pub(crate) fn vacant<K: PathKey + Drop, V: Drop, B: Bulk<K, V>>(
+    alloc: Global,
+    bulk: &B,
+    workers: u32,
+) -> Result<Board<K, V, B::Part>, NoMemory>
+    ensures count { IfOk result (λ desks. length desks ≡ workers) }
+    ensures vacant { IfOk result (λ desks. All (IsVacant (B.answers bulk.now)) desks) }
+{
+    let mut desks = Vec::with_capacity(alloc, workers as usize)?;
+    'desks: while desks.len() < workers as usize {
+        desks.push(Desk::new(alloc, bulk.unit(alloc)?))?;
+    }
+    Ok(Board { desks })
+}
+
+/// A worker works the piece that it holds: it joins the piece's part to its own, and lets the piece go. After `NoMemory`
+/// all is as before.
+pub fn work_on<K: PathKey + Drop, V: Drop, B: Bulk<K, V>>(
+    alloc: Global,
+    bulk: &B,
+    board: &mut Board<K, V, B::Part>,
+    worker: u32,
+) -> Result<Progress, NoMemory>
+    requires ready { B.ready bulk.now }
+    requires worker { worker < length board.old }
+    requires job { (m : Map K V) × IsJobOn K.cmp K.path_of (B.answers bulk.now) m board.old }
+    ensures ok { IfOk result (λ progress. (m : Map K V) → IsJobOn K.cmp K.path_of (B.answers bulk.now) m board.old → Works K.cmp K.path_of (B.answers bulk.now) m (B.decides bulk.now) board.old worker (turn_of progress) board.new) }
+    ensures err { OnErr result (board.new ≡ board.old) }
+{
+    work_held(alloc, bulk, &mut board.desks[worker as usize])
+}

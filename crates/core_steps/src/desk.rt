@@ -1,0 +1,114 @@
+//! What one worker of a job has before it.
+
+ghost use Rattle.std.specs.Prelude.{◌≡◌, [], IfOk, None, Some, OnErr, is_none};
+ghost use Rattle.core_steps.specs.Boards.{oldest, without_oldest};
+ghost use Rattle.core_steps.specs.Desks.{station_split, station_take};
+ghost use Rattle.core_steps.specs.Views.{turn_of};
+
+use crate::progress::Progress;
+use hash_path::PathKey;
+use iter::Interval;
+use splitter::{Cut, Piece, cut};
+use std::alloc::Global;
+use std::collections::VecDeque;
+use std::marker::Model;
+use trie_node::NoMemory;
+
+/// The pieces that wait for a worker, oldest first; the piece that it holds, if any; the intervals that it has worked,
+/// and the part of their pairs.
+#[derive(Drop)]
+pub(crate) struct Desk<K: PathKey, V, P> {
+    pub(crate) queue: VecDeque<Piece<K, V>>,
+    pub(crate) held: Option<Piece<K, V>>,
+    pub(crate) part: P,
+    pub(crate) worked: Vec<Interval>,
+}
+
+impl<K: PathKey, V, P> Model for Desk<K, V, P> {
+    ghost use Rattle.core_steps.specs.Desks.{Station};
+
+    ghost Value = { Station K V P };
+
+    ghost view = { λ d. record { queue = d.queue.items; held = d.held; part = d.part; worked = d.worked.items } };
+}
+
+impl<K: PathKey + Drop, V: Drop, P> Desk<K, V, P> {
+    /// An empty desk, with the part of no pairs. It makes no request for memory.
+    pub(crate) fn new(alloc: Global, part: P) -> Desk<K, V, P>
+        ensures { result ≡ record { queue = []; held = None; part = part; worked = [] } }
+    {
+        Desk {
+            queue: VecDeque::new(alloc),
+            held: None,
+            part,
+            worked: Vec::new(alloc),
+        }
+    }
+
+    /// Whether the worker holds no piece.
+    pub(crate) fn is_free(&self) -> bool
+        ensures { result ≡ is_none self.now.held }
+    {
+        self.held.is_none()
+    }
+
+    /// A worker that holds no piece gets the newest one of its queue.
+    pub(crate) fn take(&mut self) -> Progress
+        ensures { (turn_of result, self.new) ≡ station_take self.old }
+    {
+        if self.held.is_some() {
+            return Progress::Idle;
+        }
+        match self.queue.pop_back() {
+            Some(piece) => self.hold(piece),
+            None => Progress::Idle,
+        }
+    }
+
+    /// The piece that came first into the queue leaves it, if there is one.
+    pub(crate) fn oldest(&mut self) -> Option<Piece<K, V>>
+        ensures piece { result ≡ oldest self.old.queue }
+        ensures left { self.new ≡ record self.old { queue = without_oldest self.old.queue } }
+    {
+        self.queue.pop_front()
+    }
+
+    /// The worker holds the piece now.
+    pub(crate) fn hold(&mut self, piece: Piece<K, V>) -> Progress
+        ensures told { result ≡ Progress.Took piece.interval.lo piece.interval.hi }
+        ensures held { self.new ≡ record self.old { held = Some piece } }
+    {
+        let progress = Progress::Took(piece.lo(), piece.hi());
+        self.held = Some(piece);
+        progress
+    }
+
+    /// Cuts the held piece at its cut point, where it has one: the upper piece is put last in the queue. The place in
+    /// the queue is made first, and after `NoMemory` all is as before.
+    pub(crate) fn split(&mut self, grain: u64) -> Result<Progress, NoMemory>
+        ensures ok { IfOk result (λ progress. (turn_of progress, self.new) ≡ station_split K.path_of grain self.old) }
+        ensures err { OnErr result (self.new ≡ self.old) }
+    {
+        self.queue.reserve(1)?;
+        let piece = match self.held.take() {
+            Some(piece) => piece,
+            None => return Ok(Progress::Idle),
+        };
+        match cut(piece, grain) {
+            Ok(Cut::Two(lower, upper)) => {
+                let progress = Progress::Cut(lower.lo(), lower.hi(), upper.hi());
+                self.queue.push_back_reserved(upper);
+                self.held = Some(lower);
+                Ok(progress)
+            }
+            Ok(Cut::One(piece)) => {
+                self.held = Some(piece);
+                Ok(Progress::Whole)
+            }
+            Err(piece) => {
+                self.held = Some(piece);
+                Err(NoMemory)
+            }
+        }
+    }
+}

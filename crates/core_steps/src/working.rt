@@ -1,0 +1,46 @@
+//! How a worker works the piece that it holds.
+
+ghost use Rattle.std.specs.Prelude.{◌≡◌, IfOk, OnErr};
+ghost use Rattle.versions.specs.Map.{Map};
+ghost use Rattle.core_steps.specs.Desks.{CanWork, WorksHeld};
+ghost use Rattle.core_steps.specs.Views.{turn_of};
+
+use crate::desk::Desk;
+use crate::progress::Progress;
+use bulk_ops::work;
+use combiner::Bulk;
+use hash_path::PathKey;
+use iter::{Interval, parts_follow_intervals};
+use std::alloc::Global;
+use trie_node::NoMemory;
+
+/// Works the piece that is held, if there is one, joins it to the part and lets it go. After `NoMemory` all is as
+/// before.
+pub(crate) fn work_held<K: PathKey + Drop, V: Drop, B: Bulk<K, V>>(
+    alloc: Global,
+    bulk: &B,
+    desk: &mut Desk<K, V, B::Part>,
+) -> Result<Progress, NoMemory>
+    requires ready { B.ready bulk.now }
+    requires map { (m : Map K V) × CanWork K.cmp K.path_of (B.answers bulk.now) m desk.old }
+    ensures ok { IfOk result (λ progress. (m : Map K V) → CanWork K.cmp K.path_of (B.answers bulk.now) m desk.old → WorksHeld K.cmp K.path_of (B.answers bulk.now) m (B.decides bulk.now) desk.old desk.old.held (turn_of progress) desk.new) }
+    ensures err { OnErr result (desk.new ≡ desk.old) }
+{
+    parts_follow_intervals::<K, V>();
+    let piece = match &desk.held {
+        Some(piece) => piece,
+        None => return Ok(Progress::Idle),
+    };
+    let made = work(alloc, piece, bulk)?;
+    let joined = bulk.join(alloc, &desk.part, &made)?;
+    let interval = Interval {
+        lo: piece.lo(),
+        hi: piece.hi(),
+    };
+    let settled = bulk.settled(&joined);
+    let progress = Progress::Worked(interval.lo, interval.hi, piece.len(), settled);
+    desk.worked.push(interval)?;
+    desk.part = joined;
+    desk.held = None;
+    Ok(progress)
+}

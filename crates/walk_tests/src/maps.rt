@@ -1,0 +1,80 @@
+//! Random maps of few path words, each beside its rows.
+
+use crate::plain::{Row, position_of};
+use std::alloc::Global;
+use std::collections::BTreeMap;
+use std::sync::Arc;
+use std::test::Fail;
+use test_keys::ChosenKey;
+use trie_node::Stamp;
+use versions::Version;
+
+/// A map of the tests.
+pub type Map = Version<ChosenKey, i64>;
+
+/// How many keys a map has at most.
+pub const MOST_KEYS: u32 = 300;
+
+// Words that part at each level, some of them at several.
+const WORDS: [u32; 16] = [
+    0,
+    0xc000_0000,
+    0x4000_0000,
+    0xffff_ffff,
+    0x3fff_ffff,
+    0x3eff_ffff,
+    1,
+    33,
+    0x0010_0001,
+    0x0110_0001,
+    0x0000_8001,
+    0x0000_8002,
+    0x0000_0400,
+    0xe40c_292c,
+    0xe70c_2de5,
+    0xe60c_2c52,
+];
+
+/// A linear congruential generator.
+#[derive(Drop)]
+pub struct Random(pub u64);
+
+impl Random {
+    /// A number below a bound.
+    pub fn next(&mut self, below: u32) -> u32 {
+        let state = self
+            .0
+            .wrapping_mul(6_364_136_223_846_793_005)
+            .wrapping_add(1_442_695_040_888_963_407);
+        self.0 = state;
+        ((state >> 33) as u32).checked_rem(below).unwrap_or(0)
+    }
+}
+
+/// A map of up to `MOST_KEYS` keys, and its rows in the order of a walk.
+pub fn random_map(alloc: Global, random: &mut Random) -> Result<(Map, Vec<Row>), Fail> {
+    let mut map = Version::empty(alloc, u64::from(MOST_KEYS), Stamp(1))?;
+    let mut sorted = BTreeMap::new(alloc);
+    let words = random.next(16).saturating_add(1);
+    for value in 0..i64::from(random.next(MOST_KEYS + 1)) {
+        let path = WORDS[random.next(words) as usize % 16];
+        let id = random.next(MOST_KEYS);
+        let key = Arc::new(alloc, ChosenKey { path, id })?;
+        map.put(alloc, key, Arc::new(alloc, value)?)?;
+        sorted.insert((position_of(path), id), value)?;
+    }
+    Ok((map, rows_of(alloc, &sorted)?))
+}
+
+// The rows of a map from positions and numbers of keys.
+fn rows_of(alloc: Global, sorted: &BTreeMap<(u64, u32), i64>) -> Result<Vec<Row>, Fail> {
+    let mut rows = Vec::new(alloc);
+    for (at, value) in sorted.iter() {
+        rows.push(Row {
+            position: at.0,
+            id: at.1,
+            value: *value,
+        })?;
+    }
+    Ok(rows)
+}

@@ -1,0 +1,89 @@
+//! A map as a plain list of rows in the order of a walk, and where such a list is cut.
+
+use std::alloc::{AllocError, Global};
+
+/// A pair by the position of its key, the key's number and its value.
+#[derive(Clone, Copy, Debug, PartialEq, Eq)]
+pub struct Row {
+    pub position: u64,
+    pub id: u32,
+    pub value: i64,
+}
+
+/// How many positions share their digits up to each level, from the first level down.
+const WIDTHS: [u64; 7] = [1 << 27, 1 << 22, 1 << 17, 1 << 12, 1 << 7, 1 << 2, 1];
+
+/// The position of a path word: its digits of five bits, the lowest first, and its last two bits.
+pub fn position_of(word: u32) -> u64 {
+    let mut rest = word;
+    let mut position = 0u64;
+    for _ in 0..6 {
+        position = position.wrapping_mul(32).wrapping_add(u64::from(rest % 32));
+        rest /= 32;
+    }
+    position.wrapping_mul(4).wrapping_add(u64::from(rest))
+}
+
+/// The rows from one position on and below another.
+pub fn rows_between(alloc: Global, rows: &[Row], lo: u64, hi: u64) -> Result<Vec<Row>, AllocError> {
+    let mut between = Vec::new(alloc);
+    for row in rows {
+        if lo <= row.position && row.position < hi {
+            between.push(*row)?;
+        }
+    }
+    Ok(between)
+}
+
+/// Where rows are cut: nowhere if they are no more than `grain` or share one position; else at the middle one of the
+/// first digits that differ, after the digits that all share and with zeros behind.
+pub fn cut_point(alloc: Global, rows: &[Row], grain: u64) -> Result<Option<u64>, AllocError> {
+    if rows.len() as u64 <= grain {
+        return Ok(None);
+    }
+    for width in WIDTHS {
+        let starts = starts_of(alloc, rows, width)?;
+        if starts.len() > 1 {
+            return Ok(starts.as_slice().get(starts.len() / 2).copied());
+        }
+    }
+    Ok(None)
+}
+
+/// The multiples of a width that have rows before the next multiple, each once, in rising order.
+fn starts_of(alloc: Global, rows: &[Row], width: u64) -> Result<Vec<u64>, AllocError> {
+    let mut starts = Vec::new(alloc);
+    let mut last = None;
+    for row in rows {
+        let behind = row.position.checked_rem(width).unwrap_or(0);
+        let start = row.position.saturating_sub(behind);
+        if last != Some(start) {
+            starts.push(start)?;
+            last = Some(start);
+        }
+    }
+    Ok(starts)
+}
+
+/// How many nodes a walk looks into between two neighbouring positions that have rows, from the one `before` on to that
+/// of the pairs `here`: those below the digits that both share, down to where no neighbour shares the digits.
+pub fn nodes_between(before: Option<u64>, here: u64, after: Option<u64>) -> u64 {
+    let above = shared_digits(before, here);
+    let deepest = above.max(shared_digits(after, here));
+    deepest.saturating_sub(above).saturating_add(1)
+}
+
+/// How many digits a position shares with another, from the first on; none where there is no other.
+fn shared_digits(other: Option<u64>, position: u64) -> u64 {
+    let Some(other) = other else {
+        return 0;
+    };
+    let mut shared = 0u64;
+    for width in WIDTHS {
+        if other.checked_div(width) != position.checked_div(width) {
+            return shared;
+        }
+        shared = shared.saturating_add(1);
+    }
+    shared
+}

@@ -1,0 +1,40 @@
+//! Walks and pieces beside plain lists.
+
+mod cuts;
+mod memory;
+mod walks;
+
+use crate::plain::{Row, position_of};
+use iter::Pairs;
+use std::process::Abort;
+use std::sync::Arc;
+use test_keys::ChosenKey;
+
+// A walk of the tests.
+type Walk<'a> = Pairs<'a, ChosenKey, i64>;
+
+// How many random maps each test takes.
+const MAPS: u32 = 1_000;
+
+// A pair of a walk as a row.
+fn row_of(pair: Option<(&Arc<ChosenKey>, &Arc<i64>)>) -> Option<Row> {
+    let (key, value) = pair?;
+    Some(Row {
+        position: position_of(key.path),
+        id: key.id,
+        value: **value,
+    })
+}
+
+// The walk gives these rows and no more, and tells at each how many are left.
+fn assert_gives(rt: &impl Abort, walk: &mut Walk<'_>, rows: &[Row]) {
+    let mut left = rows.len();
+    for row in rows {
+        assert_eq!(rt; walk.left(), left as u64);
+        assert_eq!(rt; walk.len(), left);
+        assert_eq!(rt; row_of(walk.next()), Some(*row));
+        left = left.saturating_sub(1);
+    }
+    assert_eq!(rt; (walk.left(), walk.len()), (0, 0));
+    assert_eq!(rt; row_of(walk.next()), None);
+}
