@@ -39,8 +39,7 @@ module _ {K V Q : Type 0} (target : Q → Option ℕ) (pairs most : ℕ) where
       let less = elim (value_at nat_cmp jobs.jobs j) as (λ o. value_at nat_cmp jobs.jobs j ≡ o → is_some o ≡ true → length (without nat_cmp jobs.jobs j) + 1 ≤ length jobs.jobs) [
         | Some job ↦ λ e is. fewer jobs.jobs j job e
         | None ↦ λ e is. absurd (cc)
-      ] refl there in
-      (
+      ] refl there in (
         omega (arith, less, ap length closed, whole.0, more),
         limit ∙ whole.1,
         omega (arith, issued, whole.2, more),
@@ -56,8 +55,7 @@ module _ {K V Q : Type 0} (target : Q → Option ℕ) (pairs most : ℕ) where
       → OnOk result (left.next ≡ jobs.next + 1) → IfErr result (λ e. e ≡ NoMemory) → OnErr result (left ≡ jobs)
       → after ≡ (if is_counted result then n + 1 else n) → Whole places left after
   whole_opened places jobs left q n after (Ok shown) whole room place fits opened next memory kept count =
-      let job : Job K V Q = record { query = q; frozen = shown.1 } in
-      (
+      let job : Job K V Q = record { query = q; frozen = shown.1 } in (
         omega (arith, length-put jobs.jobs jobs.next job, ap length opened, room, count),
         whole.1,
         omega (arith, whole.2, count),

@@ -175,11 +175,7 @@ impl<K: PathKey + Drop, V: Eq + Drop, Q: Asks<K, V> + Drop> Table<K, V, Q> {
     /// request for memory.
     ///
     /// It is refused as `JournalFull`, `BadNumber`, `NoHandle`, `Taken`, `TooManyJobs` or `NoMemory`.
-    pub fn freeze(
-        &mut self,
-        handle: u32,
-        query: Arc<Q>,
-    ) -> Result<(u64, View<K, V>), Refusal>
+    pub fn freeze(&mut self, handle: u32, query: Arc<Q>) -> Result<(u64, View<K, V>), Refusal>
         ensures step { IsStep (machine K.cmp V.eq Q.target_of Q.answered) self.old (freeze handle query.value) frozen_outcome result self.new }
         ensures due { IsDue (machine K.cmp V.eq Q.target_of Q.answered) self.old (freeze handle query.value) result }
     {

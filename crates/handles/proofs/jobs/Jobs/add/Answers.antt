@@ -9,8 +9,7 @@ use Rattle.handles.proofs.jobs.Jobs.add.Goals as goal
 
 pub invariant_of-self : goal.invariant_of-self
 invariant_of-self g c =
-    let o : OpenJob g.row.K.Denot g.row.V.Denot g.row.Q.Denot = record { number = c.self.inside.next; query = c.args.query; view = c.args.view } in
-    (
+    let o : OpenJob g.row.K.Denot g.row.V.Denot g.row.Q.Denot = record { number = c.self.inside.next; query = c.args.query; view = c.args.view } in (
       subst (AllBelow (c.self.inside.next + 1)) (sym c.push_reserved.ensures.items) (below_push c.self.inside.next o c.self.inside.open.items refl c.self.invariant.0),
       omega (arith, simp length-map at (ap (λ (o : Opened g.row.K.Denot g.row.V.Denot g.row.Q.Denot). length o.jobs) c.self.view_is), c.push_reserved.ensures.len),
       omega (arith, c.push_reserved.ensures.capacity),

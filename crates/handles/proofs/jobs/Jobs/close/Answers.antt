@@ -8,8 +8,7 @@ use Rattle.handles.proofs.jobs.Jobs.close.Goals as goal
 
 pub invariant_of-self : goal.invariant_of-self
 invariant_of-self g c =
-    let kept : c.retain.new.self.items ≡ filter (other_job c.args.number) c.self.inside.open.items = filter_same _ _ _ (λ x b f' k. search rules) _ _ c.retain.ensures.filtered in
-    (
+    let kept : c.retain.new.self.items ≡ filter (other_job c.args.number) c.self.inside.open.items = filter_same _ _ _ (λ x b f' k. search rules) _ _ c.retain.ensures.filtered in (
       subst (AllBelow c.self.inside.next) (sym kept) (below_kept c.self.inside.next (other_job c.args.number) c.self.inside.open.items c.self.invariant.0),
       omega (arith, c.retain.ensures.bound),
       omega (arith, c.retain.ensures.capacity),
