@@ -3,7 +3,10 @@ use Rattle.std.specs.Prelude.{◌≡◌, ℕ, ℤ, List, [], ◌∷◌, Option, 
 use Rattle.std.specs.Ordering.{int_eq}
 use Rattle.versions.specs.Commands.{get, put, put_if_absent, replace, replace_if, remove, remove_if, size, clear, old, done, count, cleared}
 use Rattle.handles.specs.Machine.{Kind, State, Request, open_handle, snapshot, drop_handle, on, view, Outcome, made, replied, viewed, refused, Step, Run}
+use Rattle.handles.specs.NoQueries.{no_answer, no_target}
 use Rattle.handles.specs.Views.{machine, request_of}
+use Rattle.handles.specs.declared.no_query.NoQuery.{NoQuery}
+use Rattle.bulk_ops.specs.Answers as plain
 use Rattle.keys.specs.Order.{bytes_cmp}
 use Rattle.script.specs.declared.statement.Statement.{Statement}
 use Rattle.script.specs.declared.statement.Statement.TheVariants.{Open, Snap, Drop, Get, Put, PutIfAbsent, Replace, ReplaceIf, Remove, RemoveIf, GetOrElse, Size, Clear, Pairs}
@@ -12,21 +15,29 @@ use Rattle.script.specs.declared.reply.LineReply.TheVariants as replies
 use Rattle.batch_cli.specs.declared.ask.Ask.{Ask}
 use Rattle.batch_cli.specs.declared.ask.Ask.TheVariants as asks
 
--- the machine of the program: its keys are in the order of their bytes, and its values are numbers
-abbrev pub program : Kind (List ℕ) ℤ (Unit {0}) (Unit {0}) (Unit {0})
-program = machine bytes_cmp int_eq
+-- what the program is answered by a query, of which it asks none
+abbrev pub ProgramAnswer : Type 0
+ProgramAnswer = plain.Answer (List ℕ) ℤ (Unit {0})
+
+-- what it is told of that
+abbrev pub ProgramTold : Type 0
+ProgramTold = plain.Told (List ℕ) ℤ (Unit {0})
+
+-- the machine of the program: its keys are in the order of their bytes, its values are numbers, and it is asked no query
+abbrev pub program : Kind (List ℕ) ℤ NoQuery ProgramAnswer ProgramTold
+program = machine bytes_cmp int_eq no_target no_answer
 
 -- a state of that machine
 abbrev pub ProgramState : Type 0
-ProgramState = State (List ℕ) ℤ (Unit {0})
+ProgramState = State (List ℕ) ℤ NoQuery
 
 -- what that machine is asked
 abbrev pub ProgramRequest : Type 0
-ProgramRequest = Request (List ℕ) ℤ (Unit {0})
+ProgramRequest = Request (List ℕ) ℤ NoQuery
 
 -- what it is answered
 abbrev pub ProgramOutcome : Type 0
-ProgramOutcome = Outcome (List ℕ) ℤ (Unit {0})
+ProgramOutcome = Outcome (List ℕ) ℤ ProgramTold
 
 -- a request, and what it was answered
 abbrev pub Event : Type 0

@@ -7,7 +7,7 @@ ghost use Rattle.batch_cli.specs.Events.{MayAnswer, MayReply, MayStore, asked, r
 
 use crate::ask::{Ask, ask_of};
 use crate::listing::listing_of;
-use handles::{Call, CallReply, Command, Reply, Table, law_of_answers};
+use handles::{Call, CallReply, Command, NoQuery, Reply, Table, law_of_answers};
 use keys::ByteText;
 use script::{Key, LineReply, Statement};
 use std::alloc::Global;
@@ -71,7 +71,7 @@ fn served(
 ) -> Result<LineReply, NoMemory>
     ensures { IfOk result (λ reply. MayReply table.old (request_of call) reply table.new) }
 {
-    law_of_answers::<ByteText, i64>();
+    law_of_answers::<ByteText, i64, NoQuery>();
     let answer = table.serve(alloc, call);
     reply_of(&answer)
 }

@@ -1,9 +1,10 @@
 -- What every step of a machine keeps.
-use Rattle.std.specs.Prelude.{◌≡◌, ◌≢◌, ℕ, false, Result}
+use Rattle.std.specs.Prelude.{◌≡◌, ◌≢◌, ℕ, false, Option, Some, None, Result}
 use Rattle.versions.specs.Commands.{Command}
+use Rattle.versions.specs.Map.{Map}
 use Rattle.versions.specs.declared.refusal.Refusal.{Refusal}
 use Rattle.handles.specs.declared.call_reply.CallReply.{CallReply}
-use Rattle.handles.specs.Machine.{Kind, State, Request, on, Outcome, refused, Step, map_at}
+use Rattle.handles.specs.Machine.{Kind, State, Request, on, freeze, Outcome, refused, frozen, Step, map_at, job_at, job_of, is_freeze}
 use Rattle.handles.specs.Views.{IsStep, call_outcome, lacks_memory, outcome_of}
 
 module _ {K V Q A B : Type 0} (kind : Kind K V Q A B) where
@@ -24,3 +25,15 @@ module _ {K V Q A B : Type 0} (kind : Kind K V Q A B) where
   AnswersAreSteps =
       (s t : State K V Q) (r : Request K V Q) (answer : Result (CallReply V) Refusal)
       → lacks_memory answer ≡ false → IsStep kind s r call_outcome answer t → Step kind s r (outcome_of answer) t
+
+  -- the job that a freeze opens is open afterwards, with its query and the map that it showed
+  abbrev pub FreezesOpenJobs : Type 0
+  FreezesOpenJobs =
+      (s t : State K V Q) (h : ℕ) (q : Q) (j : ℕ) (m : Map K V)
+      → Step kind s (freeze h q) (frozen j m) t → job_at t j ≡ Some (record { query = q; frozen = m })
+
+  -- a request that neither opens nor closes a job leaves all jobs
+  abbrev pub OthersKeepJobs : Type 0
+  OthersKeepJobs =
+      (s t : State K V Q) (r : Request K V Q) (o : Outcome K V B)
+      → is_freeze r ≡ false → job_of r ≡ None → Step kind s r o t → t.jobs ≡ s.jobs

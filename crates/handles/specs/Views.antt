@@ -1,11 +1,14 @@
 -- How the table's calls and their answers appear to the machine.
-use Rattle.std.specs.Prelude.{◌≡◌, ℕ, Bool, List, [], Option, None, option_map, Result, Ok, Err, map, true, false}
+use Rattle.std.specs.Prelude.{◌≡◌, ℕ, Bool, List, Option, None, option_map, Result, Ok, Err, map, true, false}
 use Rattle.std.specs.Arc.{arc_value}
 use Rattle.std.specs.declared.cmp.Ordering.{Ordering}
 use Rattle.versions.specs.Map.{Map}
 use Rattle.versions.specs.Commands as commands
 use Rattle.versions.specs.declared.refusal.Refusal.{Refusal}
 use Rattle.versions.specs.declared.refusal.Refusal.TheVariants.{NoMemory}
+use Rattle.bulk_ops.specs.Answers as plain
+use Rattle.bulk_ops.specs.Told.{told_of}
+use Rattle.bulk_ops.specs.declared.asks.Answer.{Answer}
 use Rattle.handles.specs.declared.command.Command.{Command}
 use Rattle.handles.specs.declared.command.Command.TheVariants.{Get, Put, PutIfAbsent, Replace, ReplaceIf, Remove, RemoveIf, Size, Clear}
 use Rattle.handles.specs.declared.reply.Reply.{Reply}
@@ -16,7 +19,7 @@ use Rattle.handles.specs.declared.demand.Demand.{Demand}
 use Rattle.handles.specs.declared.demand.Demand.TheVariants as demands
 use Rattle.handles.specs.declared.call_reply.CallReply.{CallReply}
 use Rattle.handles.specs.declared.call_reply.CallReply.TheVariants as call_replies
-use Rattle.handles.specs.Machine.{Kind, State, Request, open_handle, snapshot, drop_handle, on, view, takes_no_memory, Outcome, Step, made, replied, viewed, refused, refusal, is_entry}
+use Rattle.handles.specs.Machine.{Kind, State, Request, open_handle, snapshot, drop_handle, on, view, freeze, finish, abandon, takes_no_memory, Outcome, Step, made, replied, viewed, frozen, finished, refused, refusal, is_entry}
 
 -- a command, wherever its key and values lie
 abbrev pub command_of : {K V : Type 0} → Command K V → commands.Command K V
@@ -37,29 +40,9 @@ reply_of (replies.Done b) = commands.done b
 reply_of (replies.Size n) = commands.count n
 reply_of replies.Cleared = commands.cleared
 
--- no query reserves a number
-abbrev pub no_target : Unit {0} → Option ℕ
-no_target q = None
-
--- no query has an answer
-abbrev pub no_answer : {K V : Type 0} → Unit {0} → Map K V → Unit {0} → Type 0
-no_answer q m a = ⊥
-
--- no answer makes a map
-abbrev pub no_map : {K V : Type 0} → Unit {0} → Map K V
-no_map a = []
-
--- what is told of an answer is the answer
-abbrev pub told_itself : Unit {0} → Unit {0}
-told_itself a = a
-
--- a machine that knows no query yet
-abbrev pub without_queries : {K V : Type 0} → (K → K → Ordering) → (V → V → Bool) → Kind K V (Unit {0}) (Unit {0}) (Unit {0})
-without_queries R E = record { order = R; equal = E; target = no_target; answers = no_answer; map_of = no_map; told = told_itself }
-
--- the machine of a table
-abbrev pub machine : {K V : Type 0} → (K → K → Ordering) → (V → V → Bool) → Kind K V (Unit {0}) (Unit {0}) (Unit {0})
-machine R E = without_queries R E
+-- the machine of a table, whose queries reserve these targets and have these answers
+abbrev pub machine : {K V Q I : Type 0} → (K → K → Ordering) → (V → V → Bool) → (Q → Option ℕ) → (Q → Map K V → plain.Answer K V I → Type 0) → Kind K V Q (plain.Answer K V I) (plain.Told K V I)
+machine R E target answers = record { order = R; equal = E; target = target; answers = answers; map_of = plain.map_of; told = plain.told }
 
 -- the outcome of a call that opened or closed a handle
 abbrev pub unit_outcome : {K V B : Type 0} → Unit {0} → Outcome K V B
@@ -73,6 +56,14 @@ reply_outcome y = replied (reply_of y)
 abbrev pub view_outcome : {K V B : Type 0} → Map K V → Outcome K V B
 view_outcome m = viewed m
 
+-- the outcome of a call that opened a job of this number on this map
+abbrev pub frozen_outcome : {K V B : Type 0} → ℕ × Map K V → Outcome K V B
+frozen_outcome shown = frozen shown.0 shown.1
+
+-- the outcome of a call that closed a job with this answer
+abbrev pub finished_outcome : {K V I : Type 0} → Answer K V I → Outcome K V (plain.Told K V I)
+finished_outcome answer = finished (told_of answer)
+
 -- the request that a call is
 abbrev pub request_of : {K V Q : Type 0} → Call K V → Request K V Q
 request_of (Open h) = open_handle h
@@ -81,12 +72,15 @@ request_of (Drop h) = drop_handle h
 request_of (On h c) = on h (command_of c)
 
 -- the request whose refusal is asked for
-abbrev pub demanded : {K V Q : Type 0} → Demand K V → Request K V Q
+abbrev pub demanded : {K V Q : Type 0} → Demand K V Q → Request K V Q
 demanded (demands.Open h) = open_handle h
 demanded (demands.Snapshot h to) = snapshot h to
 demanded (demands.Drop h) = drop_handle h
 demanded (demands.On h c) = on h (command_of c.now)
 demanded (demands.View h) = view h
+demanded (demands.Freeze h q) = freeze h q.now
+demanded (demands.Finish j) = finish j
+demanded (demands.Abandon j) = abandon j
 
 -- the outcome of a call that was answered so
 abbrev pub call_outcome : {K V B : Type 0} → CallReply V → Outcome K V B

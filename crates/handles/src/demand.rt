@@ -1,14 +1,15 @@
 //! What calls ask of a table, as far as they may be refused for it.
 ghost use Rattle.std.specs.Prelude.{◌≡◌};
-ghost use Rattle.handles.specs.Machine.{source, wanted};
+ghost use Rattle.handles.specs.Machine.{is_freeze, job_of, needs_room, source, wanted};
 ghost use Rattle.handles.specs.Views.{demanded, machine};
 
 use crate::command::Command;
+use bulk_ops::Asks;
 use hash_path::PathKey;
 
-/// What a call asks of the handles, with its command lent.
+/// What a call asks of the handles and jobs, with its command or query lent.
 #[derive(Drop)]
-pub enum Demand<'c, K, V> {
+pub enum Demand<'c, K, V, Q> {
     /// That the handle is opened.
     Open(u32),
     /// That the second handle is opened with the pairs of the first.
@@ -19,29 +20,62 @@ pub enum Demand<'c, K, V> {
     On(u32, &'c Command<K, V>),
     /// That the handle's map is shown.
     View(u32),
+    /// That a job with the query is opened on the handle's map.
+    Freeze(u32, &'c Q),
+    /// That the job is closed by an answer.
+    Finish(u64),
+    /// That the job is closed without an answer.
+    Abandon(u64),
 }
 
-impl<K: PathKey, V: Eq> Demand<'_, K, V> {
-    /// The handle that is read, written, dropped or snapshotted.
+impl<K: PathKey, V: Eq, Q: Asks<K, V>> Demand<'_, K, V, Q> {
+    /// The handle that is read, written, dropped, frozen or snapshotted.
     pub fn source(&self) -> Option<u32>
-        ensures { result ≡ source {Q = Unit {0}} (demanded self.now) }
+        ensures { result ≡ source (demanded self.now) }
     {
         match self {
-            Demand::Open(_) => None,
             Demand::Snapshot(handle, _)
             | Demand::Drop(handle)
             | Demand::On(handle, _)
-            | Demand::View(handle) => Some(*handle),
+            | Demand::View(handle)
+            | Demand::Freeze(handle, _) => Some(*handle),
+            Demand::Open(_) | Demand::Finish(_) | Demand::Abandon(_) => None,
         }
     }
 
-    /// The number that would be opened.
+    /// The number that would be opened or reserved.
     pub fn wanted(&self) -> Option<u32>
-        ensures { result ≡ wanted (machine K.cmp V.eq) (demanded self.now) }
+        ensures { result ≡ wanted (machine K.cmp V.eq Q.target_of Q.answered) (demanded self.now) }
     {
         match self {
             Demand::Open(to) | Demand::Snapshot(_, to) => Some(*to),
+            Demand::Freeze(_, query) => query.target(),
             Demand::Drop(_) | Demand::On(_, _) | Demand::View(_) => None,
+            Demand::Finish(_) | Demand::Abandon(_) => None,
         }
+    }
+
+    /// The job that is closed.
+    pub fn job(&self) -> Option<u64>
+        ensures { result ≡ job_of (demanded self.now) }
+    {
+        match self {
+            Demand::Finish(job) | Demand::Abandon(job) => Some(*job),
+            _ => None,
+        }
+    }
+
+    /// Whether it needs room in the journal.
+    pub fn needs_room(&self) -> bool
+        ensures { result ≡ needs_room (demanded self.now) }
+    {
+        !matches!(self, Demand::Finish(_) | Demand::Abandon(_))
+    }
+
+    /// Whether it opens a job.
+    pub fn is_freeze(&self) -> bool
+        ensures { result ≡ is_freeze (demanded self.now) }
+    {
+        matches!(self, Demand::Freeze(_, _))
     }
 }

@@ -1,15 +1,18 @@
 //! A table of maps under handle numbers, each call of which is one step of a machine.
 //!
-//! The machine keeps one plain finite map for each handle that is live, and counts the entries of a journal. Its
-//! states, steps and runs are definitions in `specs/Machine.antt`; the contract of each call of a `Table` is a step.
+//! The machine keeps one plain finite map for each handle that is live, the query and the frozen map of each open job,
+//! and counts the entries of a journal. Its states, steps and runs are definitions in `specs/Machine.antt`; the contract
+//! of each call of a `Table` is a step.
 #![tactic(auto)]
 
 mod call;
 mod call_reply;
 mod command;
 mod demand;
+mod jobs;
 mod laws;
 mod limits;
+mod no_query;
 mod places;
 mod reply;
 mod table;
@@ -19,7 +22,10 @@ mod tests;
 pub use call::Call;
 pub use call_reply::CallReply;
 pub use command::Command;
-pub use laws::{law_of_answers, law_of_other_handles, law_of_refusals};
+pub use laws::{
+    law_of_answers, law_of_freezes, law_of_open_jobs, law_of_other_handles, law_of_refusals,
+};
 pub use limits::{Limits, MOST_ENTRIES};
+pub use no_query::NoQuery;
 pub use reply::Reply;
 pub use table::Table;

@@ -2,6 +2,7 @@
 ghost use Rattle.std.specs.Prelude.{◌≡◌, ◌<◌, ◌≤◌, ◌+◌, ◌^◌, length, [], IfErr, IfOk, IfSome, IsSome, OnErr, OnOk, false, true, option_map, unwrap_or};
 ghost use Rattle.std.specs.Ordering.{nat_cmp};
 ghost use Rattle.handles.specs.Handles.{IsKept, live_from, maps_in};
+ghost use Rattle.handles.specs.Jobs.{FitsIn, IsLoose, IsPlace, live_with_made};
 ghost use Rattle.handles.specs.Views.{command_of, lacks_memory, reply_of};
 ghost use Rattle.versions.specs.Commands.{after, is_full, needs_no_memory, reply};
 ghost use Rattle.versions.specs.Map.{value_at, with_pair, without};
@@ -139,14 +140,36 @@ impl<K: PathKey + Drop, V: Eq + Drop> Places<K, V> {
         Ok(())
     }
 
+    /// Opens the target, if there is one, with the map that was made for it: it gets the limit of all the versions, and
+    /// a stamp that was not issued. It takes no memory and copies no node.
+    pub fn settle(&mut self, target: Option<u32>, made: Option<Version<K, V>>)
+        requires place { IsPlace target }
+        requires loose { IsLoose made }
+        requires fits { FitsIn self.old.limit made }
+        requires room { self.old.issued < 2 ^ 63 }
+        ensures live { self.new.live ≡ live_with_made self.old.live target made }
+        ensures limit { self.new.limit ≡ self.old.limit }
+        ensures issued { self.new.issued ≤ self.old.issued + 1 }
+    {
+        if let (Some(to), Some(mut map)) = (target, made) {
+            map.relimit(self.limit);
+            map.restamp(&mut self.source);
+            self.versions[to as usize] = Some(map);
+        }
+    }
+
     /// The map of the handle as it stands now. It makes no request for memory.
     pub fn view(&self, handle: u32) -> Result<View<K, V>, Refusal>
         requires { IsSome (value_at nat_cmp self.now.live handle) }
         ensures map { IfOk result (λ v. v ≡ unwrap_or (value_at nat_cmp self.now.live handle) []) }
+        ensures fits { IfOk result (λ v. length v ≤ self.now.limit) }
         ensures memory { IfErr result (λ e. e ≡ Refusal.NoMemory) }
     {
         match self.version(handle) {
-            Some(version) => Ok(version.view()?),
+            Some(version) => {
+                prove!(version.len() <= version.limit());
+                Ok(version.view()?)
+            }
             None => unreachable!(),
         }
     }

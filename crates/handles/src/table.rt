@@ -1,50 +1,64 @@
 //! The table of handles.
-ghost use Rattle.std.specs.Prelude.{◌≡◌, ◌+◌, ◌<◌, ◌≤◌, ◌*◌, ◌^◌, IfOk, OnErr, if◌then◌else◌, false, true};
+ghost use Rattle.std.specs.Prelude.{◌≡◌, ◌+◌, ◌<◌, ◌≤◌, ◌*◌, ◌^◌, IfOk, OnErr, Some, if◌then◌else◌, false, true};
 ghost use Rattle.handles.specs.Handles.{IsKept, live_from, maps_in};
-ghost use Rattle.handles.specs.Machine.{IsRunOfSome, Run, drop_handle, is_entry, nothing, on, open_handle, snapshot, view};
-ghost use Rattle.handles.specs.Views.{AnswersWithoutMemory, IsDue, IsStep, call_outcome, command_of, is_counted, lacks_memory, machine, outcomes_of, reply_outcome, request_of, requests_of, unit_outcome, view_outcome};
+ghost use Rattle.handles.specs.Machine.{IsRunOfSome, Job, Run, abandon, drop_handle, finish, freeze, is_entry, job_at, nothing, on, open_handle, snapshot, view};
+ghost use Rattle.handles.specs.Views.{AnswersWithoutMemory, IsDue, IsStep, call_outcome, command_of, finished_outcome, frozen_outcome, is_counted, lacks_memory, machine, outcomes_of, reply_outcome, request_of, requests_of, unit_outcome, view_outcome};
 
 use crate::call::Call;
 use crate::call_reply::CallReply;
 use crate::command::Command;
 use crate::demand::Demand;
+use crate::jobs::Jobs;
 use crate::limits::{Limits, MOST_ENTRIES};
+use crate::no_query::NoQuery;
 use crate::places::Places;
 use crate::reply::Reply;
+use bulk_ops::{Answer, Asks};
 use hash_path::PathKey;
 use std::alloc::Global;
 use std::marker::Model;
+use std::sync::Arc;
 use versions::{MOST_PAIRS, NoMemory, Refusal, Version, View};
 
+mod ends;
 mod refusals;
 
-/// Maps under handle numbers from 0 to 1023.
+use ends::{close_job, open_job};
+
+/// Maps under handle numbers from 0 to 1023, and up to 64 open jobs.
+///
+/// A job asks a query of a handle's map as it stood at its freeze: `freeze` opens the job and shows the map, the query
+/// is worked over that, and `finish` closes the job by the part that was worked. A query may reserve the number of a
+/// handle that is not live, its target: `finish` opens it with the map that the part made.
 ///
 /// Each call but `entries` and `places` is one step of the machine. Where several refusals are due, the first of this
-/// order is the answer: `JournalFull`, `BadNumber`, `NoHandle`, `Taken`, `Full`. A refusal that is due is told
-/// whatever the memory. After any refusal all handles are as before. Each call is one entry of the journal, unless it
-/// is refused as `JournalFull` or `NoMemory`.
+/// order is the answer: `JournalFull`, `BadNumber`, `NoHandle`, `NoJob`, `Taken`, `TooManyJobs`, `Full`. A refusal that
+/// is due is told whatever the memory. After any refusal all handles and jobs are as before. Each call is one entry of
+/// the journal, unless it is refused as `NoJob`, `JournalFull` or `NoMemory`. The journal keeps room for the ends of the
+/// open jobs.
 #[derive(Drop)]
-pub struct Table<K: PathKey, V> {
+pub struct Table<K: PathKey, V, Q: Asks<K, V> = NoQuery> {
     limits: Limits,
     places: Places<K, V>,
+    jobs: Jobs<K, V, Q>,
     entries: u32,
 }
 
-impl<K: PathKey, V> Model for Table<K, V> {
-    ghost use Rattle.std.specs.Prelude.{◌≡◌, ◌≤◌, ◌*◌, []};
+impl<K: PathKey, V, Q: Asks<K, V>> Model for Table<K, V, Q> {
+    ghost use Rattle.std.specs.Prelude.{◌≡◌, ◌≤◌, ◌*◌, ◌+◌, length};
+    ghost use Rattle.handles.specs.Jobs.{AllCanFinish};
     ghost use Rattle.handles.specs.Machine.{State};
 
-    ghost Value = { State K V (Unit {0}) };
+    ghost Value = { State K V Q };
 
-    ghost view = { λ t. record { limits = t.limits; live = t.places.live; jobs = []; next = 0; entries = t.entries } };
+    ghost view = { λ t. record { limits = t.limits; live = t.places.live; jobs = t.jobs.jobs; next = t.jobs.next; entries = t.entries } };
 
-    ghost invariant = { λ t. (t.entries ≤ t.limits.entries) × (t.places.limit ≡ t.limits.pairs) × (t.places.issued ≤ 2 * t.entries) };
+    ghost invariant = { λ t. (t.entries + length t.jobs.jobs ≤ t.limits.entries) × (t.places.limit ≡ t.limits.pairs) × (t.places.issued ≤ 2 * t.entries) × (t.jobs.next ≤ t.entries) × AllCanFinish Q.target_of t.limits.pairs t.jobs.jobs };
 }
 
-impl<K: PathKey + Drop, V: Eq + Drop> Table<K, V> {
+impl<K: PathKey + Drop, V: Eq + Drop, Q: Asks<K, V> + Drop> Table<K, V, Q> {
     /// A table with no handles and no entries.
-    pub fn new(alloc: Global, limits: Limits) -> Result<Table<K, V>, NoMemory>
+    pub fn new(alloc: Global, limits: Limits) -> Result<Table<K, V, Q>, NoMemory>
         requires least_pairs { 1 ≤ limits.pairs }
         requires most_pairs { limits.pairs ≤ MOST_PAIRS }
         requires least_entries { 2 ≤ limits.entries }
@@ -54,6 +68,7 @@ impl<K: PathKey + Drop, V: Eq + Drop> Table<K, V> {
         Ok(Table {
             limits,
             places: Places::new(alloc, limits.pairs)?,
+            jobs: Jobs::new(alloc)?,
             entries: 0,
         })
     }
@@ -80,8 +95,8 @@ impl<K: PathKey + Drop, V: Eq + Drop> Table<K, V> {
     ///
     /// It is refused as `JournalFull`, `BadNumber`, `Taken` or `NoMemory`.
     pub fn open(&mut self, alloc: Global, handle: u32) -> Result<(), Refusal>
-        ensures step { IsStep (machine K.cmp V.eq) self.old (open_handle handle) unit_outcome result self.new }
-        ensures due { IsDue (machine K.cmp V.eq) self.old (open_handle handle) result }
+        ensures step { IsStep (machine K.cmp V.eq Q.target_of Q.answered) self.old (open_handle handle) unit_outcome result self.new }
+        ensures due { IsDue (machine K.cmp V.eq Q.target_of Q.answered) self.old (open_handle handle) result }
     {
         let answer = match self.refusal_of(&Demand::Open(handle)) {
             Some(refusal) => Err(refusal),
@@ -94,8 +109,8 @@ impl<K: PathKey + Drop, V: Eq + Drop> Table<K, V> {
     ///
     /// It is refused as `JournalFull`, `BadNumber`, `NoHandle`, `Taken` or `NoMemory`.
     pub fn snapshot(&mut self, handle: u32, to: u32) -> Result<(), Refusal>
-        ensures step { IsStep (machine K.cmp V.eq) self.old (snapshot handle to) unit_outcome result self.new }
-        ensures due { IsDue (machine K.cmp V.eq) self.old (snapshot handle to) result }
+        ensures step { IsStep (machine K.cmp V.eq Q.target_of Q.answered) self.old (snapshot handle to) unit_outcome result self.new }
+        ensures due { IsDue (machine K.cmp V.eq Q.target_of Q.answered) self.old (snapshot handle to) result }
     {
         let answer = match self.refusal_of(&Demand::Snapshot(handle, to)) {
             Some(refusal) => Err(refusal),
@@ -108,8 +123,8 @@ impl<K: PathKey + Drop, V: Eq + Drop> Table<K, V> {
     ///
     /// It is refused as `JournalFull`, `BadNumber`, `NoHandle` or `NoMemory`.
     pub fn view(&mut self, handle: u32) -> Result<View<K, V>, Refusal>
-        ensures step { IsStep (machine K.cmp V.eq) self.old (view handle) view_outcome result self.new }
-        ensures due { IsDue (machine K.cmp V.eq) self.old (view handle) result }
+        ensures step { IsStep (machine K.cmp V.eq Q.target_of Q.answered) self.old (view handle) view_outcome result self.new }
+        ensures due { IsDue (machine K.cmp V.eq Q.target_of Q.answered) self.old (view handle) result }
     {
         let answer = match self.refusal_of(&Demand::View(handle)) {
             Some(refusal) => Err(refusal),
@@ -127,9 +142,9 @@ impl<K: PathKey + Drop, V: Eq + Drop> Table<K, V> {
         handle: u32,
         command: Command<K, V>,
     ) -> Result<Reply<V>, Refusal>
-        ensures step { IsStep (machine K.cmp V.eq) self.old (on handle (command_of command)) reply_outcome result self.new }
-        ensures memory { AnswersWithoutMemory (machine K.cmp V.eq) (on handle (command_of command)) result }
-        ensures due { IsDue (machine K.cmp V.eq) self.old (on handle (command_of command)) result }
+        ensures step { IsStep (machine K.cmp V.eq Q.target_of Q.answered) self.old (on handle (command_of command)) reply_outcome result self.new }
+        ensures memory { AnswersWithoutMemory (machine K.cmp V.eq Q.target_of Q.answered) (on handle (command_of command)) result }
+        ensures due { IsDue (machine K.cmp V.eq Q.target_of Q.answered) self.old (on handle (command_of command)) result }
     {
         let answer = match self.refusal_of(&Demand::On(handle, &command)) {
             Some(refusal) => Err(refusal),
@@ -142,7 +157,7 @@ impl<K: PathKey + Drop, V: Eq + Drop> Table<K, V> {
     ///
     /// It is refused as `JournalFull`, `BadNumber` or `NoHandle`.
     pub fn drop_handle(&mut self, handle: u32) -> Result<(), Refusal>
-        ensures step { IsStep (machine K.cmp V.eq) self.old (drop_handle handle) unit_outcome result self.new }
+        ensures step { IsStep (machine K.cmp V.eq Q.target_of Q.answered) self.old (drop_handle handle) unit_outcome result self.new }
         ensures memory { lacks_memory result ≡ false }
     {
         let answer = match self.refusal_of(&Demand::Drop(handle)) {
@@ -155,11 +170,61 @@ impl<K: PathKey + Drop, V: Eq + Drop> Table<K, V> {
         counted(&mut self.entries, answer)
     }
 
+    /// Opens a job with the query on the handle's map as it stands now, and gives the job's number and that map, which no
+    /// later call changes. Where the query has a target, the number is reserved until the job is closed. It makes no
+    /// request for memory.
+    ///
+    /// It is refused as `JournalFull`, `BadNumber`, `NoHandle`, `Taken`, `TooManyJobs` or `NoMemory`.
+    pub fn freeze(&mut self, handle: u32, query: Arc<Q>) -> Result<(u64, View<K, V>), Refusal>
+        ensures step { IsStep (machine K.cmp V.eq Q.target_of Q.answered) self.old (freeze handle query.value) frozen_outcome result self.new }
+        ensures due { IsDue (machine K.cmp V.eq Q.target_of Q.answered) self.old (freeze handle query.value) result }
+    {
+        let answer = match self.refusal_of(&Demand::Freeze(handle, &query)) {
+            Some(refusal) => Err(refusal),
+            None => open_job(&self.places, &mut self.jobs, handle, query),
+        };
+        counted(&mut self.entries, answer)
+    }
+
+    /// Closes the job by the part's answer, and opens its target, if it has one, with the map that the part made. The
+    /// part has to answer the job's query for its frozen map; it is dropped where no such job is open. It takes no
+    /// memory and is never `NoMemory`.
+    ///
+    /// It is refused as `NoJob`.
+    pub fn finish(&mut self, job: u64, part: Q::Part) -> Result<Answer<K, V, Q::Item>, Refusal>
+        requires { (j : Job K V Q) → job_at self.old job ≡ Some j → Q.answers j.query j.frozen part }
+        ensures step { IsStep (machine K.cmp V.eq Q.target_of Q.answered) self.old (finish job) finished_outcome result self.new }
+        ensures memory { lacks_memory result ≡ false }
+    {
+        let answer = match self.refusal_of(&Demand::Finish(job)) {
+            Some(refusal) => Err(refusal),
+            None => close_job(&mut self.places, &mut self.jobs, job, part),
+        };
+        counted(&mut self.entries, answer)
+    }
+
+    /// Closes the job without an answer; its target stays not live. It takes no memory and is never `NoMemory`.
+    ///
+    /// It is refused as `NoJob`.
+    pub fn abandon(&mut self, job: u64) -> Result<(), Refusal>
+        ensures step { IsStep (machine K.cmp V.eq Q.target_of Q.answered) self.old (abandon job) unit_outcome result self.new }
+        ensures memory { lacks_memory result ≡ false }
+    {
+        let answer = match self.refusal_of(&Demand::Abandon(job)) {
+            Some(refusal) => Err(refusal),
+            None => {
+                self.jobs.close(job);
+                Ok(())
+            }
+        };
+        counted(&mut self.entries, answer)
+    }
+
     /// Makes the call, as `open`, `snapshot`, `drop_handle` and `call` do.
     pub fn serve(&mut self, alloc: Global, call: Call<K, V>) -> Result<CallReply<V>, Refusal>
-        ensures step { IsStep (machine K.cmp V.eq) self.old (request_of call) call_outcome result self.new }
-        ensures memory { AnswersWithoutMemory (machine K.cmp V.eq) (request_of call) result }
-        ensures due { IsDue (machine K.cmp V.eq) self.old (request_of call) result }
+        ensures step { IsStep (machine K.cmp V.eq Q.target_of Q.answered) self.old (request_of call) call_outcome result self.new }
+        ensures memory { AnswersWithoutMemory (machine K.cmp V.eq Q.target_of Q.answered) (request_of call) result }
+        ensures due { IsDue (machine K.cmp V.eq Q.target_of Q.answered) self.old (request_of call) result }
     {
         match call {
             Call::Open(handle) => match self.open(alloc, handle) {
@@ -189,8 +254,8 @@ impl<K: PathKey + Drop, V: Eq + Drop> Table<K, V> {
         alloc: Global,
         calls: Vec<Call<K, V>>,
     ) -> Result<Vec<Result<CallReply<V>, Refusal>>, NoMemory>
-        ensures run { IfOk result (λ answers. Run (machine K.cmp V.eq) self.old (requests_of calls.items) (outcomes_of answers.items) self.new) }
-        ensures err { OnErr result (IsRunOfSome (machine K.cmp V.eq) self.old (requests_of calls.items) self.new) }
+        ensures run { IfOk result (λ answers. Run (machine K.cmp V.eq Q.target_of Q.answered) self.old (requests_of calls.items) (outcomes_of answers.items) self.new) }
+        ensures err { OnErr result (IsRunOfSome (machine K.cmp V.eq Q.target_of Q.answered) self.old (requests_of calls.items) self.new) }
     {
         let mut answers = Vec::new(alloc);
         for call in calls {

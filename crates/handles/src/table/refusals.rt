@@ -1,10 +1,12 @@
 //! Why the calls of a table are refused, for want of memory aside.
 ghost use Rattle.std.specs.Prelude.{◌≡◌, ◌-◌};
-ghost use Rattle.handles.specs.Machine.{is_bad, is_not_live, is_taken, lacks_place, refusal, room};
+ghost use Rattle.handles.specs.Machine.{is_bad, is_not_live, is_taken, is_unknown_job, lacks_place, refusal, room};
 ghost use Rattle.handles.specs.Views.{demanded, machine};
 
 use super::Table;
 use crate::demand::Demand;
+use crate::jobs::MOST_JOBS;
+use bulk_ops::Asks;
 use hash_path::PathKey;
 use versions::Refusal;
 
@@ -14,14 +16,14 @@ const LAST_HANDLE: u32 = 1023;
 // How much room the journal has to have for a call to be made.
 const LEAST_ROOM: u32 = 2;
 
-impl<K: PathKey + Drop, V: Eq + Drop> Table<K, V> {
+impl<K: PathKey + Drop, V: Eq + Drop, Q: Asks<K, V> + Drop> Table<K, V, Q> {
     /// Why the demand is refused, if it is: the first reason, in the order in which they count.
-    pub(super) fn refusal_of(&self, demand: &Demand<'_, K, V>) -> Option<Refusal>
-        ensures { result ≡ refusal (machine K.cmp V.eq) self.now (demanded demand.now) }
+    pub(super) fn refusal_of(&self, demand: &Demand<'_, K, V, Q>) -> Option<Refusal>
+        ensures { result ≡ refusal (machine K.cmp V.eq Q.target_of Q.answered) self.now (demanded demand.now) }
     {
         let source = demand.source();
         let wanted = demand.wanted();
-        if self.room() < LEAST_ROOM {
+        if demand.needs_room() && self.room() < LEAST_ROOM {
             return Some(Refusal::JournalFull);
         }
         if is_bad(source) || is_bad(wanted) {
@@ -30,8 +32,14 @@ impl<K: PathKey + Drop, V: Eq + Drop> Table<K, V> {
         if self.is_not_live(source) {
             return Some(Refusal::NoHandle);
         }
+        if self.is_unknown_job(demand.job()) {
+            return Some(Refusal::NoJob);
+        }
         if self.is_taken(wanted) {
             return Some(Refusal::Taken);
+        }
+        if demand.is_freeze() && self.jobs.len() >= MOST_JOBS {
+            return Some(Refusal::TooManyJobs);
         }
         if self.lacks_place(demand) {
             return Some(Refusal::Full);
@@ -39,11 +47,11 @@ impl<K: PathKey + Drop, V: Eq + Drop> Table<K, V> {
         None
     }
 
-    // How many entries may still be made.
+    // How many entries may still be made besides the ends of the open jobs.
     fn room(&self) -> u32
         ensures { result ≡ room self.now }
     {
-        self.limits.entries - self.entries
+        self.limits.entries - self.entries - self.jobs.len() as u32
     }
 
     // Whether a handle is named that is not live.
@@ -56,19 +64,29 @@ impl<K: PathKey + Drop, V: Eq + Drop> Table<K, V> {
         }
     }
 
-    // Whether a number is named that is live.
+    // Whether a job is named that is not open.
+    fn is_unknown_job(&self, job: Option<u64>) -> bool
+        ensures { result ≡ is_unknown_job self.now job }
+    {
+        match job {
+            Some(job) => self.jobs.get(job).is_none(),
+            None => false,
+        }
+    }
+
+    // Whether a number is named that is live, or that an open job reserves.
     fn is_taken(&self, number: Option<u32>) -> bool
-        ensures { result ≡ is_taken (machine K.cmp V.eq) self.now number }
+        ensures { result ≡ is_taken (machine K.cmp V.eq Q.target_of Q.answered) self.now number }
     {
         match number {
-            Some(number) => self.places.version(number).is_some(),
+            Some(number) => self.places.version(number).is_some() || self.jobs.reserves(number),
             None => false,
         }
     }
 
     // Whether a command would put a new key into a map that holds as many pairs as it may.
-    fn lacks_place(&self, demand: &Demand<'_, K, V>) -> bool
-        ensures { result ≡ lacks_place (machine K.cmp V.eq) self.now (demanded demand.now) }
+    fn lacks_place(&self, demand: &Demand<'_, K, V, Q>) -> bool
+        ensures { result ≡ lacks_place (machine K.cmp V.eq Q.target_of Q.answered) self.now (demanded demand.now) }
     {
         match demand {
             Demand::On(handle, command) => self.places.lacks_place(*handle, command),

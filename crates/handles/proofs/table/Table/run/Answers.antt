@@ -10,7 +10,7 @@ use Rattle.handles.proofs.table.Table.run.Goals as goal
 
 pub loop-call-preserved : goal.loop-call-preserved
 loop-call-preserved g c =
-    let kind = machine g.K.Ord.cmp g.V.PartialEq.eq in
+    let kind = machine g.K.Ord.cmp g.V.PartialEq.eq g.Q.Asks.target_of g.Q.Asks.answered in
     let answer = c.serve-answer.result in
     let longer : c.push_reserved.new.self.items ≡ c.loop-call.answers.items ++ answer ∷ [] = search rules in
     let made : lacks_memory answer ≡ false = search rules in
@@ -39,7 +39,7 @@ returns-in_err-reserve-clause-err g c =
 
 pub returns-then-lacks_memory-clause-err : goal.returns-then-lacks_memory-clause-err
 returns-then-lacks_memory-clause-err g c =
-    let kind = machine g.K.Ord.cmp g.V.PartialEq.eq in
+    let kind = machine g.K.Ord.cmp g.V.PartialEq.eq g.Q.Asks.target_of g.Q.Asks.answered in
     let split = c.loop-call.invariant.split in
     let lacking : lacks_memory c.serve-answer.result ≡ true = search rules in
     let same = unchanged kind c.loop-call.self (request_of c.in-Some.call) c.serve-answer.result c.serve-answer.new.self lacking c.serve-answer.ensures.step in

@@ -1,0 +1,23 @@
+use Rattle.std.proofs.Common.{subst, sym, ◌∙◌, arith}
+use Rattle.std.specs.Ordering.{nat_cmp}
+use Rattle.versions.specs.Map.{with_pair}
+use Rattle.handles.specs.Jobs.{IsPlace, live_with_made}
+use Rattle.handles.proofs.Live.{with_version}
+use Rattle.handles.proofs.Kept.{set_fresh}
+use Rattle.handles.proofs.places.Places.settle.Goals as goal
+
+pub invariant_of-self : goal.invariant_of-self
+invariant_of-self g c =
+    let limit = c.restamp.ensures.limit ∙ c.relimit.ensures.limit in (
+      set_fresh c.self.inside.limit c.self.inside.source c.restamp.new.source c.in-Some-Some.to c.restamp.new.self c.self.inside.versions.items c.self.invariant.0 limit (omega (arith, c.restamp.ensures.stamp)) (omega (arith, c.restamp.ensures.stamp, c.restamp.ensures.issued)),
+      c.self.invariant.1,
+      c.self.invariant.2,
+    )
+
+pub returns-in-Some-Some-clause-live : goal.returns-in-Some-Some-clause-live
+returns-in-Some-Some-clause-live g c =
+    let place = subst IsPlace c.in-Some-Some.is-0 c.requires.place in
+    let same = c.restamp.ensures.entries ∙ c.relimit.ensures.entries in
+    with_version c.in-Some-Some.to c.restamp.new.self c.self.inside.versions.items (omega (arith, c.self.invariant.0.count, place))
+    ∙ (λ i. with_pair nat_cmp (c.self.view_is i).live c.in-Some-Some.to (same i))
+    ∙ (λ i. live_with_made c.args.self.now.live (sym c.in-Some-Some.is-0 i) (sym c.in-Some-Some.is-1 i))

@@ -1,0 +1,65 @@
+//! How jobs are opened, and closed by an answer.
+ghost use Rattle.std.specs.Prelude.{◌≡◌, ◌<◌, ◌≤◌, ◌+◌, ◌^◌, [], length, IfErr, IfOk, IsSome, OnErr, OnOk, Some, None, unwrap_or};
+ghost use Rattle.std.specs.Ordering.{nat_cmp};
+ghost use Rattle.handles.specs.Jobs.{AllCanFinish, Concludes};
+ghost use Rattle.handles.specs.Machine.{Job};
+ghost use Rattle.handles.specs.declared.jobs.TheConstants.{MOST_JOBS};
+ghost use Rattle.versions.specs.Map.{value_at, with_pair};
+
+use crate::jobs::Jobs;
+use crate::places::Places;
+use bulk_ops::{Answer, Asks};
+use hash_path::PathKey;
+use std::sync::Arc;
+use versions::{Refusal, View};
+
+/// Opens a job with the query on the map of the handle as it stands now, and gives the job's number and that map.
+pub(super) fn open_job<K: PathKey + Drop, V: Eq + Drop, Q: Asks<K, V> + Drop>(
+    places: &Places<K, V>,
+    jobs: &mut Jobs<K, V, Q>,
+    handle: u32,
+    query: Arc<Q>,
+) -> Result<(u64, View<K, V>), Refusal>
+    requires live { IsSome (value_at nat_cmp places.now.live handle) }
+    requires few { length jobs.old.jobs < MOST_JOBS }
+    requires next { jobs.old.next < 2 ^ 63 }
+    ensures number { IfOk result (λ shown. shown.0 ≡ jobs.old.next) }
+    ensures map { IfOk result (λ shown. shown.1 ≡ unwrap_or (value_at nat_cmp places.now.live handle) []) }
+    ensures fits { IfOk result (λ shown. length shown.1 ≤ places.now.limit) }
+    ensures opened { IfOk result (λ shown. jobs.new.jobs ≡ with_pair nat_cmp jobs.old.jobs jobs.old.next (record { query = query.value; frozen = shown.1 })) }
+    ensures next { OnOk result (jobs.new.next ≡ jobs.old.next + 1) }
+    ensures memory { IfErr result (λ e. e ≡ Refusal.NoMemory) }
+    ensures err { OnErr result (jobs.new ≡ jobs.old) }
+{
+    let view = places.view(handle)?;
+    let kept = view.try_clone()?;
+    Ok((jobs.add(query, kept), view))
+}
+
+/// Closes the job by the part's answer, and opens its target, if it has one, with the map that the part made.
+///
+/// It is refused as `NoJob`.
+pub(super) fn close_job<K: PathKey + Drop, V: Eq + Drop, Q: Asks<K, V> + Drop>(
+    places: &mut Places<K, V>,
+    jobs: &mut Jobs<K, V, Q>,
+    job: u64,
+    part: Q::Part,
+) -> Result<Answer<K, V, Q::Item>, Refusal>
+    requires answers { (j : Job K V Q) → value_at nat_cmp jobs.old.jobs job ≡ Some j → Q.answers j.query j.frozen part }
+    requires can { AllCanFinish Q.target_of places.old.limit jobs.old.jobs }
+    requires room { places.old.issued < 2 ^ 63 }
+    ensures done { IfOk result (λ answer. Concludes Q.target_of Q.answered places.old jobs.old job answer places.new jobs.new) }
+    ensures limit { places.new.limit ≡ places.old.limit }
+    ensures issued { places.new.issued ≤ places.old.issued + 1 }
+    ensures closed { OnErr result (value_at nat_cmp jobs.old.jobs job ≡ None) }
+    ensures memory { IfErr result (λ e. e ≡ Refusal.NoJob) }
+{
+    let Some(open) = jobs.get(job) else {
+        return Err(Refusal::NoJob);
+    };
+    let target = open.query.target();
+    let (answer, made) = open.query.conclude(part);
+    jobs.close(job);
+    places.settle(target, made);
+    Ok(answer)
+}
