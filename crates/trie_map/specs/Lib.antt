@@ -1,0 +1,6 @@
+pub use Rattle.trie_node.specs.Map
+pub use Rattle.bulk_ops.specs.Meanings
+pub use Rattle.bulk_ops.specs.Queries
+pub use Rattle.bulk_ops.specs.Told
+pub mod Rules
+pub mod Stripes

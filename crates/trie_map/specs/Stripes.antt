@@ -1,0 +1,34 @@
+-- The stripes of a map: the pairs whose keys' words have one first digit.
+use Rattle.std.specs.Prelude.{◌≡◌, ℕ, zero, suc, List, [], ◌∷◌, ◌++◌, map}
+use Rattle.std.specs.declared.cmp.Ordering.{Ordering}
+use Rattle.trie_map.specs.declared.stripe.TheConstants.{MOST_PAIRS_OF_STRIPE}
+use Rattle.versions.specs.Contents.{Contents}
+use Rattle.versions.specs.Map.{Map, union}
+
+-- the pairs of one stripe, and the first digit of the words of their keys
+pub record Content (K V : Type 0) : Type 0 where
+  pub entries : Map K V
+  pub digit : ℕ
+
+-- the numbers below n
+abbrev pub up_to : ℕ → List ℕ
+up_to zero = []
+up_to (suc n) = up_to n ++ n ∷ []
+
+module _ {K V : Type 0} where
+  -- the map has no pairs and the limit of a stripe
+  abbrev pub IsBlank : Contents K V → Type 0
+  IsBlank c = (c.entries ≡ []) × (c.limit ≡ MOST_PAIRS_OF_STRIPE)
+
+  -- the first digits of stripes
+  abbrev pub digits_of : List (Content K V) → List ℕ
+  digits_of stripes = map (λ (s : Content K V). s.digit) stripes
+
+  -- the maps of stripes
+  abbrev pub maps_of : List (Content K V) → List (Map K V)
+  maps_of stripes = map (λ (s : Content K V). s.entries) stripes
+
+  -- the pairs of all maps; where several have a key, the value is that of the first
+  abbrev pub unions : (K → K → Ordering) → List (Map K V) → Map K V
+  unions R [] = []
+  unions R (m ∷ ms) = union R m (unions R ms)

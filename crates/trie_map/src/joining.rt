@@ -1,0 +1,41 @@
+//! The pairs of all stripes together.
+ghost use Rattle.std.specs.Prelude.{◌≡◌, ◌≤◌, ◌*◌, IfOk, length};
+ghost use Rattle.hash_path.specs.Digits.{fan_out};
+ghost use Rattle.trie_map.specs.Rules.{AllKeep};
+ghost use Rattle.trie_map.specs.Stripes.{maps_of, unions};
+ghost use Rattle.versions.specs.declared.version.TheConstants.{MOST_PAIRS};
+
+use crate::keeps::Keeps;
+use crate::stripe::{MOST_PAIRS_OF_STRIPE, Stripe};
+use combiner::merge;
+use hash_path::PathKey;
+use std::alloc::Global;
+use trie_node::{NoMemory, Stamp, union_of_maps};
+use versions::{MOST_PAIRS, Version};
+
+/// The map of the pairs of all stripes; where several have a key, the value is that of the first. Each pair keeps the
+/// rule.
+///
+/// Stripes of different digits share no subtrie below the root, so this costs a few nodes for each stripe, however
+/// many pairs there are.
+pub fn joined<K: PathKey + Drop, V: Drop, P: Keeps<K, V>>(
+    alloc: Global,
+    stripes: &[Stripe<K, V, P>],
+) -> Result<Version<K, V>, NoMemory>
+    requires { length stripes.now ≤ fan_out }
+    ensures entries { IfOk result (λ map. map.entries ≡ unions K.cmp (maps_of stripes.now)) }
+    ensures limit { IfOk result (λ map. map.limit ≡ MOST_PAIRS) }
+    ensures few { IfOk result (λ map. length map.entries ≤ length stripes.now * MOST_PAIRS_OF_STRIPE) }
+    ensures kept { IfOk result (λ map. AllKeep K.cmp P.holds map.entries) }
+{
+    union_of_maps::<K, V>();
+    let Some((first, rest)) = stripes.split_first() else {
+        return Version::empty(alloc, MOST_PAIRS, Stamp::LOOSE);
+    };
+    first.law();
+    first.len();
+    let left = first.widened()?;
+    let right = joined(alloc, rest)?;
+    right.len();
+    merge(alloc, &left, &right)
+}

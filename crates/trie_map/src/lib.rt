@@ -1,0 +1,36 @@
+//! A map that threads share, for services that never stop: the trie with its snapshots and questions, under locks, with
+//! no journal and no end of calls.
+//!
+//! `TrieMap` is shared by reference. Keys and values go in as they are, and a value comes out as an `Arc`. A `View` of
+//! it is read with no lock. Each pair keeps a rule of the user's (`Keeps`), or `Anything`.
+#![tactic(auto)]
+
+mod blank;
+mod joining;
+mod keeps;
+mod origin;
+mod row;
+mod stripe;
+mod trie_map;
+mod view;
+
+pub use blank::Blank;
+pub use bulk_ops::{
+    Answer, Asks, Pair, PairFn, Part, Plain, Query, Stored, StoredItem, StoredMap, StoredTest,
+};
+pub use combiner::{Both, Greatest, Least, Monoid, Sum};
+pub use hash_path::PathKey;
+pub use iter::Pairs;
+pub use joining::joined;
+pub use keeps::{Anything, Keeps};
+pub use keys::ByteText;
+pub use origin::{Origin, found_or_made};
+pub use row::{Held, Row, blanks, clear_all, empties, forks};
+pub use stripe::{MOST_PAIRS_OF_STRIPE, STRIPES, Stripe};
+pub use trie_map::TrieMap;
+pub use trie_node::NoMemory;
+pub use versions::{MOST_PAIRS, Refusal, Version};
+pub use view::View;
+
+#[cfg(test)]
+mod tests;

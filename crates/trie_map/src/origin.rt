@@ -1,0 +1,25 @@
+//! A value that was found, or that is made where none was.
+ghost use Rattle.std.specs.Prelude.{◌≡◌, IfNone, IfSome, None};
+
+use std::sync::Arc;
+
+/// Where a value comes from.
+#[derive(Drop)]
+pub enum Origin<V> {
+    /// It was found.
+    Found(Arc<V>),
+    /// It was made.
+    Made(V),
+}
+
+/// The value that was found, else the one that `make` makes. `make` is called exactly where none was found.
+pub fn found_or_made<V, F: FnOnce() -> V>(found: Option<Arc<V>>, make: F) -> Origin<V>
+    requires { found ≡ None → F.pre make }
+    ensures found { IfSome found (λ value. result ≡ Origin.Found value) }
+    ensures made { IfNone found ((value : V) × F.post make value × (result ≡ Origin.Made value)) }
+{
+    match found {
+        Some(found) => Origin::Found(found),
+        None => Origin::Made(make()),
+    }
+}

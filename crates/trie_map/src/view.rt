@@ -1,0 +1,116 @@
+//! A map as it stood at one moment.
+ghost use Rattle.std.specs.Prelude.{◌≡◌, ◌↔◌, [], IfOk, IfSome, IsTrue, is_some, length, option_map};
+ghost use Rattle.bulk_ops.specs.Told.{IsAnswered};
+ghost use Rattle.trie_map.specs.Rules.{AllKeep};
+ghost use Rattle.trie_node.specs.Order.{walked};
+ghost use Rattle.versions.specs.Map.{IsMap, value_at};
+
+use crate::keeps::{Anything, Keeps};
+use bulk_ops::{Answer, Asks, ask};
+use hash_path::PathKey;
+use iter::Pairs;
+use std::alloc::Global;
+use std::marker::{Model, PhantomData};
+use std::sync::Arc;
+use trie_node::NoMemory;
+use versions::Version;
+
+/// A map that never changes, as it stood at one moment when nobody wrote it. It is read with no lock, by any number of
+/// threads.
+#[derive(Drop)]
+pub struct View<K: PathKey, V, P: Keeps<K, V> = Anything> {
+    alloc: Global,
+    plain: versions::View<K, V>,
+    rule: PhantomData<P>,
+}
+
+impl<K: PathKey, V, P: Keeps<K, V>> Model for View<K, V, P> {
+    ghost use Rattle.trie_map.specs.Rules.{AllKeep};
+    ghost use Rattle.versions.specs.Map.{Map};
+
+    ghost Value = { Map K V };
+
+    ghost view = { λ v. v.plain };
+
+    ghost invariant = { λ v. AllKeep K.cmp P.holds v.plain };
+}
+
+impl<K: PathKey + Drop, V: Drop, P: Keeps<K, V>> View<K, V, P> {
+    /// The view of a map whose pairs keep the rule.
+    pub fn new(alloc: Global, plain: versions::View<K, V>) -> View<K, V, P>
+        requires { AllKeep K.cmp P.holds plain }
+        ensures { result ≡ plain }
+    {
+        View {
+            alloc,
+            plain,
+            rule: PhantomData,
+        }
+    }
+
+    /// The value of the key, or none. It takes no memory.
+    pub fn get(&self, key: &K) -> Option<&Arc<V>>
+        ensures value { option_map (λ value. value.now.value) result ≡ value_at K.cmp self.now key.now }
+        ensures kept { IfSome result (λ value. P.holds key.now value.now.value) }
+    {
+        self.plain.get(key)
+    }
+
+    /// Whether the key has a value. It takes no memory.
+    pub fn contains_key(&self, key: &K) -> bool
+        ensures { result ≡ is_some (value_at K.cmp self.now key.now) }
+    {
+        self.plain.contains_key(key)
+    }
+
+    /// How many pairs there are. It takes no memory.
+    pub fn len(&self) -> u64
+        ensures count { result ≡ length self.now }
+        ensures sorted { IsMap K.cmp self.now }
+    {
+        self.plain.len()
+    }
+
+    /// Whether there is no pair. It takes no memory.
+    pub fn is_empty(&self) -> bool
+        ensures { IsTrue result ↔ (self.now ≡ []) }
+    {
+        self.plain.is_empty()
+    }
+
+    /// A walk over all pairs, in order of position and, within one position, of key.
+    pub fn pairs(&self) -> Result<Pairs<'_, K, V>, NoMemory>
+        ensures { IfOk result (λ walk. walk.rest ≡ walked K.cmp K.path_of self.now) }
+    {
+        iter::pairs(self.alloc, &self.plain)
+    }
+
+    /// What the query is answered for the whole view, and the map that it makes where it has a target.
+    pub fn query<Q: Asks<K, V>>(
+        &self,
+        query: &Q,
+    ) -> Result<(Answer<K, V, Q::Item>, Option<Version<K, V>>), NoMemory>
+        requires { Q.ready query.now }
+        ensures { IfOk result (λ answer. IsAnswered (Q.answered query.now self.now) (Q.target_of query.now) answer.0 answer.1) }
+    {
+        ask(self.alloc, self.plain.try_clone()?, query)
+    }
+
+    /// The same view with no word of the rule, for calls that take one, as those of walks and pieces.
+    pub fn plain(&self) -> &versions::View<K, V>
+        ensures map { result.now ≡ self.now }
+    {
+        &self.plain
+    }
+
+    /// Another handle on the same view. It makes no request for memory, but the clone may be refused.
+    pub fn try_clone(&self) -> Result<View<K, V, P>, NoMemory>
+        ensures { IfOk result (λ view. view ≡ self.now) }
+    {
+        Ok(View {
+            alloc: self.alloc,
+            plain: self.plain.try_clone()?,
+            rule: PhantomData,
+        })
+    }
+}
