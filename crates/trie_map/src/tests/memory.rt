@@ -99,9 +99,9 @@ fn calls_on_all_stripes_are_refused_at_each_request(rt: HostRuntime) -> Result<(
     }
     let mut refused = [0u32; 3];
     let mut granted = [0u32; 3];
-    for step in 0..72usize {
+    for step in 0..28usize {
         for call in 0..3 {
-            let block: Vec<u8> = Vec::with_capacity(alloc, 1_040 + 512 * step)?;
+            let block: Vec<u8> = Vec::with_capacity(alloc, 1_040 + 768 * step)?;
             let taken = take_all(alloc)?;
             drop(block);
             let done = match call {

@@ -4,6 +4,7 @@ use crate::{Refusal, TrieMap};
 use std::sync::Wait;
 use std::test::Fail;
 use std::thread;
+use std::thread::Threads;
 use test_keys::ChosenKey;
 
 // How many threads there are, how many calls each makes, and how often all of it is done.
@@ -177,7 +178,7 @@ fn work<R: Wait>(rt: &R, map: &Map, of: u32) -> Result<Counts, Refusal> {
 }
 
 // All of it once: the counts of all threads, and the size of the map at the end.
-fn one_round(rt: &HostRuntime) -> Result<(Counts, u64), Refusal> {
+fn one_round<R: AllocGlobal + Threads + Wait + Sync>(rt: &R) -> Result<(Counts, u64), Refusal> {
     let made: Map = TrieMap::new(rt)?;
     let map = &made;
     let mut sum = none();
