@@ -21,9 +21,12 @@ pub fn tour<R: Runtime + AllocGlobal + Threads + Wait + Sync>(rt: &R) -> Result<
     let cache = &made;
 
     // Four threads look up the same numbers. Each number is kept once, whoever was first.
-    for sum in thread::map_indices(rt, alloc, THREADS, &|_: usize| {
-        sum_of(rt, cache, 0, LOOKUPS)
-    })? {
+    for sum in thread::map_indices(
+        rt,
+        alloc,
+        THREADS,
+        &|_: usize| { sum_of(rt, cache, 0, LOOKUPS) },
+    )? {
         rt.println(format_args!("sum of the first thousand: {}", sum?))?;
     }
     rt.println(format_args!("in the cache: {}", cache.len(rt)))?;
@@ -31,13 +34,18 @@ pub fn tour<R: Runtime + AllocGlobal + Threads + Wait + Sync>(rt: &R) -> Result<
     // A snapshot keeps what the cache has now. One thread counts it while the others write other numbers.
     let taken = cache.snapshot(rt)?;
     let snapshot = &taken;
-    for told in thread::map_indices(rt, alloc, THREADS, &|place: usize| -> Result<u64, Fault> {
-        if place == 0 {
-            return Ok(counted(rt, snapshot)?);
-        }
-        sum_of(rt, cache, LOOKUPS * place as u64, LOOKUPS)?;
-        Ok(0)
-    })? {
+    for told in thread::map_indices(
+        rt,
+        alloc,
+        THREADS,
+        &|place: usize| -> Result<u64, Fault> {
+            if place == 0 {
+                return Ok(counted(rt, snapshot)?);
+            }
+            sum_of(rt, cache, LOOKUPS * place as u64, LOOKUPS)?;
+            Ok(0)
+        },
+    )? {
         let count = told?;
         if count != 0 {
             rt.println(format_args!("in the snapshot: {count}"))?;

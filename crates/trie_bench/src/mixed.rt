@@ -66,9 +66,12 @@ fn one_round<R: Runtime + AllocGlobal + Threads + Wait + Sync>(
 ) -> Result<i64, Fault> {
     let calls = CALLS / threads.max(1);
     let mut sum = 0i64;
-    for read in thread::map_indices(rt, rt.alloc(), threads as usize, &|thread: usize| {
-        calls_of(rt, rt.alloc(), map, keys, calls, thread as u64)
-    })? {
+    for read in thread::map_indices(
+        rt,
+        rt.alloc(),
+        threads as usize,
+        &|thread: usize| { calls_of(rt, rt.alloc(), map, keys, calls, thread as u64) },
+    )? {
         sum = sum.wrapping_add(read?);
     }
     Ok(sum)
