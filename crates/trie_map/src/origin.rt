@@ -13,7 +13,7 @@ pub enum Origin<V> {
 }
 
 /// The value that was found, else the one that `make` makes. `make` is called exactly where none was found.
-pub fn found_or_made<V, F: FnOnce() -> V>(found: Option<Arc<V>>, make: F) -> Origin<V>
+pub fn found_or_made<V: Drop, F: FnOnce() -> V>(found: Option<Arc<V>>, make: F) -> Origin<V>
     requires { found ≡ None → F.pre make }
     ensures found { IfSome found (λ value. result ≡ Origin.Found value) }
     ensures made { IfNone found ((value : V) × F.post make value × (result ≡ Origin.Made value)) }
