@@ -52,7 +52,11 @@ pub fn tour<R: Runtime + AllocGlobal + Threads + Wait + Sync>(rt: &R) -> Result<
         }
     }
     rt.println(format_args!("in the cache: {}", cache.len(rt)))?;
+    aged(rt, cache)
+}
 
+// Counts what was made since second 5, and lets the rest go.
+fn aged<R: Runtime + AllocGlobal + Wait>(rt: &R, cache: &Cache) -> Result<(), Fault> {
     // A question is asked of the cache as it stands, and nobody waits for the answer.
     let (_, young) = cache.query(rt, &made_since(5))?;
     if let Some(young) = young {
