@@ -1,4 +1,5 @@
 //! The query of a table that is asked none.
+ghost use Rattle.std.specs.Prelude.{⊤};
 ghost use Rattle.versions.specs.Map.{Map};
 
 use bulk_ops::{Answer, Asks};
@@ -8,33 +9,33 @@ use std::alloc::Global;
 use std::sync::Arc;
 use versions::{NoMemory, Version};
 
-/// The query of a table that is asked none: there is no value of this type.
+/// The query of a table that is asked none: it looks at no pair, every map decides it, and it is told 0.
 #[derive(Drop)]
-pub enum NoQuery {}
+pub struct NoQuery;
 
 impl<K: PathKey, V> Bulk<K, V> for NoQuery {
     type Part = ();
 
-    ghost answers = { λ q m part. ⊥ };
+    ghost answers = { λ q m part. ⊤ };
 
-    ghost decides = { λ q m. ⊥ };
+    ghost decides = { λ q m. ⊤ };
 
-    ghost ready = { λ q. ⊥ };
+    ghost ready = { λ q. ⊤ };
 
     fn unit(&self, _alloc: Global) -> Result<(), NoMemory> {
-        match *self {}
+        Ok(())
     }
 
     fn one(&self, _alloc: Global, _key: &Arc<K>, _value: &Arc<V>) -> Result<(), NoMemory> {
-        match *self {}
+        Ok(())
     }
 
     fn join(&self, _alloc: Global, _a: &(), _b: &()) -> Result<(), NoMemory> {
-        match *self {}
+        Ok(())
     }
 
     fn settled(&self, _part: &()) -> bool {
-        match *self {}
+        true
     }
 }
 
@@ -50,10 +51,10 @@ impl<K: PathKey, V> Asks<K, V> for NoQuery {
     ghost answer_of = { λ part. answer_of_none part };
 
     fn target(&self) -> Option<u32> {
-        match *self {}
+        None
     }
 
     fn conclude(&self, _part: ()) -> (Answer<K, V, ()>, Option<Version<K, V>>) {
-        match *self {}
+        (Answer::Count(0), None)
     }
 }
