@@ -32,5 +32,3 @@ pub use trie_node::NoMemory;
 pub use versions::{MOST_PAIRS, Refusal, Version};
 pub use view::View;
 
-#[cfg(test)]
-mod tests;
