@@ -1,4 +1,4 @@
-//! A node, and what it shares with its other handles.
+//! A shared node.
 
 ghost use Rattle.std.specs.Prelude.{◌≡◌, IfOk, [], ◌∷◌, map};
 ghost use Rattle.trie_node.specs.Tree.{branch, bucket, trees};
@@ -12,58 +12,41 @@ use hash_path::PathKey;
 use std::alloc::Global;
 use std::sync::Arc;
 
-/// A node of a trie, as it lies in its holder's place: a stamp and one pair, or a stamp and a shared
-/// handle on the children of a branch or on the pairs of a bucket.
-///
-/// A leaf costs no memory of its own: it stands among its branch's children.
+/// A shared handle on a node of a trie.
 #[cycle(node)]
 #[derive(Drop)]
-pub enum Node<K, V> {
-    /// A branch: the stamp of the last write through it, and what it shares with its other handles.
+pub struct Node<K, V> {
+    pub(crate) inner: Arc<Inner<K, V>, Global>,
+}
+
+/// What lies behind a node's pointer.
+#[cycle(node)]
+#[derive(Drop)]
+pub(crate) enum Inner<K, V> {
     Branch {
         stamp: Stamp,
-        below: Arc<Branch<K, V>, Global>,
+        size: u64,
+        bitmap: u32,
+        children: Vec<Node<K, V>>,
     },
-    /// One pair.
     Leaf {
         stamp: Stamp,
         pair: (Arc<K, Global>, Arc<V, Global>),
     },
-    /// Several pairs whose keys have one path word, in the order of the keys.
     Bucket {
         stamp: Stamp,
-        pairs: Arc<Vec<(Arc<K, Global>, Arc<V, Global>)>, Global>,
+        pairs: Vec<(Arc<K, Global>, Arc<V, Global>)>,
     },
 }
 
-/// What lies behind the pointer of a branch.
-#[cycle(node)]
-#[derive(Drop)]
-pub struct Branch<K, V> {
-    pub(crate) size: u64,
-    pub(crate) bitmap: u32,
-    pub(crate) children: Vec<Node<K, V>>,
-}
-
-impl<K: Drop, V: Drop> Node<K, V> {
+impl<K, V> Node<K, V> {
     /// Another handle on the same node. No memory is requested, but the clone may be refused.
     pub fn try_clone(&self) -> Result<Node<K, V>, NoMemory>
         ensures { IfOk result (λ n. tree n ≡ tree self.now) }
     {
-        match self {
-            Node::Branch { stamp, below } => Ok(Node::Branch {
-                stamp: *stamp,
-                below: Arc::try_clone(below)?,
-            }),
-            Node::Leaf { stamp, pair } => Ok(Node::Leaf {
-                stamp: *stamp,
-                pair: (Arc::try_clone(&pair.0)?, Arc::try_clone(&pair.1)?),
-            }),
-            Node::Bucket { stamp, pairs } => Ok(Node::Bucket {
-                stamp: *stamp,
-                pairs: Arc::try_clone(pairs)?,
-            }),
-        }
+        Ok(Node {
+            inner: Arc::try_clone(&self.inner)?,
+        })
     }
 }
 
@@ -77,29 +60,33 @@ pub(crate) fn make_branch<K: Drop, V: Drop>(
 ) -> Result<Node<K, V>, NoMemory>
     ensures { IfOk result (λ n. tree n ≡ branch stamp.0 size bitmap (trees (map tree children.items))) }
 {
-    let branch = Branch {
+    let inner = Inner::Branch {
+        stamp,
         size,
         bitmap,
         children,
     };
-    Ok(Node::Branch {
-        stamp,
-        below: Arc::new(alloc, branch)?,
+    Ok(Node {
+        inner: Arc::new(alloc, inner)?,
     })
 }
 
 /// A leaf of one pair.
-pub(crate) fn make_leaf<K, V>(
+pub(crate) fn make_leaf<K: Drop, V: Drop>(
+    alloc: Global,
     stamp: Stamp,
     key: Arc<K, Global>,
     value: Arc<V, Global>,
-) -> Node<K, V>
-    ensures { tree result ≡ bucket stamp.0 ((key.value, value.value) ∷ []) }
+) -> Result<Node<K, V>, NoMemory>
+    ensures { IfOk result (λ n. tree n ≡ bucket stamp.0 ((key.value, value.value) ∷ [])) }
 {
-    Node::Leaf {
+    let inner = Inner::Leaf {
         stamp,
         pair: (key, value),
-    }
+    };
+    Ok(Node {
+        inner: Arc::new(alloc, inner)?,
+    })
 }
 
 /// A bucket of pairs of one word.
@@ -110,9 +97,9 @@ pub(crate) fn make_bucket<K: Drop, V: Drop>(
 ) -> Result<Node<K, V>, NoMemory>
     ensures { IfOk result (λ n. tree n ≡ bucket stamp.0 (map pair_values pairs.items)) }
 {
-    Ok(Node::Bucket {
-        stamp,
-        pairs: Arc::new(alloc, pairs)?,
+    let inner = Inner::Bucket { stamp, pairs };
+    Ok(Node {
+        inner: Arc::new(alloc, inner)?,
     })
 }
 
