@@ -1,0 +1,10 @@
+use Rattle.std.proofs.Common.{ℕ, ◌<◌}
+use Rattle.versions.specs.Map.{Map}
+use Rattle.core_steps.specs.Desks.{IsJobOn, HasDecided}
+use Rattle.core_steps.proofs.collecting.settled_part.Given as goal
+
+-- none of the first workers has decided
+abbrev pub invariant-loop-number : goal.invariant-loop-number
+invariant-loop-number g l =
+    (m : Map g.row.K.Denot g.row.V.Denot) → IsJobOn g.K.Ord.cmp g.K.PathKey.path_of (g.B.Bulk.answers l.bulk) m l.desks
+    → (w : ℕ) → w < l.number → HasDecided g.K.Ord.cmp g.K.PathKey.path_of (g.B.Bulk.answers l.bulk) m (g.B.Bulk.decides l.bulk) l.desks w → ⊥
