@@ -32,7 +32,7 @@ pub(crate) struct Spot<'a, K, V> {
     pub(crate) to: u32,
 }
 
-impl<'a, K, V> Spot<'a, K, V> {
+impl<'a, K: Drop, V: Drop> Spot<'a, K, V> {
     /// The place of some of the branch's children.
     pub(crate) fn place(&self, from: u32, to: u32) -> Result<Place<K, V>, NoMemory>
         ensures branch { IfOk result (λ place. tree place.branch ≡ tree self.now.branch.now) }

@@ -1,13 +1,9 @@
 -- What a put does to a node where it stands.
-use Rattle.std.specs.Prelude.{◌≡◌, ℕ, Bool, true, false, Option, Some, option_map, is_some, ◌||◌}
+use Rattle.std.specs.Prelude.{◌≡◌, ℕ, Bool, true, false, Option, Some, is_some, ◌||◌}
 use Rattle.std.specs.declared.cmp.Ordering.{Ordering}
 use Rattle.std.specs.FinMap.{find}
-use Rattle.std.specs.Arc.{arc_value}
 use Rattle.trie_node.specs.Tree.{Tree, entries}
 use Rattle.trie_node.specs.Writes.{Writes}
-use Rattle.trie_node.specs.declared.put.Entry.{Entry}
-use Rattle.trie_node.specs.declared.put_in_place.Inside.{Inside}
-use Rattle.trie_node.specs.declared.put_in_place.Inside.TheVariants.{Done, Not}
 
 -- the old tree has become the new one by a put of k under a condition; previous is the value that k had
 pub record PutsIn {K V : Type 0} (R : K → K → Ordering) (path : K → ℕ) (level : ℕ) (stamp : ℕ) (k : K) (v : V) (holds : Option V → Bool) (old : Tree K V) (previous : Option V) (written : Bool) (new : Tree K V) : Type 0 where
@@ -15,11 +11,6 @@ pub record PutsIn {K V : Type 0} (R : K → K → Ordering) (path : K → ℕ) (
   pub written_is : written ≡ holds (find R k (entries old))
   pub writes : written ≡ true → Writes R path level stamp k (Some v) old new
   pub kept : written ≡ false → new ≡ old
-
--- the same behind a node's pointer, where the node may also have been left for others to replace
-abbrev pub PutsInside : {K V : Type 0} → (K → K → Ordering) → (K → ℕ) → ℕ → Entry K V → (Option V → Bool) → Tree K V → Inside K V → Tree K V → Type 0
-PutsInside R path level entry holds old (Done d) new = PutsIn R path level entry.stamp.0 entry.key.value entry.value.value holds old (option_map arc_value d.previous) d.written new
-PutsInside R path level entry holds old (Not e) new = (e ≡ entry) × (new ≡ old)
 
 -- whether a put in place may be refused: it takes place, or the key has a value, on which a handle is given
 abbrev pub is_refusable : {V : Type 0} → (Option V → Bool) → Option V → Bool

@@ -10,26 +10,18 @@ ghost use Rattle.trie_node.specs.Removals.{is_bucket, drawn_up};
 
 use crate::copies::{push_copies, with_child};
 use crate::no_memory::NoMemory;
-use crate::node::{Inner, Node, make_branch};
+use crate::node::{Branch, Node, make_branch};
 use crate::stamps::Stamp;
 use std::alloc::Global;
-
-/// A branch below one of whose children a pair is removed.
-#[derive(Drop)]
-pub(crate) struct OpenBranch<'a, K, V> {
-    pub size: u64,
-    pub bitmap: u32,
-    pub children: &'a [Node<K, V>],
-}
 
 /// Whether a node is a leaf or a bucket.
 pub(crate) fn is_pairs<K, V>(node: &Node<K, V>) -> bool
     ensures { result ≡ is_bucket (tree node.now) }
 {
-    match &*node.inner {
-        Inner::Branch { .. } => false,
-        Inner::Leaf { .. } => true,
-        Inner::Bucket { .. } => true,
+    match node {
+        Node::Branch { .. } => false,
+        Node::Leaf { .. } => true,
+        Node::Bucket { .. } => true,
     }
 }
 
@@ -38,14 +30,14 @@ pub(crate) fn is_pairs<K, V>(node: &Node<K, V>) -> bool
 pub(crate) fn with_rest<K: Drop, V: Drop>(
     alloc: Global,
     stamp: Stamp,
-    old: &OpenBranch<'_, K, V>,
+    old: &Branch<K, V>,
     at: usize,
     child: Node<K, V>,
     level: u32,
 ) -> Result<Node<K, V>, NoMemory>
-    requires at { at < length old.now.children.now }
+    requires at { at < length old.now.children.items }
     requires size { 0 < old.now.size }
-    ensures { IfOk result (λ n. tree n ≡ drawn_up level (branch stamp.0 (old.now.size - 1) old.now.bitmap (trees (set (map tree old.now.children.now) at (tree child))))) }
+    ensures { IfOk result (λ n. tree n ≡ drawn_up level (branch stamp.0 (old.now.size - 1) old.now.bitmap (trees (set (map tree old.now.children.items) at (tree child))))) }
 {
     if level > 0 && old.children.len() == 1 && is_pairs(&child) {
         return Ok(child);
@@ -55,7 +47,7 @@ pub(crate) fn with_rest<K: Drop, V: Drop>(
         stamp,
         old.size - 1,
         old.bitmap,
-        old.children,
+        old.children.as_slice(),
         at,
         child,
     )
@@ -65,18 +57,19 @@ pub(crate) fn with_rest<K: Drop, V: Drop>(
 fn without_child<K: Drop, V: Drop>(
     alloc: Global,
     stamp: Stamp,
-    old: &OpenBranch<'_, K, V>,
+    old: &Branch<K, V>,
     digit: u32,
     at: usize,
 ) -> Result<Node<K, V>, NoMemory>
     requires digit { digit < fan_out }
-    requires at { at < length old.now.children.now }
+    requires at { at < length old.now.children.items }
     requires size { 0 < old.now.size }
-    ensures { IfOk result (λ n. tree n ≡ branch stamp.0 (old.now.size - 1) (bit_and old.now.bitmap (bit_not w32 (1 * 2 ^ digit % 2 ^ 32))) (trees (remove (map tree old.now.children.now) at))) }
+    ensures { IfOk result (λ n. tree n ≡ branch stamp.0 (old.now.size - 1) (bit_and old.now.bitmap (bit_not w32 (1 * 2 ^ digit % 2 ^ 32))) (trees (remove (map tree old.now.children.items) at))) }
 {
-    let mut all = Vec::with_capacity(alloc, old.children.len() - 1)?;
-    push_copies(&mut all, &old.children[..at])?;
-    push_copies(&mut all, &old.children[at + 1..])?;
+    let children = old.children.as_slice();
+    let mut all = Vec::with_capacity(alloc, children.len() - 1)?;
+    push_copies(&mut all, &children[..at])?;
+    push_copies(&mut all, &children[at + 1..])?;
     make_branch(alloc, stamp, old.size - 1, old.bitmap & !(1 << digit), all)
 }
 
@@ -86,15 +79,15 @@ fn without_child<K: Drop, V: Drop>(
 pub(crate) fn without_rest<K: Drop, V: Drop>(
     alloc: Global,
     stamp: Stamp,
-    old: &OpenBranch<'_, K, V>,
+    old: &Branch<K, V>,
     digit: u32,
     at: usize,
     level: u32,
 ) -> Result<Node<K, V>, NoMemory>
     requires digit { digit < fan_out }
-    requires at { at < length old.now.children.now }
+    requires at { at < length old.now.children.items }
     requires size { 0 < old.now.size }
-    ensures { IfOk result (λ n. tree n ≡ drawn_up level (branch stamp.0 (old.now.size - 1) (bit_and old.now.bitmap (bit_not w32 (1 * 2 ^ digit % 2 ^ 32))) (trees (remove (map tree old.now.children.now) at)))) }
+    ensures { IfOk result (λ n. tree n ≡ drawn_up level (branch stamp.0 (old.now.size - 1) (bit_and old.now.bitmap (bit_not w32 (1 * 2 ^ digit % 2 ^ 32))) (trees (remove (map tree old.now.children.items) at)))) }
 {
     if level > 0 && old.children.len() == 2 {
         let other = &old.children[1 - at];

@@ -1,4 +1,4 @@
-//! A shared node.
+//! A node, and what it shares with its other handles.
 
 ghost use Rattle.std.specs.Prelude.{◌≡◌, IfOk, [], ◌∷◌, map};
 ghost use Rattle.trie_node.specs.Tree.{branch, bucket, trees};
@@ -12,41 +12,58 @@ use hash_path::PathKey;
 use std::alloc::Global;
 use std::sync::Arc;
 
-/// A shared handle on a node of a trie.
+/// A node of a trie, as it lies in its holder's place: a stamp and one pair, or a stamp and a shared
+/// handle on the children of a branch or on the pairs of a bucket.
+///
+/// A leaf costs no memory of its own: it stands among its branch's children.
 #[cycle(node)]
 #[derive(Drop)]
-pub struct Node<K, V> {
-    pub(crate) inner: Arc<Inner<K, V>, Global>,
-}
-
-/// What lies behind a node's pointer.
-#[cycle(node)]
-#[derive(Drop)]
-pub(crate) enum Inner<K, V> {
+pub enum Node<K, V> {
+    /// A branch: the stamp of the last write through it, and what it shares with its other handles.
     Branch {
         stamp: Stamp,
-        size: u64,
-        bitmap: u32,
-        children: Vec<Node<K, V>>,
+        below: Arc<Branch<K, V>, Global>,
     },
+    /// One pair.
     Leaf {
         stamp: Stamp,
         pair: (Arc<K, Global>, Arc<V, Global>),
     },
+    /// Several pairs whose keys have one path word, in the order of the keys.
     Bucket {
         stamp: Stamp,
-        pairs: Vec<(Arc<K, Global>, Arc<V, Global>)>,
+        pairs: Arc<Vec<(Arc<K, Global>, Arc<V, Global>)>, Global>,
     },
 }
 
-impl<K, V> Node<K, V> {
+/// What lies behind the pointer of a branch.
+#[cycle(node)]
+#[derive(Drop)]
+pub struct Branch<K, V> {
+    pub(crate) size: u64,
+    pub(crate) bitmap: u32,
+    pub(crate) children: Vec<Node<K, V>>,
+}
+
+impl<K: Drop, V: Drop> Node<K, V> {
     /// Another handle on the same node. No memory is requested, but the clone may be refused.
     pub fn try_clone(&self) -> Result<Node<K, V>, NoMemory>
         ensures { IfOk result (λ n. tree n ≡ tree self.now) }
     {
-        Ok(Node {
-            inner: Arc::try_clone(&self.inner)?,
-        })
+        match self {
+            Node::Branch { stamp, below } => Ok(Node::Branch {
+                stamp: *stamp,
+                below: Arc::try_clone(below)?,
+            }),
+            Node::Leaf { stamp, pair } => Ok(Node::Leaf {
+                stamp: *stamp,
+                pair: (Arc::try_clone(&pair.0)?, Arc::try_clone(&pair.1)?),
+            }),
+            Node::Bucket { stamp, pairs } => Ok(Node::Bucket {
+                stamp: *stamp,
+                pairs: Arc::try_clone(pairs)?,
+            }),
+        }
     }
 }
 
@@ -60,33 +77,29 @@ pub(crate) fn make_branch<K: Drop, V: Drop>(
 ) -> Result<Node<K, V>, NoMemory>
     ensures { IfOk result (λ n. tree n ≡ branch stamp.0 size bitmap (trees (map tree children.items))) }
 {
-    let inner = Inner::Branch {
-        stamp,
+    let branch = Branch {
         size,
         bitmap,
         children,
     };
-    Ok(Node {
-        inner: Arc::new(alloc, inner)?,
+    Ok(Node::Branch {
+        stamp,
+        below: Arc::new(alloc, branch)?,
     })
 }
 
 /// A leaf of one pair.
-pub(crate) fn make_leaf<K: Drop, V: Drop>(
-    alloc: Global,
+pub(crate) fn make_leaf<K, V>(
     stamp: Stamp,
     key: Arc<K, Global>,
     value: Arc<V, Global>,
-) -> Result<Node<K, V>, NoMemory>
-    ensures { IfOk result (λ n. tree n ≡ bucket stamp.0 ((key.value, value.value) ∷ [])) }
+) -> Node<K, V>
+    ensures { tree result ≡ bucket stamp.0 ((key.value, value.value) ∷ []) }
 {
-    let inner = Inner::Leaf {
+    Node::Leaf {
         stamp,
         pair: (key, value),
-    };
-    Ok(Node {
-        inner: Arc::new(alloc, inner)?,
-    })
+    }
 }
 
 /// A bucket of pairs of one word.
@@ -97,9 +110,9 @@ pub(crate) fn make_bucket<K: Drop, V: Drop>(
 ) -> Result<Node<K, V>, NoMemory>
     ensures { IfOk result (λ n. tree n ≡ bucket stamp.0 (map pair_values pairs.items)) }
 {
-    let inner = Inner::Bucket { stamp, pairs };
-    Ok(Node {
-        inner: Arc::new(alloc, inner)?,
+    Ok(Node::Bucket {
+        stamp,
+        pairs: Arc::new(alloc, pairs)?,
     })
 }
 

@@ -56,7 +56,8 @@ fn without_pair<K: Drop, V: Drop>(
 {
     if pairs.len() == 2 {
         let (key, value) = &pairs[1 - at];
-        return make_leaf(alloc, stamp, Arc::try_clone(key)?, Arc::try_clone(value)?);
+        let leaf = make_leaf(stamp, Arc::try_clone(key)?, Arc::try_clone(value)?);
+        return Ok(leaf);
     }
     let mut rest = Vec::with_capacity(alloc, pairs.len() - 1)?;
     push_pairs(&mut rest, &pairs[..at])?;

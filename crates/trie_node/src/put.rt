@@ -1,6 +1,6 @@
 //! Roots with a pair put.
 
-ghost use Rattle.std.specs.Prelude.{◌≡◌, ◌<◌, ◌≤◌, ◌+◌, ◌^◌, ◌%◌, ◌*◌, option_map, length, map, is_some, true, ◌≢◌, IfOk, OnErr, IfSome, Some, None, bit_or, [], ◌∷◌};
+ghost use Rattle.std.specs.Prelude.{ℕ, ◌≡◌, ◌<◌, ◌≤◌, ◌+◌, ◌^◌, ◌%◌, ◌*◌, option_map, length, map, is_some, true, ◌≢◌, IfOk, OnErr, IfSome, Some, None, bit_or, [], ◌∷◌};
 ghost use Rattle.std.specs.List.{insert};
 ghost use Rattle.std.specs.Int.RustNames.{count_ones};
 ghost use Rattle.std.specs.FinMap.{find as first_of};
@@ -8,7 +8,7 @@ ghost use Rattle.std.specs.FinMap.Entries.{put as put_in_order};
 ghost use Rattle.hash_path.specs.Digits.{digit_bits, fan_out};
 ghost use Rattle.trie_node.specs.Map.{value_at};
 ghost use Rattle.trie_node.specs.Tree.{IsTrie, KeysHaveWord, branch, bucket, trees, entries};
-ghost use Rattle.trie_node.specs.View.{tree, pair_values};
+ghost use Rattle.trie_node.specs.View.{tree, branch_of, pair_values};
 ghost use Rattle.trie_node.specs.Outline.{stamp_of};
 ghost use Rattle.trie_node.specs.Roots.{IsRoot, map_of};
 ghost use Rattle.trie_node.specs.Writes.{Writes, WritesWhere, KeysAgree};
@@ -18,7 +18,7 @@ use crate::bitmap::{has_digit, place};
 use crate::condition::{Always, Condition};
 use crate::copies::{with_child, with_more};
 use crate::no_memory::NoMemory;
-use crate::node::{Inner, Node, make_bucket, make_leaf};
+use crate::node::{Branch, Node, make_bucket, make_leaf};
 use crate::pairs::{find_pair, put_pair};
 use crate::reading::size as count;
 use crate::stamps::Stamp;
@@ -65,7 +65,7 @@ fn add_leaf<K: Drop, V: Drop>(
         stamp,
         ..
     } = entry;
-    let leaf = make_leaf(alloc, stamp, key, value)?;
+    let leaf = make_leaf(stamp, key, value);
     let at = place(bitmap, digit);
     with_more(
         alloc,
@@ -126,7 +126,7 @@ fn replace_value<K: PathKey + Drop, V: Drop>(
     ensures { IfOk result (λ n. tree n ≡ bucket entry.stamp.0 (put_in_order K.cmp entry.key.value entry.value.value (map pair_values pairs.now))) }
 {
     if pairs.len() == 1 {
-        make_leaf(alloc, entry.stamp, entry.key, entry.value)
+        Ok(make_leaf(entry.stamp, entry.key, entry.value))
     } else {
         put_in_bucket(alloc, pairs, entry)
     }
@@ -237,7 +237,52 @@ fn put_pairs<'a, K: PathKey + Drop, V: Drop, C: Condition<V>>(
     })
 }
 
-/// A put below a node that stands at the level. Only the nodes on the key's way are new.
+/// A put below a branch that stands at the level. Only the nodes on the key's way are new.
+#[cycle(put)]
+fn put_below<'a, K: PathKey + Drop, V: Drop, C: Condition<V>>(
+    alloc: Global,
+    below: &'a Branch<K, V>,
+    entry: Entry<K, V>,
+    level: u32,
+    condition: &C,
+) -> Result<Written<'a, K, V>, NoMemory>
+    requires trie { IsTrie K.cmp K.path_of level (branch_of 0 below.now) }
+    requires path { entry.path.0 ≡ K.path_of entry.key.value }
+    requires agree { KeysAgree K.cmp K.path_of level entry.path.0 (entries (branch_of 0 below.now)) }
+    requires room { length (entries (branch_of 0 below.now)) < 2 ^ 63 }
+    ensures due { OnErr result (C.holds condition.now (first_of K.cmp entry.key.value (entries (branch_of 0 below.now))) ≡ true) }
+    ensures ok { IfOk result (λ w. (before : ℕ) → WritesWhere K.cmp K.path_of level entry.stamp.0 entry.key.value (Some entry.value.value) (C.holds condition.now) (branch_of before below.now) (option_map (λ v. v.now.value) w.previous) (option_map tree w.root)) }
+{
+    let stamp = entry.stamp;
+    let bitmap = below.bitmap;
+    let digit = entry.path.digit(level);
+    if !has_digit(bitmap, digit) {
+        let children = below.children.as_slice();
+        return Ok(Written {
+            root: put_beside(alloc, below.size, bitmap, children, digit, entry, condition)?,
+            previous: None,
+        });
+    }
+    let at = place(bitmap, digit);
+    let old = &below.children[at];
+    let Written { root, previous } = put_at(alloc, old, entry, level + 1, condition)?;
+    let Some(child) = root else {
+        return Ok(Written {
+            root: None,
+            previous,
+        });
+    };
+    let size = below.size + count(&child) - count(old);
+    let children = below.children.as_slice();
+    let root = with_child(alloc, stamp, size, bitmap, children, at, child)?;
+    Ok(Written {
+        root: Some(root),
+        previous,
+    })
+}
+
+/// A put below a node that stands at the level.
+#[cycle(put)]
 pub(crate) fn put_at<'a, K: PathKey + Drop, V: Drop, C: Condition<V>>(
     alloc: Global,
     node: &'a Node<K, V>,
@@ -252,50 +297,12 @@ pub(crate) fn put_at<'a, K: PathKey + Drop, V: Drop, C: Condition<V>>(
     ensures due { OnErr result (C.holds condition.now (first_of K.cmp entry.key.value (entries (tree node.now))) ≡ true) }
     ensures ok { IfOk result (λ w. WritesWhere K.cmp K.path_of level entry.stamp.0 entry.key.value (Some entry.value.value) (C.holds condition.now) (tree node.now) (option_map (λ v. v.now.value) w.previous) (option_map tree w.root)) }
 {
-    match &*node.inner {
-        Inner::Branch {
-            bitmap,
-            children,
-            size: old_size,
-            ..
-        } => {
-            let stamp = entry.stamp;
-            let digit = entry.path.digit(level);
-            if !has_digit(*bitmap, digit) {
-                let all = children.as_slice();
-                return Ok(Written {
-                    root: put_beside(alloc, *old_size, *bitmap, all, digit, entry, condition)?,
-                    previous: None,
-                });
-            }
-            let at = place(*bitmap, digit);
-            let old = &children[at];
-            let Written { root, previous } = put_at(alloc, old, entry, level + 1, condition)?;
-            let Some(child) = root else {
-                return Ok(Written {
-                    root: None,
-                    previous,
-                });
-            };
-            let new_size = *old_size + count(&child) - count(old);
-            let root = with_child(
-                alloc,
-                stamp,
-                new_size,
-                *bitmap,
-                children.as_slice(),
-                at,
-                child,
-            )?;
-            Ok(Written {
-                root: Some(root),
-                previous,
-            })
-        }
-        Inner::Leaf { pair, .. } => {
+    match node {
+        Node::Branch { below, .. } => put_below(alloc, below, entry, level, condition),
+        Node::Leaf { pair, .. } => {
             put_pairs(alloc, node, slice::from_ref(pair), entry, level, condition)
         }
-        Inner::Bucket { pairs, .. } => {
+        Node::Bucket { pairs, .. } => {
             put_pairs(alloc, node, pairs.as_slice(), entry, level, condition)
         }
     }

@@ -7,15 +7,16 @@ ghost use Rattle.std.specs.FinMap.{find as first_of};
 ghost use Rattle.trie_node.specs.Roots.{IsRoot, map_of};
 ghost use Rattle.trie_node.specs.Map.{value_at};
 ghost use Rattle.trie_node.specs.Changes.{IsPut};
-ghost use Rattle.trie_node.specs.Tree.{IsTrie, entries, branch, bucket, trees};
-ghost use Rattle.trie_node.specs.View.{tree, tree_of, pair_values};
+ghost use Rattle.trie_node.specs.Tree.{IsTrie, entries, bucket};
+ghost use Rattle.trie_node.specs.View.{tree, branch_of, pair_values};
 ghost use Rattle.trie_node.specs.Writes.{KeysAgree};
-ghost use Rattle.trie_node.specs.PutInPlace.{PutsIn, PutsInside, is_refusable};
+ghost use Rattle.trie_node.specs.PutInPlace.{PutsIn, is_refusable};
+ghost use Rattle.std.specs.declared.cmp.Ordering.TheVariants.{Equal};
 
 use crate::bitmap::{has_digit, place};
 use crate::condition::{Always, Condition};
 use crate::no_memory::NoMemory;
-use crate::node::{Inner, Node, make_leaf};
+use crate::node::{Branch, Node, make_leaf};
 use crate::put::{Entry, Written, put_at};
 use crate::reading::size as count;
 use crate::stamps::Stamp;
@@ -32,15 +33,6 @@ pub struct Done<V> {
     pub previous: Option<Arc<V, Global>>,
     /// Whether the node was written.
     pub written: bool,
-}
-
-/// What a write behind a node's pointer came to.
-#[derive(Drop)]
-pub(crate) enum Inside<K, V> {
-    /// The write is done, or its condition failed.
-    Done(Done<V>),
-    /// Nothing was changed: the node itself has to give way to another.
-    Not(Entry<K, V>),
 }
 
 // Another handle on the value, where there is one.
@@ -72,13 +64,19 @@ pub(crate) fn put_in_at<K: PathKey + Drop, V: Drop, C: Condition<V>>(
     ensures due { OnErr result (is_refusable (C.holds condition.now) (first_of K.cmp entry.key.value (entries (tree node.old))) ≡ true) }
     ensures err { OnErr result (tree node.new ≡ tree node.old) }
 {
-    let entry = match Arc::get_mut(&mut node.inner) {
-        None => entry,
-        Some(inner) => match put_inside(alloc, inner, entry, level, condition)? {
-            Inside::Done(done) => return Ok(done),
-            Inside::Not(entry) => entry,
-        },
-    };
+    match node {
+        Node::Branch { stamp, below } => {
+            if let Some(below) = Arc::get_mut(below) {
+                return put_in_branch(alloc, stamp, below, entry, level, condition);
+            }
+        }
+        Node::Leaf { stamp, pair } => {
+            if entry.key.cmp(&pair.0) == Ordering::Equal {
+                return put_in_leaf(stamp, pair, entry, condition);
+            }
+        }
+        Node::Bucket { .. } => {}
+    }
     put_copied(alloc, node, entry, level, condition)
 }
 
@@ -132,7 +130,6 @@ fn holds_of<V, C: Condition<V>>(condition: &C, value: &Arc<V, Global>) -> bool
 
 /// Puts a leaf of the entry among the children of a branch, where none has the digit of its key.
 fn insert_leaf<K: Drop, V: Drop>(
-    alloc: Global,
     children: &mut Vec<Node<K, V>>,
     at: usize,
     entry: Entry<K, V>,
@@ -147,31 +144,28 @@ fn insert_leaf<K: Drop, V: Drop>(
         stamp,
         ..
     } = entry;
-    let leaf = make_leaf(alloc, stamp, key, value)?;
-    children.insert(at, leaf)?;
+    children.insert(at, make_leaf(stamp, key, value))?;
     Ok(())
 }
 
-/// A put into a leaf, where it stands if it has the key.
+/// A put into a leaf that has the key of the entry.
 fn put_in_leaf<K: PathKey + Drop, V: Drop, C: Condition<V>>(
     stamp: &mut Stamp,
     pair: &mut (Arc<K, Global>, Arc<V, Global>),
     entry: Entry<K, V>,
     condition: &C,
-) -> Result<Inside<K, V>, NoMemory>
-    ensures ok { IfOk result (λ r. (level : ℕ) → IsTrie K.cmp K.path_of level (bucket stamp.old.0 (pair_values pair.old ∷ [])) → PutsInside K.cmp K.path_of level entry (C.holds condition.now) (bucket stamp.old.0 (pair_values pair.old ∷ [])) r (bucket stamp.new.0 (pair_values pair.new ∷ []))) }
+) -> Result<Done<V>, NoMemory>
+    requires same { K.cmp entry.key.value pair.old.0.value ≡ Equal }
+    ensures ok { IfOk result (λ d. (level : ℕ) → IsTrie K.cmp K.path_of level (bucket stamp.old.0 (pair_values pair.old ∷ [])) → PutsIn K.cmp K.path_of level entry.stamp.0 entry.key.value entry.value.value (C.holds condition.now) (bucket stamp.old.0 (pair_values pair.old ∷ [])) (option_map arc_value d.previous) d.written (bucket stamp.new.0 (pair_values pair.new ∷ []))) }
     ensures due { OnErr result (is_some (first_of K.cmp entry.key.value (pair_values pair.old ∷ [])) ≡ true) }
     ensures err { OnErr result ((stamp.new ≡ stamp.old) × (pair.new ≡ pair.old)) }
 {
-    if entry.key.cmp(&pair.0) != Ordering::Equal {
-        return Ok(Inside::Not(entry));
-    }
     if !holds_of(condition, &pair.1) {
         let previous = Arc::try_clone(&pair.1)?;
-        return Ok(Inside::Done(Done {
+        return Ok(Done {
             previous: Some(previous),
             written: false,
-        }));
+        });
     }
     let Entry {
         key,
@@ -182,95 +176,58 @@ fn put_in_leaf<K: PathKey + Drop, V: Drop, C: Condition<V>>(
     *stamp = new_stamp;
     pair.0 = key;
     let previous = mem::replace(&mut pair.1, value);
-    Ok(Inside::Done(Done {
+    Ok(Done {
         previous: Some(previous),
         written: true,
-    }))
+    })
 }
 
-/// A put below a branch, from its parts.
+/// A put below a branch that nobody else holds.
 #[cycle(put_in)]
 fn put_in_branch<K: PathKey + Drop, V: Drop, C: Condition<V>>(
     alloc: Global,
     stamp: &mut Stamp,
-    size: &mut u64,
-    bitmap: &mut u32,
-    children: &mut Vec<Node<K, V>>,
+    below: &mut Branch<K, V>,
     entry: Entry<K, V>,
     level: u32,
     condition: &C,
 ) -> Result<Done<V>, NoMemory>
-    requires trie { IsTrie K.cmp K.path_of level (branch stamp.old.0 size.old bitmap.old (trees (map tree children.old.items))) }
+    requires trie { IsTrie K.cmp K.path_of level (branch_of stamp.old.0 below.old) }
     requires path { entry.path.0 ≡ K.path_of entry.key.value }
-    requires agree { KeysAgree K.cmp K.path_of level entry.path.0 (entries (branch stamp.old.0 size.old bitmap.old (trees (map tree children.old.items)))) }
-    requires room { length (entries (branch stamp.old.0 size.old bitmap.old (trees (map tree children.old.items)))) < 2 ^ 63 }
-    ensures ok { IfOk result (λ d. PutsIn K.cmp K.path_of level entry.stamp.0 entry.key.value entry.value.value (C.holds condition.now) (branch stamp.old.0 size.old bitmap.old (trees (map tree children.old.items))) (option_map arc_value d.previous) d.written (branch stamp.new.0 size.new bitmap.new (trees (map tree children.new.items)))) }
-    ensures due { OnErr result (is_refusable (C.holds condition.now) (first_of K.cmp entry.key.value (entries (branch stamp.old.0 size.old bitmap.old (trees (map tree children.old.items))))) ≡ true) }
-    ensures err { OnErr result (branch stamp.new.0 size.new bitmap.new (trees (map tree children.new.items)) ≡ branch stamp.old.0 size.old bitmap.old (trees (map tree children.old.items))) }
+    requires agree { KeysAgree K.cmp K.path_of level entry.path.0 (entries (branch_of stamp.old.0 below.old)) }
+    requires room { length (entries (branch_of stamp.old.0 below.old)) < 2 ^ 63 }
+    ensures ok { IfOk result (λ d. PutsIn K.cmp K.path_of level entry.stamp.0 entry.key.value entry.value.value (C.holds condition.now) (branch_of stamp.old.0 below.old) (option_map arc_value d.previous) d.written (branch_of stamp.new.0 below.new)) }
+    ensures due { OnErr result (is_refusable (C.holds condition.now) (first_of K.cmp entry.key.value (entries (branch_of stamp.old.0 below.old))) ≡ true) }
+    ensures err { OnErr result (branch_of stamp.new.0 below.new ≡ branch_of stamp.old.0 below.old) }
 {
     let new_stamp = entry.stamp;
     let digit = entry.path.digit(level);
-    let at = place(*bitmap, digit);
-    if !has_digit(*bitmap, digit) {
-        if !holds_of_absent(condition, children.as_slice()) {
+    let at = place(below.bitmap, digit);
+    if !has_digit(below.bitmap, digit) {
+        if !holds_of_absent(condition, below.children.as_slice()) {
             return Ok(Done {
                 previous: None,
                 written: false,
             });
         }
-        insert_leaf(alloc, children, at, entry)?;
-        *size += 1;
-        *bitmap |= 1 << digit;
+        insert_leaf(&mut below.children, at, entry)?;
+        below.size += 1;
+        below.bitmap |= 1 << digit;
         *stamp = new_stamp;
         return Ok(Done {
             previous: None,
             written: true,
         });
     }
-    let child = &mut children[at];
+    let child = &mut below.children[at];
     let before = count(child);
     let done = put_in_at(alloc, child, entry, level + 1, condition)?;
     if !done.written {
         return Ok(done);
     }
-    let after = count(child);
-    *size = *size + after - before;
+    below.size = below.size + count(child) - before;
     *stamp = new_stamp;
     Ok(done)
-}
-
-/// A put behind a node's pointer.
-#[cycle(put_in)]
-fn put_inside<K: PathKey + Drop, V: Drop, C: Condition<V>>(
-    alloc: Global,
-    inner: &mut Inner<K, V>,
-    entry: Entry<K, V>,
-    level: u32,
-    condition: &C,
-) -> Result<Inside<K, V>, NoMemory>
-    requires trie { IsTrie K.cmp K.path_of level (tree_of inner.old) }
-    requires path { entry.path.0 ≡ K.path_of entry.key.value }
-    requires agree { KeysAgree K.cmp K.path_of level entry.path.0 (entries (tree_of inner.old)) }
-    requires room { length (entries (tree_of inner.old)) < 2 ^ 63 }
-    ensures ok { IfOk result (λ r. PutsInside K.cmp K.path_of level entry (C.holds condition.now) (tree_of inner.old) r (tree_of inner.new)) }
-    ensures due { OnErr result (is_refusable (C.holds condition.now) (first_of K.cmp entry.key.value (entries (tree_of inner.old))) ≡ true) }
-    ensures err { OnErr result (tree_of inner.new ≡ tree_of inner.old) }
-{
-    match inner {
-        Inner::Branch {
-            stamp,
-            size,
-            bitmap,
-            children,
-        } => {
-            let done = put_in_branch(
-                alloc, stamp, size, bitmap, children, entry, level, condition,
-            )?;
-            Ok(Inside::Done(done))
-        }
-        Inner::Leaf { stamp, pair } => put_in_leaf(stamp, pair, entry, condition),
-        Inner::Bucket { .. } => Ok(Inside::Not(entry)),
-    }
 }
 
 /// Puts the value at the key, where the condition holds of the value that the key has. The root is

@@ -8,7 +8,7 @@ ghost use Rattle.trie_node.specs.Outline.{stamp_of, children};
 ghost use Rattle.trie_node.specs.Looks.{Shows};
 
 use crate::looks::Look;
-use crate::node::{Inner, Node};
+use crate::node::Node;
 use crate::stamps::Stamp;
 use std::slice;
 
@@ -16,10 +16,10 @@ use std::slice;
 pub fn size<K, V>(node: &Node<K, V>) -> u64
     ensures { Fits (tree node.now) → result ≡ length (entries (tree node.now)) }
 {
-    match &*node.inner {
-        Inner::Branch { size, .. } => *size,
-        Inner::Leaf { .. } => 1,
-        Inner::Bucket { pairs, .. } => pairs.len() as u64,
+    match node {
+        Node::Branch { below, .. } => below.size,
+        Node::Leaf { .. } => 1,
+        Node::Bucket { pairs, .. } => pairs.len() as u64,
     }
 }
 
@@ -27,10 +27,10 @@ pub fn size<K, V>(node: &Node<K, V>) -> u64
 pub fn stamp<K, V>(node: &Node<K, V>) -> Stamp
     ensures { result.0 ≡ stamp_of (tree node.now) }
 {
-    match &*node.inner {
-        Inner::Branch { stamp, .. } => *stamp,
-        Inner::Leaf { stamp, .. } => *stamp,
-        Inner::Bucket { stamp, .. } => *stamp,
+    match node {
+        Node::Branch { stamp, .. } => *stamp,
+        Node::Leaf { stamp, .. } => *stamp,
+        Node::Bucket { stamp, .. } => *stamp,
     }
 }
 
@@ -38,10 +38,10 @@ pub fn stamp<K, V>(node: &Node<K, V>) -> Stamp
 pub fn look<K, V>(node: &Node<K, V>) -> Look<'_, K, V>
     ensures { Shows result (tree node.now) }
 {
-    match &*node.inner {
-        Inner::Branch { bitmap, .. } => Look::Branch(*bitmap),
-        Inner::Leaf { pair, .. } => Look::Pairs(slice::from_ref(pair)),
-        Inner::Bucket { pairs, .. } => Look::Pairs(pairs.as_slice()),
+    match node {
+        Node::Branch { below, .. } => Look::Branch(below.bitmap),
+        Node::Leaf { pair, .. } => Look::Pairs(slice::from_ref(pair)),
+        Node::Bucket { pairs, .. } => Look::Pairs(pairs.as_slice()),
     }
 }
 
@@ -50,9 +50,9 @@ pub fn child<K, V>(node: &Node<K, V>, n: u32) -> &Node<K, V>
     requires { n < length (children (tree node.now)) }
     ensures { tree result.now ≡ get_or (children (tree node.now)) n (tree result.now) }
 {
-    match &*node.inner {
-        Inner::Branch { children, .. } => &children[n as usize],
-        Inner::Leaf { .. } => unreachable!(),
-        Inner::Bucket { .. } => unreachable!(),
+    match node {
+        Node::Branch { below, .. } => &below.children[n as usize],
+        Node::Leaf { .. } => unreachable!(),
+        Node::Bucket { .. } => unreachable!(),
     }
 }

@@ -1,9 +1,9 @@
 //! Roots with a pair removed.
 
-ghost use Rattle.std.specs.Prelude.{◌≡◌, ◌&&◌, option_map, is_some, IfOk, OnErr, IfSome, None, true};
+ghost use Rattle.std.specs.Prelude.{ℕ, ◌≡◌, ◌&&◌, option_map, is_some, IfOk, OnErr, IfSome, None, true};
 ghost use Rattle.trie_node.specs.Map.{value_at, without};
 ghost use Rattle.trie_node.specs.Tree.{IsTrie, entries};
-ghost use Rattle.trie_node.specs.View.{tree};
+ghost use Rattle.trie_node.specs.View.{tree, branch_of};
 ghost use Rattle.trie_node.specs.Roots.{IsRoot, map_of, word_of};
 ghost use Rattle.trie_node.specs.Shape.{nodes, Restamps};
 ghost use Rattle.trie_node.specs.Changes.{IsRemoval};
@@ -11,9 +11,9 @@ ghost use Rattle.trie_node.specs.Removals.{Removes, is_removable};
 
 use crate::bitmap::{has_digit, place};
 use crate::condition::{Always, Condition};
-use crate::contraction::{OpenBranch, with_rest, without_rest};
+use crate::contraction::{with_rest, without_rest};
 use crate::no_memory::NoMemory;
-use crate::node::{Inner, Node};
+use crate::node::{Branch, Node};
 use crate::pair_removal::take_pair;
 use crate::put::Written;
 use crate::removal_outcome::Removal;
@@ -22,8 +22,44 @@ use hash_path::{Path, PathKey};
 use std::alloc::Global;
 use std::slice;
 
+/// The removal of the key from a branch that stands at the level.
+#[cycle(removal)]
+fn remove_below<'a, K: PathKey + Drop, V: Drop, C: Condition<V>>(
+    alloc: Global,
+    below: &'a Branch<K, V>,
+    key: &K,
+    path: Path,
+    stamp: Stamp,
+    level: u32,
+    condition: &C,
+) -> Result<Removal<'a, K, V>, NoMemory>
+    requires path { path.0 ≡ K.path_of key.now }
+    requires trie { IsTrie K.cmp K.path_of level (branch_of 0 below.now) }
+    ensures due { OnErr result (is_removable K.cmp key.now (C.holds condition.now) (entries (branch_of 0 below.now)) ≡ true) }
+    ensures ok { IfOk result (λ r. (before : ℕ) → Removes K.cmp K.path_of level stamp.0 key.now (C.holds condition.now) (branch_of before below.now) r) }
+{
+    let digit = path.digit(level);
+    if !has_digit(below.bitmap, digit) {
+        return Ok(Removal::Nothing(None));
+    }
+    let at = place(below.bitmap, digit);
+    let child = &below.children[at];
+    match remove_at(alloc, child, key, path, stamp, level + 1, condition)? {
+        Removal::Nothing(found) => Ok(Removal::Nothing(found)),
+        Removal::Gone(value) => {
+            let rest = without_rest(alloc, stamp, below, digit, at, level)?;
+            Ok(Removal::Left(rest, value))
+        }
+        Removal::Left(child, value) => {
+            let rest = with_rest(alloc, stamp, below, at, child, level)?;
+            Ok(Removal::Left(rest, value))
+        }
+    }
+}
+
 /// The removal of the key from a node that stands at the level. Nodes are copied only where a pair
 /// is removed.
+#[cycle(removal)]
 pub(crate) fn remove_at<'a, K: PathKey + Drop, V: Drop, C: Condition<V>>(
     alloc: Global,
     node: &'a Node<K, V>,
@@ -38,37 +74,12 @@ pub(crate) fn remove_at<'a, K: PathKey + Drop, V: Drop, C: Condition<V>>(
     ensures due { OnErr result (is_removable K.cmp key.now (C.holds condition.now) (entries (tree node.now)) ≡ true) }
     ensures ok { IfOk result (λ r. Removes K.cmp K.path_of level stamp.0 key.now (C.holds condition.now) (tree node.now) r) }
 {
-    match &*node.inner {
-        Inner::Branch {
-            size,
-            bitmap,
-            children,
-            ..
-        } => {
-            let digit = path.digit(level);
-            if !has_digit(*bitmap, digit) {
-                return Ok(Removal::Nothing(None));
-            }
-            let at = place(*bitmap, digit);
-            let old = OpenBranch {
-                size: *size,
-                bitmap: *bitmap,
-                children: children.as_slice(),
-            };
-            match remove_at(alloc, &children[at], key, path, stamp, level + 1, condition)? {
-                Removal::Nothing(found) => Ok(Removal::Nothing(found)),
-                Removal::Gone(value) => {
-                    let rest = without_rest(alloc, stamp, &old, digit, at, level)?;
-                    Ok(Removal::Left(rest, value))
-                }
-                Removal::Left(child, value) => {
-                    let rest = with_rest(alloc, stamp, &old, at, child, level)?;
-                    Ok(Removal::Left(rest, value))
-                }
-            }
+    match node {
+        Node::Branch { below, .. } => {
+            remove_below(alloc, below, key, path, stamp, level, condition)
         }
-        Inner::Leaf { pair, .. } => take_pair(alloc, slice::from_ref(pair), key, stamp, condition),
-        Inner::Bucket { pairs, .. } => take_pair(alloc, pairs.as_slice(), key, stamp, condition),
+        Node::Leaf { pair, .. } => take_pair(alloc, slice::from_ref(pair), key, stamp, condition),
+        Node::Bucket { pairs, .. } => take_pair(alloc, pairs.as_slice(), key, stamp, condition),
     }
 }
 

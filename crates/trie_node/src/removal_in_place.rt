@@ -1,21 +1,21 @@
 //! A pair removed below a node, where it stands as far as nobody else holds it.
 
-ghost use Rattle.std.specs.Prelude.{◌≡◌, ◌&&◌, option_map, is_some, map, None, IfOk, OnOk, OnErr, true, false};
+ghost use Rattle.std.specs.Prelude.{◌≡◌, ◌&&◌, option_map, is_some, None, IfOk, OnOk, OnErr, true, false};
 ghost use Rattle.std.specs.Arc.{arc_value};
 ghost use Rattle.std.specs.FinMap.{find as first_of};
 ghost use Rattle.trie_node.specs.Shape.{nodes, Restamps};
 ghost use Rattle.trie_node.specs.Roots.{IsRoot, map_of, word_of};
 ghost use Rattle.trie_node.specs.Map.{value_at, without};
 ghost use Rattle.trie_node.specs.Changes.{IsRemoval};
-ghost use Rattle.trie_node.specs.Tree.{IsTrie, branch, trees, entries};
-ghost use Rattle.trie_node.specs.View.{tree, tree_of};
+ghost use Rattle.trie_node.specs.Tree.{IsTrie, entries};
+ghost use Rattle.trie_node.specs.View.{tree, branch_of};
 ghost use Rattle.trie_node.specs.RemovalInPlace.{TakesOut, TakesInside};
 
 use crate::bitmap::{has_digit, place};
 use crate::branch_in_place::{count_out, lose_child};
 use crate::condition::{Always, Condition};
 use crate::no_memory::NoMemory;
-use crate::node::{Inner, Node};
+use crate::node::{Branch, Node};
 use crate::put_in_place::{Done, shared};
 use crate::removal::remove_at;
 use crate::removal_outcome::Removal;
@@ -35,15 +35,13 @@ pub(crate) enum RemovedIn<V> {
     Left(Arc<V, Global>),
 }
 
-/// What a removal behind a node's pointer came to.
+/// What a removal below a branch came to.
 #[derive(Drop)]
 pub(crate) enum TakenInside<K, V> {
     /// The removal is done.
     Done(RemovedIn<V>),
-    /// This node is to take the place of the one that was behind the pointer.
+    /// This node is to take the branch's place.
     GivesWay(Node<K, V>, Arc<V, Global>),
-    /// Nothing was changed: the removal goes by copies.
-    Not,
 }
 
 /// The removal of the key from a node that stands at the level: where it stands as far as nobody
@@ -64,16 +62,18 @@ pub(crate) fn remove_in_at<K: PathKey + Drop, V: Drop, C: Condition<V>>(
     ensures due { OnErr result (is_some (first_of K.cmp key.now (entries (tree node.old))) ≡ true) }
     ensures err { OnErr result (tree node.new ≡ tree node.old) }
 {
-    match Arc::get_mut(&mut node.inner) {
-        None => {}
-        Some(inner) => {
-            match remove_inside(alloc, inner, key, path, stamp, level, condition)? {
+    if let Node::Branch {
+        stamp: old_stamp,
+        below,
+    } = node
+    {
+        if let Some(below) = Arc::get_mut(below) {
+            match remove_in_branch(alloc, old_stamp, below, key, path, stamp, level, condition)? {
                 TakenInside::Done(removed) => return Ok(removed),
                 TakenInside::GivesWay(rest, value) => {
                     *node = rest;
                     return Ok(RemovedIn::Left(value));
                 }
-                TakenInside::Not => {}
             }
         }
     }
@@ -107,14 +107,12 @@ fn remove_copied<K: PathKey + Drop, V: Drop, C: Condition<V>>(
     }
 }
 
-/// The removal of the key from a branch, from its parts.
+/// The removal of the key from a branch that nobody else holds.
 #[cycle(remove_in)]
 fn remove_in_branch<K: PathKey + Drop, V: Drop, C: Condition<V>>(
     alloc: Global,
     stamp: &mut Stamp,
-    size: &mut u64,
-    bitmap: &mut u32,
-    children: &mut Vec<Node<K, V>>,
+    below: &mut Branch<K, V>,
     key: &K,
     path: Path,
     new_stamp: Stamp,
@@ -122,69 +120,29 @@ fn remove_in_branch<K: PathKey + Drop, V: Drop, C: Condition<V>>(
     condition: &C,
 ) -> Result<TakenInside<K, V>, NoMemory>
     requires path { path.0 ≡ K.path_of key.now }
-    requires trie { IsTrie K.cmp K.path_of level (branch stamp.old.0 size.old bitmap.old (trees (map tree children.old.items))) }
-    ensures ok { IfOk result (λ r. TakesInside K.cmp K.path_of level new_stamp.0 key.now (C.holds condition.now) (branch stamp.old.0 size.old bitmap.old (trees (map tree children.old.items))) r (branch stamp.new.0 size.new bitmap.new (trees (map tree children.new.items)))) }
-    ensures due { OnErr result (is_some (first_of K.cmp key.now (entries (branch stamp.old.0 size.old bitmap.old (trees (map tree children.old.items))))) ≡ true) }
-    ensures err { OnErr result (branch stamp.new.0 size.new bitmap.new (trees (map tree children.new.items)) ≡ branch stamp.old.0 size.old bitmap.old (trees (map tree children.old.items))) }
+    requires trie { IsTrie K.cmp K.path_of level (branch_of stamp.old.0 below.old) }
+    ensures ok { IfOk result (λ r. TakesInside K.cmp K.path_of level new_stamp.0 key.now (C.holds condition.now) (branch_of stamp.old.0 below.old) r (branch_of stamp.new.0 below.new)) }
+    ensures due { OnErr result (is_some (first_of K.cmp key.now (entries (branch_of stamp.old.0 below.old))) ≡ true) }
+    ensures err { OnErr result (branch_of stamp.new.0 below.new ≡ branch_of stamp.old.0 below.old) }
 {
     let digit = path.digit(level);
-    if !has_digit(*bitmap, digit) {
+    if !has_digit(below.bitmap, digit) {
         return Ok(TakenInside::Done(RemovedIn::Nothing(None)));
     }
-    let at = place(*bitmap, digit);
-    match remove_in_at(
-        alloc,
-        &mut children[at],
-        key,
-        path,
-        new_stamp,
-        level + 1,
-        condition,
-    )? {
+    let at = place(below.bitmap, digit);
+    let child = &mut below.children[at];
+    match remove_in_at(alloc, child, key, path, new_stamp, level + 1, condition)? {
         RemovedIn::Nothing(found) => Ok(TakenInside::Done(RemovedIn::Nothing(found))),
         RemovedIn::Gone(value) => {
-            match lose_child(stamp, size, bitmap, children, digit, at, new_stamp, level) {
+            match lose_child(stamp, below, digit, at, new_stamp, level) {
                 Some(rest) => Ok(TakenInside::GivesWay(rest, value)),
                 None => Ok(TakenInside::Done(RemovedIn::Left(value))),
             }
         }
-        RemovedIn::Left(value) => {
-            match count_out(stamp, size, *bitmap, children, new_stamp, level) {
-                Some(rest) => Ok(TakenInside::GivesWay(rest, value)),
-                None => Ok(TakenInside::Done(RemovedIn::Left(value))),
-            }
-        }
-    }
-}
-
-/// The removal of the key behind a node's pointer.
-#[cycle(remove_in)]
-fn remove_inside<K: PathKey + Drop, V: Drop, C: Condition<V>>(
-    alloc: Global,
-    inner: &mut Inner<K, V>,
-    key: &K,
-    path: Path,
-    new_stamp: Stamp,
-    level: u32,
-    condition: &C,
-) -> Result<TakenInside<K, V>, NoMemory>
-    requires path { path.0 ≡ K.path_of key.now }
-    requires trie { IsTrie K.cmp K.path_of level (tree_of inner.old) }
-    ensures ok { IfOk result (λ r. TakesInside K.cmp K.path_of level new_stamp.0 key.now (C.holds condition.now) (tree_of inner.old) r (tree_of inner.new)) }
-    ensures due { OnErr result (is_some (first_of K.cmp key.now (entries (tree_of inner.old))) ≡ true) }
-    ensures err { OnErr result (tree_of inner.new ≡ tree_of inner.old) }
-{
-    match inner {
-        Inner::Branch {
-            stamp,
-            size,
-            bitmap,
-            children,
-        } => remove_in_branch(
-            alloc, stamp, size, bitmap, children, key, path, new_stamp, level, condition,
-        ),
-        Inner::Leaf { .. } => Ok(TakenInside::Not),
-        Inner::Bucket { .. } => Ok(TakenInside::Not),
+        RemovedIn::Left(value) => match count_out(stamp, below, new_stamp, level) {
+            Some(rest) => Ok(TakenInside::GivesWay(rest, value)),
+            None => Ok(TakenInside::Done(RemovedIn::Left(value))),
+        },
     }
 }
 

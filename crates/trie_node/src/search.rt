@@ -4,18 +4,39 @@ ghost use Rattle.std.specs.Prelude.{◌≡◌, option_map};
 ghost use Rattle.std.specs.FinMap.{find as first_of};
 ghost use Rattle.trie_node.specs.Map.{value_at};
 ghost use Rattle.trie_node.specs.Tree.{IsTrie, entries};
-ghost use Rattle.trie_node.specs.View.{tree};
+ghost use Rattle.trie_node.specs.View.{tree, branch_of};
 ghost use Rattle.trie_node.specs.Roots.{IsRoot, map_of};
 
 use crate::bitmap::{has_digit, place};
-use crate::node::{Inner, Node};
+use crate::node::{Branch, Node};
 use crate::pairs::find_pair;
 use hash_path::{Path, PathKey};
 use std::alloc::Global;
 use std::slice;
 use std::sync::Arc;
 
+/// The value of the key below a branch that stands at the level.
+#[cycle(find)]
+fn find_below<'a, K: PathKey, V>(
+    below: &'a Branch<K, V>,
+    key: &K,
+    path: Path,
+    level: u32,
+) -> Option<&'a Arc<V, Global>>
+    requires path { path.0 ≡ K.path_of key.now }
+    requires trie { IsTrie K.cmp K.path_of level (branch_of 0 below.now) }
+    ensures { option_map (λ v. v.now.value) result ≡ first_of K.cmp key.now (entries (branch_of 0 below.now)) }
+{
+    let digit = path.digit(level);
+    if !has_digit(below.bitmap, digit) {
+        return None;
+    }
+    let at = place(below.bitmap, digit);
+    find_at(&below.children[at], key, path, level + 1)
+}
+
 /// The value of the key below a node that stands at the level.
+#[cycle(find)]
 fn find_at<'a, K: PathKey, V>(
     node: &'a Node<K, V>,
     key: &K,
@@ -26,20 +47,10 @@ fn find_at<'a, K: PathKey, V>(
     requires trie { IsTrie K.cmp K.path_of level (tree node.now) }
     ensures { option_map (λ v. v.now.value) result ≡ first_of K.cmp key.now (entries (tree node.now)) }
 {
-    match &*node.inner {
-        Inner::Branch {
-            bitmap,
-            children,
-            ..
-        } => {
-            let digit = path.digit(level);
-            if !has_digit(*bitmap, digit) {
-                return None;
-            }
-            find_at(&children[place(*bitmap, digit)], key, path, level + 1)
-        }
-        Inner::Leaf { pair, .. } => find_pair(slice::from_ref(pair), key),
-        Inner::Bucket { pairs, .. } => find_pair(pairs.as_slice(), key),
+    match node {
+        Node::Branch { below, .. } => find_below(below, key, path, level),
+        Node::Leaf { pair, .. } => find_pair(slice::from_ref(pair), key),
+        Node::Bucket { pairs, .. } => find_pair(pairs.as_slice(), key),
     }
 }
 

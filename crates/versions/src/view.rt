@@ -69,7 +69,9 @@ impl<K: PathKey, V> View<K, V> {
     {
         &self.root
     }
+}
 
+impl<K: PathKey + Drop, V: Drop> View<K, V> {
     /// Another handle on the same view. It makes no request for memory, but the clone may be refused.
     pub fn try_clone(&self) -> Result<View<K, V>, NoMemory>
         ensures { IfOk result (λ view. view ≡ self.now) }

@@ -14,17 +14,18 @@ use versions::Version;
 // A map of the tests.
 type Map = Version<ChosenKey, i64>;
 
-// The bytes of a node, of room for the first children of a branch, and of a value.
-const SIZES: [usize; 3] = [64, 32, 16];
+// The bytes of room for the first children of a branch and for two, of a branch, of room for one
+// child, and of a value.
+const SIZES: [usize; 5] = [128, 64, 48, 32, 16];
 
 // How many blocks are given back at most.
-const MOST_GIVEN: usize = 36;
+const MOST_GIVEN: usize = 60;
 
 // Blocks of each size in turn. Each that is dropped is room for one request of its size.
 fn spare(alloc: Global) -> Result<Vec<Vec<u8>>, AllocError> {
     let mut blocks = Vec::with_capacity(alloc, MOST_GIVEN)?;
     for number in 0..MOST_GIVEN {
-        blocks.push(Vec::with_capacity(alloc, SIZES[number % 3])?)?;
+        blocks.push(Vec::with_capacity(alloc, SIZES[number % 5])?)?;
     }
     Ok(blocks)
 }

@@ -1,7 +1,7 @@
 //! Writes where a root stands: with memory refused, over nodes that others hold, and at the widest
 //! branch and a long bucket.
 
-use super::memory::{CHILDREN, MOST_GIVEN, NODE, assert_same, spare_blocks, take_all};
+use super::memory::{MOST_GIVEN, ONE, TWO, assert_same, spare_blocks, take_all};
 use super::random::{KEYS, Random, WORDS, assert_holds, in_walk_order};
 use super::{Trie, branch, key, pairs, put_in, trie_of};
 use crate::held::Held;
@@ -50,7 +50,7 @@ fn assert_put_takes(
     for given in 0..MOST_GIVEN {
         let at = Arc::new(alloc, Q)?;
         let value = Arc::new(alloc, 3)?;
-        let mut spare = spare_blocks(alloc, NODE, CHILDREN)?;
+        let mut spare = spare_blocks(alloc, TWO)?;
         let taken = take_all(alloc)?;
         for _ in 0..given {
             let _ = spare.pop();
@@ -68,8 +68,8 @@ fn assert_put_takes(
     Ok(())
 }
 
-// A leaf gives way to six branches and two leaves, of which one is new: thirteen requests. Where
-// another holds the root, that is copied too: two more.
+// A leaf gives way to six branches, of which the lowest has it and a new leaf: twelve requests.
+// Where another holds the root, that is copied too: two more.
 #[test]
 fn refused_puts_leave_the_root_as_it_stands(rt: HostRuntime) -> Result<(), Fail> {
     let alloc = rt.alloc();
@@ -77,11 +77,11 @@ fn refused_puts_leave_the_root_as_it_stands(rt: HostRuntime) -> Result<(), Fail>
     let mut shared = sole.try_clone()?;
     let other = shared.try_clone()?;
     let before = outline_of(alloc, other.root())?;
-    assert_put_takes(&rt, alloc, &mut shared, 15)?;
+    assert_put_takes(&rt, alloc, &mut shared, 14)?;
     assert_same(&rt, alloc, &other, &before)?;
     drop(other);
     drop(shared);
-    assert_put_takes(&rt, alloc, &mut sole, 13)
+    assert_put_takes(&rt, alloc, &mut sole, 12)
 }
 
 // A removal from a root that another holds copies seven branches.
@@ -92,7 +92,7 @@ fn refused_removals_leave_the_root_as_it_stands(rt: HostRuntime) -> Result<(), F
     let other = trie.try_clone()?;
     let before = outline_of(alloc, trie.root())?;
     for given in 0..MOST_GIVEN {
-        let mut spare = spare_blocks(alloc, CHILDREN, NODE)?;
+        let mut spare = spare_blocks(alloc, ONE)?;
         let taken = take_all(alloc)?;
         for _ in 0..given {
             let _ = spare.pop();

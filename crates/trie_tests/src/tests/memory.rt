@@ -44,24 +44,24 @@ pub(super) fn take_all(alloc: Global) -> Result<Vec<Vec<u8>>, AllocError> {
     Ok(taken)
 }
 
-// How many blocks are given back at most.
-pub(super) const MOST_GIVEN: usize = 24;
+// More blocks than are given back.
+pub(super) const MOST_GIVEN: usize = 16;
 
-// A block for a node, and one for the children of a branch.
-pub(super) const NODE: usize = 64;
+// The bytes of a branch, and of the room for one child and for two.
+pub(super) const BRANCH: usize = 48;
 
-pub(super) const CHILDREN: usize = 16;
+pub(super) const ONE: usize = 32;
 
-// Blocks of the two sizes in turn. The last is of the first size.
-pub(super) fn spare_blocks(
-    alloc: Global,
-    first: usize,
-    second: usize,
-) -> Result<Vec<Vec<u8>>, AllocError> {
+pub(super) const TWO: usize = 64;
+
+// Blocks for copies of the seven branches of a way that ends at two leaves, where the root has room
+// for its children in so many bytes. They are asked for from the last: each branch's children and
+// then the branch, from the lowest branch up.
+pub(super) fn spare_blocks(alloc: Global, root: usize) -> Result<Vec<Vec<u8>>, AllocError> {
     let mut blocks = Vec::with_capacity(alloc, MOST_GIVEN)?;
-    for _ in 0..MOST_GIVEN / 2 {
-        blocks.push(Vec::with_capacity(alloc, second)?)?;
-        blocks.push(Vec::with_capacity(alloc, first)?)?;
+    for children in [root, ONE, ONE, ONE, ONE, ONE, TWO] {
+        blocks.push(Vec::with_capacity(alloc, BRANCH)?)?;
+        blocks.push(Vec::with_capacity(alloc, children)?)?;
     }
     Ok(blocks)
 }
@@ -80,7 +80,7 @@ pub(super) fn assert_same(
     Ok(())
 }
 
-// A put that makes a leaf and copies seven branches: one request for the leaf, two for a branch.
+// A put that makes a leaf and copies seven branches: two requests for a branch, and none for the leaf.
 #[test]
 fn refused_puts_leave_the_root(rt: HostRuntime) -> Result<(), Fail> {
     let alloc = rt.alloc();
@@ -90,7 +90,7 @@ fn refused_puts_leave_the_root(rt: HostRuntime) -> Result<(), Fail> {
     for given in 0..MOST_GIVEN {
         let at = Arc::new(alloc, q)?;
         let value = Arc::new(alloc, 3)?;
-        let mut spare = spare_blocks(alloc, NODE, CHILDREN)?;
+        let mut spare = spare_blocks(alloc, TWO)?;
         let taken = take_all(alloc)?;
         for _ in 0..given {
             let _ = spare.pop();
@@ -99,7 +99,7 @@ fn refused_puts_leave_the_root(rt: HostRuntime) -> Result<(), Fail> {
         drop(taken);
         assert_same(&rt, alloc, &trie, &before)?;
         if let Ok(written) = answer {
-            assert_eq!(rt; given, 15);
+            assert_eq!(rt; given, 14);
             assert_eq!(rt; written.find(&q).map(|v| **v), Some(3));
             return Ok(());
         }
@@ -116,7 +116,7 @@ fn refused_removals_leave_the_root(rt: HostRuntime) -> Result<(), Fail> {
     let trie = trie_of(alloc, &[(p, 1), (q, 2), (key(0x8000_0000, 0), 3)])?;
     let before = outline_of(alloc, trie.root())?;
     for given in 0..MOST_GIVEN {
-        let mut spare = spare_blocks(alloc, CHILDREN, NODE)?;
+        let mut spare = spare_blocks(alloc, ONE)?;
         let taken = take_all(alloc)?;
         for _ in 0..given {
             let _ = spare.pop();

@@ -1,6 +1,6 @@
 ghost use Rattle.std.specs.Prelude.{◌<◌};
 
-use super::memory::{NODE, assert_same};
+use super::memory::{BRANCH, assert_same};
 use super::random::{KEYS, Random, WORDS, assert_holds, in_walk_order};
 use super::{Trie, branch, key, pairs, put, trie_of};
 use crate::held::Held;
@@ -158,7 +158,7 @@ fn bytes_of(children: usize) -> usize
 // the root down, and each branch, from below.
 fn requested(alloc: Global) -> Result<Vec<Vec<u8>>, AllocError> {
     let mut blocks = Vec::new(alloc);
-    for size in [NODE, NODE, bytes_of(4), bytes_of(1)] {
+    for size in [BRANCH, BRANCH, bytes_of(4), bytes_of(1)] {
         blocks.push(Vec::with_capacity(alloc, size)?)?;
     }
     Ok(blocks)

@@ -17,12 +17,12 @@ pub returns-clause-stays : goal.returns-clause-stays
 returns-clause-stays g c =
     let a = c.args in
     let s = a.new_stamp.0 in
-    let size = a.size.now - 1 in
-    let narrower = bit_and a.bitmap.now (bit_not w32 (1 * 2 ^ a.digit % 2 ^ 32)) in
-    let items = a.children.now.items in
+    let size = a.below.now.size - 1 in
+    let narrower = bit_and a.below.now.bitmap (bit_not w32 (1 * 2 ^ a.digit % 2 ^ 32)) in
+    let items = a.below.now.children.items in
     let ts = remove (map tree items) a.at in
     let long = length-map items tree in
-    let vec = a.children.now.ok.0 in
+    let vec = a.below.now.children.ok.0 in
     let shorter = length-remove (map tree items) a.at (omega (arith, long, c.requires.at)) in
     let kept : drawn_up a.level (branch s size narrower (trees ts)) ≡ branch s size narrower (trees ts) =
     elim c.if-level-gt0.branch [

@@ -1,7 +1,7 @@
-use Rattle.std.proofs.Common.{◌≡◌, map, length, sym, subst, ◌∙◌, IfOk}
+use Rattle.std.proofs.Common.{◌≡◌, map, length, sym, ap, ◌∙◌}
 use Rattle.std.proofs.lemmas.List.{length-map}
 use Rattle.trie_node.specs.Tree.{bucket}
-use Rattle.trie_node.specs.View.{tree, pair_values}
+use Rattle.trie_node.specs.View.{pair_values}
 use Rattle.trie_node.proofs.Words.{put_only}
 use Rattle.trie_node.proofs.put.replace_value.Goals as goal
 
@@ -10,4 +10,4 @@ returns-then-pairs-eq1 g c =
     let a = c.args in
     let one : length (map pair_values a.pairs.now) ≡ 1 = length-map a.pairs.now pair_values ∙ c.if-pairs-eq1.true in
     let same = put_only g.K.Ord.cmp g.K.PathKey.path_of g.met.K.Ord.total g.met.K.PathKey.exact a.entry.key.value a.entry.value.value (map pair_values a.pairs.now) one c.requires.present in
-    subst (λ es. IfOk c.make_leaf.result (λ n. tree n ≡ bucket a.entry.stamp.0 es)) (sym same) c.make_leaf.ensures
+    c.make_leaf.ensures ∙ ap (bucket a.entry.stamp.0) (sym same)

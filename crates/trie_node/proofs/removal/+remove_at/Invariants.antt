@@ -1,5 +1,0 @@
-use Rattle.std.proofs.Common.{◌-◌}
-use Rattle.trie_node.proofs.removal.+remove_at.Given as goal
-
-abbrev pub decreases-remove_at : goal.decreases-remove_at
-decreases-remove_at g l = 7 - l.level
