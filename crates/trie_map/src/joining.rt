@@ -1,8 +1,9 @@
 //! The pairs of all stripes together.
-ghost use Rattle.std.specs.Prelude.{◌≡◌, ◌≤◌, ◌*◌, IfOk, length};
+ghost use Rattle.std.specs.Prelude.{◌≡◌, ◌≤◌, ◌+◌, ◌*◌, IfOk, length};
 ghost use Rattle.hash_path.specs.Digits.{fan_out};
 ghost use Rattle.trie_map.specs.Rules.{AllKeep};
 ghost use Rattle.trie_map.specs.Stripes.{maps_of, unions};
+ghost use Rattle.versions.specs.Map.{union};
 ghost use Rattle.versions.specs.declared.version.TheConstants.{MOST_PAIRS};
 
 use crate::keeps::Keeps;
@@ -37,5 +38,19 @@ pub fn joined<K: PathKey + Drop, V: Drop, P: Keeps<K, V>>(
     let left = first.widened()?;
     let right = joined(alloc, rest)?;
     right.len();
+    put_together(alloc, left, right)
+}
+
+// The union of two maps, which are let go here: `joined` has less to prove where it drops none of them.
+fn put_together<K: PathKey + Drop, V: Drop>(
+    alloc: Global,
+    left: Version<K, V>,
+    right: Version<K, V>,
+) -> Result<Version<K, V>, NoMemory>
+    requires limits { left.limit ≡ right.limit }
+    requires room { length left.entries + length right.entries ≤ left.limit }
+    ensures entries { IfOk result (λ map. map.entries ≡ union K.cmp left.entries right.entries) }
+    ensures limit { IfOk result (λ map. map.limit ≡ left.limit) }
+{
     merge(alloc, &left, &right)
 }
