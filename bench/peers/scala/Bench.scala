@@ -20,6 +20,25 @@ object Bench {
     System.nanoTime - start
   }
 
+  // how many calls a round of the mixed load makes, over all its threads
+  val calls = 400000
+
+  // the calls of one thread: keys by xorshift, the first of ten calls a put
+  def mixed(map: TrieMap[String, Long], keys: Array[String], calls: Int, thread: Int): Long = {
+    var state = thread + 1L
+    var sum = 0L
+    var call = 0
+    while (call < calls) {
+      state ^= state << 13
+      state ^= state >>> 7
+      state ^= state << 17
+      val place = java.lang.Long.remainderUnsigned(state, keys.length.toLong).toInt
+      if (call % 10 == 0) map.put(keys(place), place.toLong) else sum += map(keys(place))
+      call += 1
+    }
+    sum
+  }
+
   def main(args: Array[String]): Unit = {
     val n = args(0).toInt
     val rounds = args(1).toInt
@@ -57,6 +76,26 @@ object Bench {
       show("map_values", threads, best(rounds)(timed(par.map { case (k, v) => (k, v + 1) })))
       pool.shutdown()
     }
+    // nine gets for each put, over all threads
+    for (threads <- Seq(1, 2, 4)) {
+      val shared = filled
+      show("mixed", threads, best(rounds)(timed {
+        val workers = (0 until threads).map { t => new Thread(new Runnable { def run(): Unit = mixed(shared, keys, calls / threads, t) }) }
+        workers.foreach(_.start())
+        workers.foreach(_.join())
+      }) / calls)
+    }
+    // the median of read-only snapshots while four threads write
+    val written = filled
+    @volatile var over = false
+    val writers = (0 until 4).map { t =>
+      new Thread(new Runnable { def run(): Unit = { var seed = t; while (!over) { mixed(written, keys, 100, seed); seed += 4 } } })
+    }
+    writers.foreach(_.start())
+    val times = Array.fill(1001)(timed(written.readOnlySnapshot()))
+    over = true
+    writers.foreach(_.join())
+    show("view_under_writes", 4, times.sorted.apply(500))
     show("remove", 1, best(rounds) { val m = filled; timed { var i = 0; while (i < n) { m.remove(keys(i)); i += 1 } } })
   }
 }

@@ -1,5 +1,6 @@
 //! Times a map of byte-text keys: filling, reading in order and at random, replacing, the same on a heap that dropped
-//! maps have left, walking and cutting it, questions about all its pairs, merging, snapshots and emptying it; and tells the memory of a pair.
+//! maps have left, walking and cutting it, questions about all its pairs, merging, snapshots and emptying it, calls of
+//! several threads on one map; and tells the memory of a pair.
 //!
 //! `trie_bench [PAIRS [ROUNDS]]` (1,000 pairs and one round where left out) writes a line a
 //! measurement to standard error, `tambyulo NAME THREADS NANOSECONDS`, the best of the rounds, and
@@ -11,6 +12,7 @@ mod fault;
 mod maps;
 mod memory;
 mod merges;
+mod mixed;
 mod questions;
 mod rounds;
 mod stopwatch;

@@ -5,6 +5,7 @@ use crate::fault::Fault;
 use crate::maps::{Map, empty, get_all, keys, put_all, remove_all, shuffled, snapshot_all};
 use crate::memory::{resident_bytes, show_bytes};
 use crate::merges::merge_all;
+use crate::mixed::mixed;
 use crate::questions::{Question, ask, count, exists, filter, fold_sum, map_values, told};
 use crate::stopwatch::Best;
 use crate::walks::{cut_all, walk_all};
@@ -13,7 +14,8 @@ use generation::Source;
 use keys::ByteText;
 use std::env;
 use std::rt::Runtime;
-use std::sync::Arc;
+use std::sync::{Arc, Wait};
+use std::thread::Threads;
 use std::time::Instant;
 use versions::View;
 
@@ -24,7 +26,7 @@ const SNAPSHOTS: u32 = 1000;
 const GRAIN: u64 = 1024;
 
 /// Measures what the words after the program's name ask for.
-pub fn run<R: Runtime + AllocGlobal>(rt: &R) -> Result<(), Fault> {
+pub fn run<R: Runtime + AllocGlobal + Threads + Wait + Sync>(rt: &R) -> Result<(), Fault> {
     let alloc = rt.alloc();
     let words: Vec<String> = env::args(rt)?.collect(alloc)?;
     let words: Vec<&str> = words
@@ -39,7 +41,8 @@ pub fn run<R: Runtime + AllocGlobal>(rt: &R) -> Result<(), Fault> {
     scattered(rt, rounds, &mut puts, keys.as_slice())?;
     snapshot(rt, rounds, keys.as_slice())?;
     remove(rt, rounds, keys.as_slice())?;
-    merge(rt, rounds, keys.as_slice())
+    merge(rt, rounds, keys.as_slice())?;
+    mixed(rt, rounds, keys.as_slice())
 }
 
 /// Puts all keys into an empty map, and counts the time.

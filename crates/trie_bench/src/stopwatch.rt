@@ -39,8 +39,20 @@ impl Best {
         pieces: u32,
         checksum: i128,
     ) -> Result<(), Fault> {
+        self.show_of(rt, name, 1, pieces, checksum)
+    }
+
+    /// The same of work on so many threads.
+    pub fn show_of<R: Runtime>(
+        &self,
+        rt: &R,
+        name: &str,
+        threads: u32,
+        pieces: u32,
+        checksum: i128,
+    ) -> Result<(), Fault> {
         let nanoseconds = self.shortest.as_nanos() / u128::from(pieces.max(1));
-        rt.eprintln(format_args!("tambyulo {name} 1 {nanoseconds}"))?;
+        rt.eprintln(format_args!("tambyulo {name} {threads} {nanoseconds}"))?;
         rt.println(format_args!("{name} {checksum}"))?;
         Ok(())
     }

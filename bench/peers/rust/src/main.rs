@@ -41,6 +41,27 @@ fn show(peer: &str, name: &str, threads: usize, ns: u128) {
     println!("{peer} {name} {threads} {ns}");
 }
 
+/// How many calls a round of the mixed load makes, over all its threads.
+const CALLS: usize = 400_000;
+
+/// The calls of one thread: keys by xorshift, the first of ten calls a put.
+fn mixed(map: &dashmap::DashMap<Box<[u8]>, i64>, keys: &[Box<[u8]>], calls: usize, thread: u64) -> i64 {
+    let mut state = thread + 1;
+    let mut sum = 0;
+    for call in 0..calls {
+        state ^= state << 13;
+        state ^= state >> 7;
+        state ^= state << 17;
+        let place = (state % keys.len() as u64) as usize;
+        if call % 10 == 0 {
+            map.insert(keys[place].clone(), place as i64);
+        } else {
+            sum += *map.get(&keys[place]).unwrap();
+        }
+    }
+    sum
+}
+
 fn main() {
     let args: Vec<usize> = std::env::args().skip(1).map(|a| a.parse().unwrap()).collect();
     let (n, rounds) = (args[0], args[1]);
@@ -118,4 +139,12 @@ fn main() {
     })));
     show("dashmap", "get", 1, best(rounds, || timed(|| keys.iter().map(|k| *dash.get(k).unwrap()).sum::<i64>())));
     show("dashmap", "count", 1, best(rounds, || timed(|| dash.iter().filter(|e| *e.value() % 2 == 0).count())));
+    for threads in [1, 2, 4] {
+        show("dashmap", "mixed", threads, best(rounds, || timed(|| std::thread::scope(|scope| {
+            for thread in 0..threads {
+                let (dash, keys) = (&dash, &keys);
+                scope.spawn(move || std::hint::black_box(mixed(dash, keys, CALLS / threads, thread as u64)));
+            }
+        }))) / CALLS as u128);
+    }
 }
