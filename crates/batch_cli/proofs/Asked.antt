@@ -1,11 +1,11 @@
 -- A query of a script asks the question that contracts see it as, and no other.
-use Rattle.std.proofs.Common.{◌≡◌, ℕ, List, Bool, refl, sym, subst}
-use Rattle.std.specs.Prelude.{ℤ, ◌↔◌}
+use Rattle.std.proofs.Common.{◌≡◌, ℕ, ◌∙◌, List, [], ◌∷◌, Bool, true, Result, Ok, Err, IfOk, refl, sym, ap, subst}
+use Rattle.std.specs.Prelude.{ℤ, ◌↔◌, OnOk}
 use Rattle.std.proofs.Math.Logic.{∥∥₁_map}
 use Rattle.std.specs.declared.cmp.Ordering.{Ordering}
 use Rattle.versions.specs.Map.{Map}
 use Rattle.combiner.specs.Bulks.{Apart, CanAdd, CanJoin, IsAdded, IsJoined}
-use Rattle.combiner.specs.Unions.{AreApart}
+use Rattle.combiner.specs.Unions.{AreApart, IsWithin}
 use Rattle.bulk_ops.specs.Answers as plain
 use Rattle.bulk_ops.specs.Queries.{Asks, DecidesQuery, IsPartOf, IsReady, PartAnswers, answer_of}
 use Rattle.bulk_ops.specs.Queries as queries
@@ -15,7 +15,7 @@ use Rattle.bulk_ops.specs.declared.part.Part.{Part}
 use Rattle.bulk_ops.specs.declared.part.Part.TheVariants as parts
 use Rattle.script.specs.Questions.{new_value, passes}
 use Rattle.batch_cli.specs.Folds.{Item, combined, item_of, item_of_none}
-use Rattle.batch_cli.specs.Queries.{IsLoose, IsPartFor, answers, decides, meaning_of, question_of, target_of}
+use Rattle.batch_cli.specs.Queries.{ScriptQuestion, IsLoose, IsPartFor, answers, decides, meaning_of, question_of, target_of}
 use Rattle.batch_cli.specs.declared.closures.ByTest.{ByTest}
 use Rattle.batch_cli.specs.declared.closures.ByMapping.{ByMapping}
 use Rattle.batch_cli.specs.declared.closures.ItsValue.{ItsValue}
@@ -63,20 +63,15 @@ one_question (MapValues s to) (plain.mapped p h) asks = λ i. plain.mapped (λ k
 one_question (Fold m s) (plain.fold op unit p) asks = λ i. plain.fold (sym asks.0 i) (sym asks.1 i) (λ k v. asks.2 k v (item_of k v) refl i)
 one_question q z asks = absurd asks
 
--- it has the question's target
-pub one_target : (q : Inner) → queries.target_of q ≡ target_of (question_of q)
-one_target (Count s) = refl
-one_target q = refl
+own_target : (q : Inner) → queries.target_of q ≡ target_of (question_of q)
+own_target (Count s) = refl
+own_target q = refl
 
--- what decides the one decides the other
-pub one_decision : (q : Inner) (m : Map (List ℕ) ℤ) → DecidesQuery combine unit_of q m ↔ decides (question_of q) m
-one_decision q m = (λ h. h (meaning_of (question_of q)) (asks_its_own q), λ h z asks. subst (λ x. plain.decides x m) (one_question q z asks) h)
-
-loose : (q : Inner) (part : ItsPart) → IsPartOf q part → IsLoose part
-loose (Filter s to) (parts.Made v) kind = kind
-loose (MapValues s to) (parts.Made v) kind = kind
-loose q (parts.Made v) kind = absurd kind
-loose q part kind = tt
+own_loose : (q : Inner) (part : ItsPart) → IsPartOf q part → IsLoose part
+own_loose (Filter s to) (parts.Made v) kind = kind
+own_loose (MapValues s to) (parts.Made v) kind = kind
+own_loose q (parts.Made v) kind = absurd kind
+own_loose q part kind = tt
 
 of_kind : (q : Inner) (m : Map (List ℕ) ℤ) (part : ItsPart) → IsLoose part → answers (question_of q) m (answer_of part) → IsPartOf q part
 of_kind (Count s) m (parts.Number n) l a = tt
@@ -88,22 +83,66 @@ of_kind (MapValues s to) m (parts.Made v) l a = l
 of_kind (Fold by s) m (parts.Item x) l a = tt
 of_kind q m part l a = absurd a
 
--- a part that answers the one answers the other
-pub to_question : (q : Inner) (m : Map (List ℕ) ℤ) (part : ItsPart) → PartAnswers combine unit_of q m part → IsPartFor (question_of q) m part
-to_question q m part h = record { loose = loose q part h.kind; answer = h.answer (meaning_of (question_of q)) (asks_its_own q) }
+own_part : (q : Inner) (m : Map (List ℕ) ℤ) (part : ItsPart) → PartAnswers combine unit_of q m part → IsPartFor (question_of q) m part
+own_part q m part h = record { loose = own_loose q part h.kind; answer = h.answer (meaning_of (question_of q)) (asks_its_own q) }
 
-pub to_query : (q : Inner) (m : Map (List ℕ) ℤ) (part : ItsPart) → IsPartFor (question_of q) m part → PartAnswers combine unit_of q m part
-to_query q m part h = record { kind = of_kind q m part h.loose h.answer; answer = λ z asks. subst (λ x. plain.answers x m (answer_of part)) (one_question q z asks) h.answer }
+part_of_own : (q : Inner) (m : Map (List ℕ) ℤ) (part : ItsPart) → IsPartFor (question_of q) m part → PartAnswers combine unit_of q m part
+part_of_own q m part h = record { kind = of_kind q m part h.loose h.answer; answer = λ z asks. subst (λ x. plain.answers x m (answer_of part)) (one_question q z asks) h.answer }
 
-module _ (R : List ℕ → List ℕ → Ordering) (q : Inner) where
-  pub can_join : (a b : ItsPart) → CanJoin R (IsPartFor (question_of q)) a b → CanJoin R (PartAnswers combine unit_of q) a b
-  can_join a b h = let both : Apart R (IsPartFor (question_of q)) a b → Apart R (PartAnswers combine unit_of q) a b = λ apart. record { first = apart.first; second = apart.second; first_is = to_query q apart.first a apart.first_is; second_is = to_query q apart.second b apart.second_is; apart = apart.apart } in ∥∥₁_map h both
+own_decision : (q : Inner) (m : Map (List ℕ) ℤ) → DecidesQuery combine unit_of q m ↔ decides (question_of q) m
+own_decision q m = (λ h. h (meaning_of (question_of q)) (asks_its_own q), λ h z asks. subst (λ x. plain.decides x m) (one_question q z asks) h)
 
-  pub is_joined : (a b c : ItsPart) → IsJoined R (PartAnswers combine unit_of q) a b c → IsJoined R (IsPartFor (question_of q)) a b c
-  is_joined a b c h = λ m n x y apart. to_question q _ c (h m n (to_query q m a x) (to_query q n b y) apart)
+both_ways : {A B C : Type 0} → A ↔ B → B ↔ C → A ↔ C
+both_ways (to, from) (on, back) = (λ a. on (to a), λ c. from (back c))
 
-  pub can_add : (a : ItsPart) (k : List ℕ) (v : ℤ) → CanAdd R (IsPartFor (question_of q)) a k v → CanAdd R (PartAnswers combine unit_of q) a k v
-  can_add a k v h = ∥∥₁_map h (λ had. (had.0, to_query q had.0 a had.1, had.2))
+-- the same of the question that it is seen as
+module _ (q : Inner) (z : ScriptQuestion) (seen : question_of q ≡ z) where
+  -- it has the question's target
+  pub one_target : queries.target_of q ≡ target_of z
+  one_target = own_target q ∙ ap target_of seen
 
-  pub is_added : (a : ItsPart) (k : List ℕ) (v : ℤ) (c : ItsPart) → IsAdded R (PartAnswers combine unit_of q) a k v c → IsAdded R (IsPartFor (question_of q)) a k v c
-  is_added a k v c h = λ m x apart. to_question q _ c (h m (to_query q m a x) apart)
+  -- a part that answers the one answers the other
+  pub to_question : (m : Map (List ℕ) ℤ) (part : ItsPart) → PartAnswers combine unit_of q m part → IsPartFor z m part
+  to_question m part h = subst (λ x. IsPartFor x m part) seen (own_part q m part h)
+
+  pub to_query : (m : Map (List ℕ) ℤ) (part : ItsPart) → IsPartFor z m part → PartAnswers combine unit_of q m part
+  to_query m part h = part_of_own q m part (subst (λ x. IsPartFor x m part) (sym seen) h)
+
+  pub ok_to_question : {E : Type 0} (m : Map (List ℕ) ℤ) (part : Result ItsPart E) → IfOk part (λ part. PartAnswers combine unit_of q m part) → IfOk part (λ part. IsPartFor z m part)
+  ok_to_question m (Ok part) h = to_question m part h
+  ok_to_question m (Err e) h = tt
+
+  -- what decides the one decides the other
+  pub one_decision : (part : ItsPart) (result : Bool) → ((m : Map (List ℕ) ℤ) → PartAnswers combine unit_of q m part → result ≡ true ↔ DecidesQuery combine unit_of q m)
+      → (m : Map (List ℕ) ℤ) → IsPartFor z m part → result ≡ true ↔ decides z m
+  one_decision part result h m is = both_ways (h m (to_query m part is)) (subst (λ x. DecidesQuery combine unit_of q m ↔ decides x m) seen (own_decision q m))
+
+  pub one_lasting : (part : ItsPart) (result : Bool) → (result ≡ true → (m n : Map (List ℕ) ℤ) → PartAnswers combine unit_of q m part → IsWithin m n → PartAnswers combine unit_of q n part)
+      → result ≡ true → (m n : Map (List ℕ) ℤ) → IsPartFor z m part → IsWithin m n → IsPartFor z n part
+  one_lasting part result h settled m n is within = to_question n part (h settled m n (to_query m part is) within)
+
+  pub some_answered : (part : ItsPart) → ∥ ((m : Map (List ℕ) ℤ) × IsPartFor z m part) ∥₁ → ∥ ((m : Map (List ℕ) ℤ) × PartAnswers combine unit_of q m part) ∥₁
+  some_answered part h =
+      let other : (m : Map (List ℕ) ℤ) × IsPartFor z m part → (m : Map (List ℕ) ℤ) × PartAnswers combine unit_of q m part = λ had. (had.0, to_query had.0 part had.1) in
+      ∥∥₁_map h other
+
+  module _ (R : List ℕ → List ℕ → Ordering) where
+    pub can_join : (a b : ItsPart) → CanJoin R (IsPartFor z) a b → CanJoin R (PartAnswers combine unit_of q) a b
+    can_join a b h =
+        let both : Apart R (IsPartFor z) a b → Apart R (PartAnswers combine unit_of q) a b =
+        λ apart. record { first = apart.first; second = apart.second; first_is = to_query apart.first a apart.first_is; second_is = to_query apart.second b apart.second_is; apart = apart.apart } in
+        ∥∥₁_map h both
+
+    pub is_joined : {E : Type 0} (a b : ItsPart) (c : Result ItsPart E) → IfOk c (λ c. IsJoined R (PartAnswers combine unit_of q) a b c) → IfOk c (λ c. IsJoined R (IsPartFor z) a b c)
+    is_joined a b (Ok c) h = λ m n x y apart. to_question _ c (h m n (to_query m a x) (to_query n b y) apart)
+    is_joined a b (Err e) h = tt
+
+    pub can_add : (a : ItsPart) (k : List ℕ) (v : ℤ) → CanAdd R (IsPartFor z) a k v → CanAdd R (PartAnswers combine unit_of q) a k v
+    can_add a k v h =
+        let had : (m : Map (List ℕ) ℤ) × IsPartFor z m a × AreApart R ((k, v) ∷ []) m → (m : Map (List ℕ) ℤ) × PartAnswers combine unit_of q m a × AreApart R ((k, v) ∷ []) m =
+        λ had. (had.0, to_query had.0 a had.1, had.2) in
+        ∥∥₁_map h had
+
+    pub is_added : {E T : Type 0} (a : ItsPart) (k : List ℕ) (v : ℤ) (c : ItsPart) (result : Result T E) → OnOk result (IsAdded R (PartAnswers combine unit_of q) a k v c) → OnOk result (IsAdded R (IsPartFor z) a k v c)
+    is_added a k v c (Ok u) h = λ m x apart. to_question _ c (h m (to_query m a x) apart)
+    is_added a k v c (Err e) h = tt

@@ -45,6 +45,14 @@ view_shown s t h m pairs step same = (viewed m, step, ap (λ (x : Map (List ℕ)
 pub told_shown : (s t : ProgramState) (job : ℕ) (told : ProgramTold) (reply : LineReply) → Step program s (finish job) (finished told) t → reply ≡ told_reply told → MayReply s (finish job) reply t
 told_shown s t job told reply step is = (finished told, step, ap (λ (x : LineReply). Some x) (sym is))
 
+-- a part that answers a question for a map answers whatever job is open with that question and that map
+pub answers_open : {Q P : Type 0} (answers : Q → Map (List ℕ) ℤ → P → Type 0) (o : Option (Job (List ℕ) ℤ Q)) (q : Q) (m : Map (List ℕ) ℤ) (part : P) → o ≡ Some (record { query = q; frozen = m }) → answers q m part
+    → (j : Job (List ℕ) ℤ Q) → o ≡ Some j → answers j.query j.frozen part
+answers_open {Q} answers o q m part is answered j also =
+    let job : Job (List ℕ) ℤ Q = record { query = q; frozen = m } in
+    let same : job ≡ j = cc in
+    subst (λ (x : Job (List ℕ) ℤ Q). answers x.query x.frozen part) same answered
+
 -- what is served by one event is served
 pub served_at_once : {E : Type 0} (s t : ProgramState) (r : ProgramRequest) (result : Result LineReply E) → IfOk result (λ reply. MayReply s r reply t) → IfOk result (λ reply. MayServe s r reply t)
 served_at_once s t r (Ok reply) h = inl h
