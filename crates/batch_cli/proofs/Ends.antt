@@ -1,5 +1,5 @@
 -- Which statements are done after one event.
-use Rattle.std.proofs.Common.{◌≡◌, ℕ, ◌⊎◌, List, [], Some, None, inl, inr, refl}
+use Rattle.std.proofs.Common.{◌≡◌, ℕ, ◌⊎◌, List, [], ◌∷◌, Some, None, inl, inr, refl}
 use Rattle.std.specs.Prelude.{ℤ}
 use Rattle.versions.specs.Commands.{old}
 use Rattle.versions.specs.Map.{Map}

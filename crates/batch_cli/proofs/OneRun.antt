@@ -1,6 +1,6 @@
 -- A statement has one answer in a state, and a script one output.
 use Rattle.std.proofs.Common.{◌≡◌, Bool, true, false, ℕ, ◌+◌, ◌∙◌, ◌⊎◌, List, [], ◌∷◌, ◌++◌, length, Some, None, inl, inr, refl, sym, ap, subst}
-use Rattle.std.specs.Prelude.{ℤ, Option, if◌then◌else◌}
+use Rattle.std.specs.Prelude.{ℤ, if◌then◌else◌}
 use Rattle.versions.specs.declared.refusal.Refusal.{Refusal}
 use Rattle.std.specs.Ordering.{nat_cmp}
 use Rattle.std.specs.List.{list_any, list_all}
@@ -162,7 +162,7 @@ one_settled r s t u o p one (inl (e, a, b, d)) (inl (f, a', b', d')) =
     (a ∙ ap (λ (x : Refusal). refused x) names ∙ sym a', d ∙ ap (refused_in s) names ∙ sym d')
 one_settled r s t u o p one (inl (e, a, b, d)) (inr (none, g)) = let same : Some e ≡ None = sym b ∙ none in cc
 one_settled r s t u o p one (inr (none, g)) (inl (e, a, b, d)) = let same : Some e ≡ None = sym b ∙ none in cc
-one_settled r s t u o p one (inr (none, g)) (inr (never, k)) = one g k
+one_settled r s t u o p one (inr (none, g)) (inr (other, k)) = one g k
 
 -- a request has one outcome in a state
 one_step : (r : ProgramRequest) → OneGrant r → (s t u : ProgramState) (o p : ProgramOutcome) → Step program s r o t → Step program s r p u → (o ≡ p) × (t ≡ u)
@@ -184,14 +184,14 @@ the_answer (mapped mapping to) m = plain.Answer.made (plain.with_values (new_val
 the_answer (fold folding) m = plain.Answer.item (folded (combined folding) (item_of_none folding) (plain.items_of item_of m))
 
 is_the_answer : (q : ScriptQuestion) (m : Map (List ℕ) ℤ) (a : ProgramAnswer) → asks_pair q ≡ false → answers q m a → a ≡ the_answer q m
-is_the_answer (count test) m (plain.Answer.number n) no is = ap (λ (n : ℕ). plain.Answer.number n) is
-is_the_answer (exists test) m (plain.Answer.truth b) no is = ap (λ (b : Bool). plain.Answer.truth b) is
-is_the_answer (for_all test) m (plain.Answer.truth b) no is = ap (λ (b : Bool). plain.Answer.truth b) is
-is_the_answer (find test) m a no is = cc
-is_the_answer (filtered test to) m (plain.Answer.made n) no is = ap (λ (n : Map (List ℕ) ℤ). plain.Answer.made n) is
-is_the_answer (mapped mapping to) m (plain.Answer.made n) no is = ap (λ (n : Map (List ℕ) ℤ). plain.Answer.made n) is
-is_the_answer (fold folding) m (plain.Answer.item x) no is = ap (λ (x : Item). plain.Answer.item x) is
-is_the_answer q m a no is = absurd is
+is_the_answer (count test) m (plain.Answer.number n) never is = ap (λ (n : ℕ). plain.Answer.number n) is
+is_the_answer (exists test) m (plain.Answer.truth b) never is = ap (λ (b : Bool). plain.Answer.truth b) is
+is_the_answer (for_all test) m (plain.Answer.truth b) never is = ap (λ (b : Bool). plain.Answer.truth b) is
+is_the_answer (find test) m a never is = cc
+is_the_answer (filtered test to) m (plain.Answer.made n) never is = ap (λ (n : Map (List ℕ) ℤ). plain.Answer.made n) is
+is_the_answer (mapped mapping to) m (plain.Answer.made n) never is = ap (λ (n : Map (List ℕ) ℤ). plain.Answer.made n) is
+is_the_answer (fold folding) m (plain.Answer.item x) never is = ap (λ (x : Item). plain.Answer.item x) is
+is_the_answer q m a never is = absurd is
 
 abbrev ScriptJob : Type 0
 ScriptJob = Job (List ℕ) ℤ ScriptQuestion
@@ -202,13 +202,13 @@ finished_in s j job answer = record s { live = live_after program s (target_of j
 
 -- an open job that asks for no pair is finished in one way
 one_finished : (s t u : ProgramState) (j : ℕ) (job : ScriptJob) (b c : ProgramTold) → job_at s j ≡ Some job → asks_pair job.query ≡ false → Finishes program s j b t → Finishes program s j c u → (b ≡ c) × (t ≡ u)
-one_finished s t u j job b c is_open no f k =
+one_finished s t u j job b c is_open never f k =
     let first_named : Some f.job ≡ Some job = sym f.named ∙ is_open in
     let second_named : Some k.job ≡ Some job = sym k.named ∙ is_open in
     let first : f.job ≡ job = cc in
     let second : k.job ≡ job = cc in
-    let one : f.answer ≡ the_answer job.query job.frozen = is_the_answer job.query job.frozen f.answer no (subst (λ (x : ScriptJob). answers x.query x.frozen f.answer) first f.is_answer) in
-    let other : k.answer ≡ the_answer job.query job.frozen = is_the_answer job.query job.frozen k.answer no (subst (λ (x : ScriptJob). answers x.query x.frozen k.answer) second k.is_answer) in
+    let one : f.answer ≡ the_answer job.query job.frozen = is_the_answer job.query job.frozen f.answer never (subst (λ (x : ScriptJob). answers x.query x.frozen f.answer) first f.is_answer) in
+    let other : k.answer ≡ the_answer job.query job.frozen = is_the_answer job.query job.frozen k.answer never (subst (λ (x : ScriptJob). answers x.query x.frozen k.answer) second k.is_answer) in
     let same : f.answer ≡ k.answer = one ∙ sym other in
     let jobs : f.job ≡ k.job = first ∙ sym second in
     (f.told ∙ ap (λ (a : ProgramAnswer). plain.told a) same ∙ sym k.told, f.left ∙ (λ i. finished_in s j (jobs i) (same i)) ∙ sym k.left)
@@ -229,12 +229,12 @@ finish_told s j worked t reply shown g = absurd g
 
 one_finish : (s t u : ProgramState) (j : ℕ) (job : ScriptJob) (o p : ProgramOutcome) (a b : LineReply) → job_at s j ≡ Some job → asks_pair job.query ≡ false → reply_to o ≡ Some a → reply_to p ≡ Some b
     → Step program s (finish j) o t → Step program s (finish j) p u → (o ≡ p) × (t ≡ u)
-one_finish s t u j job o p a b is_open no shown told step trod =
+one_finish s t u j job o p a b is_open never shown told step trod =
     one_settled (finish j) s t u o p
     (λ g k.
     let f = finish_told s j o t a shown g in
     let h = finish_told s j p u b told k in
-    let same = one_finished s t u j job f.0 h.0 is_open no f.2 h.2 in
+    let same = one_finished s t u j job f.0 h.0 is_open never f.2 h.2 in
     (f.1 ∙ ap (λ (x : ProgramTold). finished x) same.0 ∙ sym h.1, same.1))
     (settled s (finish j) o t step) (settled s (finish j) p u trod)
 
@@ -244,18 +244,18 @@ freezes_for_pair (freeze h q) = asks_pair q
 freezes_for_pair r = false
 
 no_pair : (c : Statement) → is_find c ≡ false → freezes_for_pair (request_for c) ≡ false
-no_pair (Find h test) no = no
-no_pair (Open h) no = refl
-no_pair c no = refl
+no_pair (Find h test) never = never
+no_pair (Open h) never = refl
+no_pair c never = refl
 
 -- the job that is open then, which asks for no pair
 abbrev HasJob : ProgramState → ℕ → Type 0
 HasJob t j = (job : ScriptJob) × (job_at t j ≡ Some job) × (asks_pair job.query ≡ false)
 
 opened_job : FreezesOpenJobs program → (r : ProgramRequest) (s t : ProgramState) (j : ℕ) (m : Map (List ℕ) ℤ) → freezes_for_pair r ≡ false → Step program s r (frozen j m) t → HasJob t j
-opened_job law (freeze h q) s t j m no step = (record { query = q; frozen = m }, law s t h q j m step, no)
-opened_job law (open_handle h) s t j m no step = absurd step.1
-opened_job law r s t j m no step = absurd step.1
+opened_job law (freeze h q) s t j m never step = (record { query = q; frozen = m }, law s t h q j m step, never)
+opened_job law (open_handle h) s t j m never step = absurd step.1
+opened_job law r s t j m never step = absurd step.1
 
 -- what a statement does after its first event is one
 one_end : (c : Statement) (o : ProgramOutcome) (s t u : ProgramState) (events others : List Event) (a b : LineReply)
@@ -290,14 +290,14 @@ one_end c o s t u events others a b opened ends too run ran =
     ]
 
 one_answer : FreezesOpenJobs program → (c : Statement) (s t u : ProgramState) (a b : LineReply) → is_find c ≡ false → MayAnswer s c a t → MayAnswer s c b u → (a ≡ b) × (t ≡ u)
-one_answer law c s t u a b no (events, (o, later, are, ends), run) (others, (p, further, were, too), ran) =
+one_answer law c s t u a b never (events, (o, later, are, ends), run) (others, (p, further, were, too), ran) =
     let step : IsRun s ((request_for c, o) ∷ later) t = rw are at run in
     let trod : IsRun s ((request_for c, p) ∷ further) u = rw were at ran in
     let same = one_step (request_for c) (one_grant c) s step.0 trod.0 o p step.1 trod.1 in
     let ends_alike : Ends c o further b = (let P : ProgramOutcome → Type 0 = λ x. Ends c x further b in subst P (sym same.0) too) in
     let run_alike : IsRun step.0 further u = (let P : ProgramState → Type 0 = λ x. IsRun x further u in subst P (sym same.1) trod.2) in
     let opened : (j : ℕ) (m : Map (List ℕ) ℤ) → o ≡ frozen j m → HasJob step.0 j =
-    λ j m is. opened_job law (request_for c) s step.0 j m (no_pair c no) (let P : ProgramOutcome → Type 0 = λ x. Step program s (request_for c) x step.0 in subst P is step.1) in
+    λ j m is. opened_job law (request_for c) s step.0 j m (no_pair c never) (let P : ProgramOutcome → Type 0 = λ x. Step program s (request_for c) x step.0 in subst P is step.1) in
     one_end c o step.0 t u later further a b opened ends ends_alike step.2 run_alike
 
 -- a run of events and further ones goes by a state between
@@ -307,13 +307,13 @@ run_split s t (e ∷ es) fs run = let more = run_split run.0 t es fs run.2 in (m
 
 -- runs from one state print one text
 pub one_text : FreezesOpenJobs program → (lines : List CommandLine) (xs ys : List LineAnswer) (s t u : ProgramState) → FindsNoPair lines → EachMakes lines xs → EachMakes lines ys → IsRun s (events_of xs) t → IsRun s (events_of ys) u → text_for lines xs ≡ text_for lines ys
-one_text law [] xs ys s t u no ma mb run ran = refl
-one_text law (line ∷ lines) [] ys s t u no ma mb run ran = absurd ma
-one_text law (line ∷ lines) (a ∷ xs) [] s t u no ma mb run ran = absurd mb
-one_text law (line ∷ lines) (a ∷ xs) (b ∷ ys) s t u no ma mb run ran =
+one_text law [] xs ys s t u never ma mb run ran = refl
+one_text law (line ∷ lines) [] ys s t u never ma mb run ran = absurd ma
+one_text law (line ∷ lines) (a ∷ xs) [] s t u never ma mb run ran = absurd mb
+one_text law (line ∷ lines) (a ∷ xs) (b ∷ ys) s t u never ma mb run ran =
     let here = run_split s t a.events (events_of xs) run in
     let there = run_split s u b.events (events_of ys) ran in
-    let same = one_answer law line.statement s here.0 there.0 a.reply b.reply no.0 (a.events, ma.0, here.1) (b.events, mb.0, there.1) in
+    let same = one_answer law line.statement s here.0 there.0 a.reply b.reply never.0 (a.events, ma.0, here.1) (b.events, mb.0, there.1) in
     let from : IsRun here.0 (events_of ys) u = (let P : ProgramState → Type 0 = λ x. IsRun x (events_of ys) u in subst P (sym same.1) there.2) in
-    let rest : text_for lines xs ≡ text_for lines ys = one_text law lines xs ys here.0 t u no.1 ma.1 mb.1 here.2 from in
+    let rest : text_for lines xs ≡ text_for lines ys = one_text law lines xs ys here.0 t u never.1 ma.1 mb.1 here.2 from in
     ap (λ (r : LineReply). line_text line.number r ++ text_for lines xs) same.0 ∙ ap (λ (more : List ℕ). line_text line.number b.reply ++ more) rest

@@ -1,12 +1,12 @@
 -- Runs that go on: by an event, and by a line.
 use Rattle.std.proofs.Common.{◌≡◌, ◌≢◌, ℕ, ◌∙◌, false, List, [], ◌∷◌, ◌++◌, Some, None, Result, Ok, Err, IfOk, inl, inr, refl, sym, ap, subst, append_assoc, append-nil}
-use Rattle.std.specs.Prelude.{ℤ, Option, OnOk}
+use Rattle.std.specs.Prelude.{ℤ, OnOk}
 use Rattle.versions.specs.Map.{Map}
 use Rattle.versions.specs.declared.refusal.Refusal.{Refusal}
 use Rattle.versions.specs.declared.refusal.Refusal.TheVariants.{NoMemory}
 use Rattle.handles.specs.declared.call_reply.CallReply.{CallReply}
 use Rattle.versions.specs.Commands.{Command, get, put_if_absent, old, done, count, cleared}
-use Rattle.handles.specs.Machine.{Step, on, view, freeze, finish, Job, made, replied, viewed, frozen, finished, unfinished, refused, worked}
+use Rattle.handles.specs.Machine.{Step, on, view, finish, made, replied, viewed, frozen, finished, unfinished, refused, worked}
 use Rattle.handles.specs.Views.{IsStep, call_outcome, outcome_of, lacks_memory}
 use Rattle.handles.specs.Laws.{AnswersAreSteps}
 use Rattle.script.specs.Replies.{line_text}
@@ -45,24 +45,10 @@ view_shown s t h m pairs step same = (viewed m, step, ap (λ (x : Map (List ℕ)
 pub told_shown : (s t : ProgramState) (job : ℕ) (told : ProgramTold) (reply : LineReply) → Step program s (finish job) (finished told) t → reply ≡ told_reply told → MayReply s (finish job) reply t
 told_shown s t job told reply step is = (finished told, step, ap (λ (x : LineReply). Some x) (sym is))
 
--- a part that answers a question for a map answers whatever job is open with that question and that map
-pub answers_open : {Q P : Type 0} (answers : Q → Map (List ℕ) ℤ → P → Type 0) (o : Option (Job (List ℕ) ℤ Q)) (q : Q) (m : Map (List ℕ) ℤ) (part : P) → o ≡ Some (record { query = q; frozen = m }) → answers q m part
-    → (j : Job (List ℕ) ℤ Q) → o ≡ Some j → answers j.query j.frozen part
-answers_open {Q} answers o q m part is answered j also =
-    let job : Job (List ℕ) ℤ Q = record { query = q; frozen = m } in
-    let same : job ≡ j = cc in
-    subst (λ (x : Job (List ℕ) ℤ Q). answers x.query x.frozen part) same answered
-
 -- what is served by one event is served
 pub served_at_once : {E : Type 0} (s t : ProgramState) (r : ProgramRequest) (result : Result LineReply E) → IfOk result (λ reply. MayReply s r reply t) → IfOk result (λ reply. MayServe s r reply t)
 served_at_once s t r (Ok reply) h = inl h
 served_at_once s t r (Err e) h = tt
-
--- so is what a freeze begins and a finish ends
-pub served_by_job : {E : Type 0} (s between t : ProgramState) (r : ProgramRequest) (job : ℕ) (shown : Map (List ℕ) ℤ) (result : Result LineReply E)
-    → Step program s r (frozen job shown) between → IfOk result (λ reply. MayReply between (finish job) reply t) → IfOk result (λ reply. MayServe s r reply t)
-served_by_job s between t r job shown (Ok reply) step h = inr (job, shown, between, step, h)
-served_by_job s between t r job shown (Err e) step h = tt
 
 -- a reply that something is absent shows that a command found nothing
 absent : (s t : ProgramState) (h : ℕ) (c : Command (List ℕ) ℤ) (outcome : ProgramOutcome) → Step program s (on h c) outcome t → reply_to outcome ≡ Some Absent → outcome ≡ replied (old None)
