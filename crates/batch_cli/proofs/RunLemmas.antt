@@ -6,7 +6,7 @@ use Rattle.versions.specs.declared.refusal.Refusal.{Refusal}
 use Rattle.versions.specs.declared.refusal.Refusal.TheVariants.{NoMemory}
 use Rattle.handles.specs.declared.call_reply.CallReply.{CallReply}
 use Rattle.versions.specs.Commands.{Command, get, put_if_absent, old, done, count, cleared}
-use Rattle.handles.specs.Machine.{Step, on, view, finish, made, replied, viewed, frozen, finished, unfinished, refused, worked}
+use Rattle.handles.specs.Machine.{Step, on, view, finish, replied, viewed, frozen, finished, refused}
 use Rattle.handles.specs.Views.{IsStep, call_outcome, outcome_of, lacks_memory}
 use Rattle.handles.specs.Laws.{AnswersAreSteps}
 use Rattle.script.specs.Replies.{line_text}

@@ -1,5 +1,5 @@
 -- Folds combine items in any order.
-use Rattle.std.specs.Prelude.{ℤ, Option, Some, None, refl}
+use Rattle.std.specs.Prelude.{ℤ, Some, None, refl}
 use Rattle.std.proofs.Common.{ap, rules}
 use Rattle.combiner.specs.Monoids.{IsAssociative, IsCommutative, IsNeutral, IsClosed}
 use Rattle.combiner.specs.NumberLaws.{sum-associative, sum-commutative, sum-neutral, sum-closed, lesser-associative, lesser-commutative, lesser-neutral, greater-associative, greater-commutative, greater-neutral}
