@@ -102,6 +102,10 @@ module _ {K V : Type 0} where
   pub held_here : (k : ℕ) (places : List (Option (Contents K V))) (v : Contents K V) → version_in places k ≡ Some v → unwrap_or (value_at nat_cmp (live_from 0 (maps_in places)) k) [] ≡ v.entries
   held_here k places v e = ap (λ (m : Option (Map K V)). unwrap_or m []) (map_here k places ∙ ap map_in e)
 
+  -- the number is live then
+  pub live_here : (k : ℕ) (places : List (Option (Contents K V))) (v : Contents K V) → version_in places k ≡ Some v → value_at nat_cmp (live_from 0 (maps_in places)) k ≡ None → ⊥
+  live_here k places v e none = let no : Some v.entries ≡ None = sym (map_here k places ∙ ap map_in e) ∙ none in cc
+
   -- where there is none, the number is not live
   pub not_live_here : (k : ℕ) (places : List (Option (Contents K V))) → version_in places k ≡ None → IsSome (value_at nat_cmp (live_from 0 (maps_in places)) k) → ⊥
   not_live_here k places e live = let no : is_some (value_at nat_cmp (live_from 0 (maps_in places)) k) ≡ false = ap is_some (map_here k places ∙ ap map_in e) in cc

@@ -1,5 +1,5 @@
 //! The places of a table, each of which has a version where its handle is live.
-ghost use Rattle.std.specs.Prelude.{◌≡◌, ◌<◌, ◌≤◌, ◌+◌, ◌^◌, length, [], IfErr, IfOk, IfSome, IsSome, OnErr, OnOk, false, true, option_map, unwrap_or};
+ghost use Rattle.std.specs.Prelude.{◌≡◌, ◌<◌, ◌≤◌, ◌+◌, ◌^◌, length, [], IfErr, IfOk, IfSome, IsSome, Err, None, OnErr, OnOk, false, true, option_map, unwrap_or};
 ghost use Rattle.std.specs.Ordering.{nat_cmp};
 ghost use Rattle.handles.specs.Handles.{IsKept, live_from, maps_in};
 ghost use Rattle.handles.specs.Jobs.{FitsIn, IsLoose, IsPlace, live_with_made};
@@ -121,20 +121,22 @@ impl<K: PathKey + Drop, V: Eq + Drop> Places<K, V> {
     }
 
     /// Opens the handle `to`, with the pairs of the other handle. It makes no request for memory.
+    ///
+    /// It is refused as `NoHandle` where the other handle is not live, and as `NoMemory`.
     pub fn fork(&mut self, handle: u32, to: u32) -> Result<(), Refusal>
         requires place { handle < 1024 }
         requires target { to < 1024 }
-        requires live { IsSome (value_at nat_cmp self.old.live handle) }
         requires room { self.old.issued + 2 ≤ 2 ^ 63 }
         ensures live { OnOk result (self.new.live ≡ with_pair nat_cmp self.old.live to (unwrap_or (value_at nat_cmp self.old.live handle) [])) }
         ensures limit { self.new.limit ≡ self.old.limit }
         ensures issued { self.new.issued ≤ self.old.issued + 2 }
-        ensures memory { IfErr result (λ e. e ≡ Refusal.NoMemory) }
+        ensures memory { IsSome (value_at nat_cmp self.old.live handle) → IfErr result (λ e. e ≡ Refusal.NoMemory) }
+        ensures none { value_at nat_cmp self.old.live handle ≡ None → result ≡ Err Refusal.NoHandle }
         ensures err { OnErr result (self.new ≡ self.old) }
     {
         let version = match &mut self.versions[handle as usize] {
             Some(version) => version.fork(&mut self.source)?,
-            None => unreachable!(),
+            None => return Err(Refusal::NoHandle),
         };
         self.versions[to as usize] = Some(version);
         Ok(())
@@ -159,22 +161,26 @@ impl<K: PathKey + Drop, V: Eq + Drop> Places<K, V> {
     }
 
     /// The map of the handle as it stands now. It makes no request for memory.
+    ///
+    /// It is refused as `NoHandle` where the handle is not live, and as `NoMemory`.
     pub fn view(&self, handle: u32) -> Result<View<K, V>, Refusal>
-        requires { IsSome (value_at nat_cmp self.now.live handle) }
         ensures map { IfOk result (λ v. v ≡ unwrap_or (value_at nat_cmp self.now.live handle) []) }
         ensures fits { IfOk result (λ v. length v ≤ self.now.limit) }
-        ensures memory { IfErr result (λ e. e ≡ Refusal.NoMemory) }
+        ensures memory { IsSome (value_at nat_cmp self.now.live handle) → IfErr result (λ e. e ≡ Refusal.NoMemory) }
+        ensures none { value_at nat_cmp self.now.live handle ≡ None → result ≡ Err Refusal.NoHandle }
     {
         match self.version(handle) {
             Some(version) => {
                 prove!(version.len() <= version.limit());
                 Ok(version.view()?)
             }
-            None => unreachable!(),
+            None => Err(Refusal::NoHandle),
         }
     }
 
     /// Makes the command on the map of the handle.
+    ///
+    /// It is refused as `NoHandle` where the handle is not live, as `Full` and as `NoMemory`.
     pub fn run(
         &mut self,
         alloc: Global,
@@ -182,18 +188,22 @@ impl<K: PathKey + Drop, V: Eq + Drop> Places<K, V> {
         command: Command<K, V>,
     ) -> Result<Reply<V>, Refusal>
         requires place { handle < 1024 }
-        requires live { IsSome (value_at nat_cmp self.old.live handle) }
         ensures reply { IfOk result (λ y. reply_of y ≡ reply K.cmp V.eq (unwrap_or (value_at nat_cmp self.old.live handle) []) (command_of command)) }
         ensures live { OnOk result (self.new.live ≡ with_pair nat_cmp self.old.live handle (after K.cmp V.eq (unwrap_or (value_at nat_cmp self.old.live handle) []) (command_of command))) }
         ensures limit { self.new.limit ≡ self.old.limit }
         ensures issued { self.new.issued ≡ self.old.issued }
-        ensures full { FullExactly result (is_full K.cmp self.old.limit (unwrap_or (value_at nat_cmp self.old.live handle) []) (command_of command)) }
+        ensures full { IsSome (value_at nat_cmp self.old.live handle) → FullExactly result (is_full K.cmp self.old.limit (unwrap_or (value_at nat_cmp self.old.live handle) []) (command_of command)) }
         ensures memory { needs_no_memory (command_of command) ≡ true → lacks_memory result ≡ false }
+        ensures none { value_at nat_cmp self.old.live handle ≡ None → result ≡ Err Refusal.NoHandle }
         ensures err { OnErr result (self.new ≡ self.old) }
     {
-        match &mut self.versions[handle as usize] {
-            Some(version) => command.run_on(alloc, version),
-            None => unreachable!(),
-        }
+        let version = match &mut self.versions[handle as usize] {
+            Some(version) => version,
+            None => {
+                drop(command);
+                return Err(Refusal::NoHandle);
+            }
+        };
+        command.run_on(alloc, version)
     }
 }

@@ -3,7 +3,7 @@ use Rattle.std.specs.Prelude.{IsSome, Some, slice_set, unwrap_or}
 use Rattle.std.specs.Ordering.{nat_cmp}
 use Rattle.versions.specs.Map.{value_at, with_pair}
 use Rattle.handles.specs.Handles.{Held, live_from}
-use Rattle.handles.proofs.Live.{held_here, not_live_here, same_maps, with_version}
+use Rattle.handles.proofs.Live.{held_here, live_here, not_live_here, same_maps, with_version}
 use Rattle.handles.proofs.Kept.{length-slice_set, read_here, set_fresh}
 use Rattle.handles.proofs.places.Places.fork.Goals as goal
 
@@ -12,11 +12,23 @@ fork-requires-clause-issued g c =
     let here = read_here c.args.handle c.self.inside.versions.items c.index_mut.result.now (omega (arith, c.self.invariant.0.count, c.requires.place)) c.index_mut.ensures.value in
     (c.self.invariant.0.each c.args.handle c.in-Some.version (here ∙ c.in-Some.is)).old_stamp
 
-pub unreachable-requires : goal.unreachable-requires
-unreachable-requires g c =
+pub returns-in-None-clause-memory : goal.returns-in-None-clause-memory
+returns-in-None-clause-memory g c live =
     let places = c.self.inside.versions.items in
     let here = read_here c.args.handle places c.index_mut.result.now (omega (arith, c.self.invariant.0.count, c.requires.place)) c.index_mut.ensures.value in
-    not_live_here c.args.handle places (here ∙ c.in-None.is) (subst (λ (p : Held g.row.K.Denot g.row.V.Denot). IsSome (value_at nat_cmp p.live c.args.handle)) (sym c.self.view_is) c.requires.live)
+    absurd (not_live_here c.args.handle places (here ∙ c.in-None.is) (subst (λ (p : Held g.row.K.Denot g.row.V.Denot). IsSome (value_at nat_cmp p.live c.args.handle)) (sym c.self.view_is) live))
+
+pub returns-in_err-version-in-Some-clause-none : goal.returns-in_err-version-in-Some-clause-none
+returns-in_err-version-in-Some-clause-none g c none =
+    let places = c.self.inside.versions.items in
+    let here = read_here c.args.handle places c.index_mut.result.now (omega (arith, c.self.invariant.0.count, c.requires.place)) c.index_mut.ensures.value in
+    absurd (live_here c.args.handle places c.in-Some.version (here ∙ c.in-Some.is) (ap (λ (p : Held g.row.K.Denot g.row.V.Denot). value_at nat_cmp p.live c.args.handle) c.self.view_is ∙ none))
+
+pub returns-clause-none : goal.returns-clause-none
+returns-clause-none g c none =
+    let places = c.self.inside.versions.items in
+    let here = read_here c.args.handle places c.index_mut.result.now (omega (arith, c.self.invariant.0.count, c.requires.place)) c.index_mut.ensures.value in
+    absurd (live_here c.args.handle places c.in-Some.version (here ∙ c.in-Some.is) (ap (λ (p : Held g.row.K.Denot g.row.V.Denot). value_at nat_cmp p.live c.args.handle) c.self.view_is ∙ none))
 
 pub invariant_of-self-2 : goal.invariant_of-self-2
 invariant_of-self-2 g c =

@@ -6,19 +6,25 @@ use Rattle.versions.specs.Map.{Map, value_at, with_pair}
 use Rattle.versions.specs.Puts.{FullExactly}
 use Rattle.handles.specs.Handles.{Held, live_from, maps_in}
 use Rattle.handles.specs.Views.{command_of}
-use Rattle.handles.proofs.Live.{held_here, not_live_here, with_version}
+use Rattle.handles.proofs.Live.{held_here, live_here, not_live_here, with_version}
 use Rattle.handles.proofs.Kept.{read_here, set_again}
 use Rattle.handles.proofs.Results.{if_ok, on_ok}
 use Rattle.handles.proofs.places.Places.run.Goals as goal
 
-pub unreachable-requires : goal.unreachable-requires
-unreachable-requires g c =
+pub returns-clause-none : goal.returns-clause-none
+returns-clause-none g c none =
     let places = c.self.inside.versions.items in
     let here = read_here c.args.handle places c.index_mut.result.now (omega (arith, c.self.invariant.0.count, c.requires.place)) c.index_mut.ensures.value in
-    not_live_here c.args.handle places (here ∙ c.in-None.is) (subst (λ (p : Held g.row.K.Denot g.row.V.Denot). IsSome (value_at nat_cmp p.live c.args.handle)) (sym c.self.view_is) c.requires.live)
+    absurd (live_here c.args.handle places c.in-Some.version (here ∙ c.in-Some.is) (ap (λ (p : Held g.row.K.Denot g.row.V.Denot). value_at nat_cmp p.live c.args.handle) c.self.view_is ∙ none))
 
-pub invariant_of-self : goal.invariant_of-self
-invariant_of-self g c =
+pub returns-in-None-clause-full : goal.returns-in-None-clause-full
+returns-in-None-clause-full g c live =
+    let places = c.self.inside.versions.items in
+    let here = read_here c.args.handle places c.index_mut.result.now (omega (arith, c.self.invariant.0.count, c.requires.place)) c.index_mut.ensures.value in
+    absurd (not_live_here c.args.handle places (here ∙ c.in-None.is) (subst (λ (p : Held g.row.K.Denot g.row.V.Denot). IsSome (value_at nat_cmp p.live c.args.handle)) (sym c.self.view_is) live))
+
+pub invariant_of-self-2 : goal.invariant_of-self-2
+invariant_of-self-2 g c =
     let places = c.self.inside.versions.items in
     let here = read_here c.args.handle places c.index_mut.result.now (omega (arith, c.self.invariant.0.count, c.requires.place)) c.index_mut.ensures.value ∙ c.in-Some.is in (
       set_again c.self.inside.limit c.self.inside.source c.args.handle c.in-Some.version c.run_on.new.version places c.self.invariant.0 here c.run_on.ensures.limit c.run_on.ensures.stamp,
@@ -44,7 +50,7 @@ returns-clause-reply g c =
     if_ok _ _ (λ y e. e ∙ ap (λ (es : Map g.row.K.Denot g.row.V.Denot). reply g.K.Ord.cmp g.V.PartialEq.eq es (command_of c.args.command)) held) c.run_on.result c.run_on.ensures.reply
 
 pub returns-clause-full : goal.returns-clause-full
-returns-clause-full g c =
+returns-clause-full g c live =
     let places = c.self.inside.versions.items in
     let version = c.in-Some.version in
     let here = read_here c.args.handle places c.index_mut.result.now (omega (arith, c.self.invariant.0.count, c.requires.place)) c.index_mut.ensures.value ∙ c.in-Some.is in
