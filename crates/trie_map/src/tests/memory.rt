@@ -6,10 +6,10 @@ use std::sync::Wait;
 use std::test::Fail;
 use test_keys::take_all;
 
-// The sizes of what a put asks for: an `Arc` or the children of a branch, and a node.
+// The sizes of what a put asks for: an `Arc` of its key or value, and the first room for the children of a branch.
 const SMALL: usize = 16;
 
-const LARGE: usize = 64;
+const LARGE: usize = 128;
 
 // How many blocks of each size a put is given at most.
 const MOST_SMALL: usize = 8;
