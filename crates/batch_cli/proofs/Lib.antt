@@ -1,3 +1,4 @@
+pub mod Asked
 pub mod Ends
 pub mod RunLemmas
 pub mod CommandLineLemmas

@@ -1,39 +1,41 @@
 -- What a statement asks of the machine of handles, and how it is answered.
-use Rattle.std.specs.Prelude.{◌≡◌, ℕ, ℤ, List, [], ◌∷◌, Option, Some, None, map}
+use Rattle.std.specs.Prelude.{◌≡◌, ℕ, ℤ, ◌⊎◌, List, [], ◌∷◌, Option, Some, None, map}
 use Rattle.std.specs.Ordering.{int_eq}
-use Rattle.versions.specs.Commands.{get, put, put_if_absent, replace, replace_if, remove, remove_if, size, clear, old, done, count, cleared}
-use Rattle.handles.specs.Machine.{Kind, State, Request, open_handle, snapshot, drop_handle, on, view, Outcome, made, replied, viewed, refused, Step, Run}
-use Rattle.handles.specs.NoQueries.{no_answer, no_target}
+use Rattle.versions.specs.Map.{Map}
+use Rattle.versions.specs.Commands.{get, put, put_if_absent, replace, replace_if, remove, remove_if, size, clear, old, done, cleared}
+use Rattle.versions.specs.Commands as commands
+use Rattle.handles.specs.Machine.{Kind, State, Request, open_handle, snapshot, drop_handle, on, view, freeze, finish, Outcome, made, replied, viewed, frozen, finished, refused, Step, Run}
 use Rattle.handles.specs.Views.{machine, request_of}
-use Rattle.handles.specs.declared.no_query.NoQuery.{NoQuery}
 use Rattle.bulk_ops.specs.Answers as plain
 use Rattle.keys.specs.Order.{bytes_cmp}
 use Rattle.script.specs.declared.statement.Statement.{Statement}
-use Rattle.script.specs.declared.statement.Statement.TheVariants.{Open, Snap, Drop, Get, Put, PutIfAbsent, Replace, ReplaceIf, Remove, RemoveIf, GetOrElse, Size, Clear, Pairs}
+use Rattle.script.specs.declared.statement.Statement.TheVariants.{Open, Snap, Drop, Get, Put, PutIfAbsent, Replace, ReplaceIf, Remove, RemoveIf, GetOrElse, Size, Clear, Pairs, Count, Exists, ForAll, Find, Filter, MapValues, Fold}
 use Rattle.script.specs.declared.reply.LineReply.{LineReply}
 use Rattle.script.specs.declared.reply.LineReply.TheVariants as replies
+use Rattle.batch_cli.specs.Folds.{Item}
+use Rattle.batch_cli.specs.Queries.{ScriptQuestion, count, exists, for_all, find, filtered, mapped, fold, answers, target_of}
 use Rattle.batch_cli.specs.declared.ask.Ask.{Ask}
 use Rattle.batch_cli.specs.declared.ask.Ask.TheVariants as asks
 
--- what the program is answered by a query, of which it asks none
+-- what a question is answered
 abbrev pub ProgramAnswer : Type 0
-ProgramAnswer = plain.Answer (List ℕ) ℤ (Unit {0})
+ProgramAnswer = plain.Answer (List ℕ) ℤ Item
 
--- what it is told of that
+-- what is told of that
 abbrev pub ProgramTold : Type 0
-ProgramTold = plain.Told (List ℕ) ℤ (Unit {0})
+ProgramTold = plain.Told (List ℕ) ℤ Item
 
--- the machine of the program: its keys are in the order of their bytes, its values are numbers, and it is asked no query
-abbrev pub program : Kind (List ℕ) ℤ NoQuery ProgramAnswer ProgramTold
-program = machine bytes_cmp int_eq no_target no_answer
+-- the machine of the program: its keys are in the order of their bytes, its values are numbers, and a question has its answers
+abbrev pub program : Kind (List ℕ) ℤ ScriptQuestion ProgramAnswer ProgramTold
+program = machine bytes_cmp int_eq target_of answers
 
 -- a state of that machine
 abbrev pub ProgramState : Type 0
-ProgramState = State (List ℕ) ℤ NoQuery
+ProgramState = State (List ℕ) ℤ ScriptQuestion
 
 -- what that machine is asked
 abbrev pub ProgramRequest : Type 0
-ProgramRequest = Request (List ℕ) ℤ NoQuery
+ProgramRequest = Request (List ℕ) ℤ ScriptQuestion
 
 -- what it is answered
 abbrev pub ProgramOutcome : Type 0
@@ -43,7 +45,7 @@ ProgramOutcome = Outcome (List ℕ) ℤ ProgramTold
 abbrev pub Event : Type 0
 Event = ProgramRequest × ProgramOutcome
 
--- the request of a statement; of `getorelse`, which may make two, the first
+-- the request of a statement; of `getorelse`, which may make two, and of a bulk verb, which makes a freeze and a finish, the first
 abbrev pub request_for : Statement → ProgramRequest
 request_for (Open handle) = open_handle handle
 request_for (Snap handle target) = snapshot handle target
@@ -59,11 +61,29 @@ request_for (GetOrElse handle key value) = on handle (get key)
 request_for (Size handle) = on handle size
 request_for (Clear handle) = on handle clear
 request_for (Pairs handle) = view handle
+request_for (Count handle test) = freeze handle (count test)
+request_for (Exists handle test) = freeze handle (exists test)
+request_for (ForAll handle test) = freeze handle (for_all test)
+request_for (Find handle test) = freeze handle (find test)
+request_for (Filter handle test target) = freeze handle (filtered test target)
+request_for (MapValues handle mapping target) = freeze handle (mapped mapping target)
+request_for (Fold handle folding) = freeze handle (fold folding)
 
 -- the request that something asked of the table is
 abbrev pub asked : Ask → ProgramRequest
 asked (asks.Call call) = request_of call
 asked (asks.View handle) = view handle
+asked (asks.Job handle question) = freeze handle question
+
+-- the reply that tells an answer
+abbrev pub told_reply : ProgramTold → LineReply
+told_reply (plain.Told.number n) = replies.Count n
+told_reply (plain.Told.truth b) = replies.Truth b
+told_reply (plain.Told.found None) = replies.Absent
+told_reply (plain.Told.found (Some pair)) = replies.Pair pair.0 pair.1
+told_reply (plain.Told.made pairs) = replies.Count pairs
+told_reply (plain.Told.item None) = replies.Absent
+told_reply (plain.Told.item (Some n)) = replies.Item n
 
 -- the reply that shows the outcome of a request
 abbrev pub reply_to : ProgramOutcome → Option LineReply
@@ -71,9 +91,10 @@ reply_to made = Some replies.Done
 reply_to (replied (old None)) = Some replies.Absent
 reply_to (replied (old (Some value))) = Some (replies.Found value)
 reply_to (replied (done b)) = Some (replies.Truth b)
-reply_to (replied (count number)) = Some (replies.Count number)
+reply_to (replied (commands.count number)) = Some (replies.Count number)
 reply_to (replied cleared) = Some replies.Done
 reply_to (viewed pairs) = Some (replies.Pairs pairs)
+reply_to (finished told) = Some (told_reply told)
 reply_to (refused refusal) = Some (replies.Refused refusal)
 reply_to _ = None
 
@@ -83,9 +104,10 @@ reply_with value (replied (old None)) = Some (replies.Found value)
 reply_with value outcome = reply_to outcome
 
 -- after a first event with this outcome the statement makes these events besides, and its line has this reply:
--- a `getorelse` whose get found nothing makes a put_if_absent, and any other statement is done
+-- a `getorelse` whose get found nothing makes a put_if_absent, the freeze of a job is followed by its finish, and any other statement is done
 abbrev pub Ends : Statement → ProgramOutcome → List Event → LineReply → Type 0
 Ends (GetOrElse handle key value) (replied (old None)) events reply = (outcome : ProgramOutcome) × (events ≡ (on handle (put_if_absent key value), outcome) ∷ []) × (reply_with value outcome ≡ Some reply)
+Ends statement (frozen job shown) events reply = (outcome : ProgramOutcome) × (events ≡ (finish job, outcome) ∷ []) × (reply_to outcome ≡ Some reply)
 Ends statement outcome events reply = (events ≡ []) × (reply_to outcome ≡ Some reply)
 
 -- the statement makes these events, one after another, and its line has this reply
@@ -103,6 +125,14 @@ MayAnswer s statement reply t = (events : List Event) × Makes statement events 
 -- the same of one request
 abbrev pub MayReply : ProgramState → ProgramRequest → LineReply → ProgramState → Type 0
 MayReply s request reply t = (outcome : ProgramOutcome) × Step program s request outcome t × (reply_to outcome ≡ Some reply)
+
+-- the same of a freeze that opens a job, and of the job's finish
+abbrev pub MayFinish : ProgramState → ProgramRequest → LineReply → ProgramState → Type 0
+MayFinish s request reply t = (job : ℕ) × (shown : Map (List ℕ) ℤ) × (between : ProgramState) × Step program s request (frozen job shown) between × MayReply between (finish job) reply t
+
+-- the same of one request, and of the finish of a job that it opens
+abbrev pub MayServe : ProgramState → ProgramRequest → LineReply → ProgramState → Type 0
+MayServe s request reply t = MayReply s request reply t ⊎ MayFinish s request reply t
 
 -- the same of a put_if_absent, where the line's own value stands in for one that was not found
 abbrev pub MayStore : ProgramState → ℕ → List ℕ → ℤ → LineReply → ProgramState → Type 0

@@ -1,3 +1,6 @@
 pub mod Events
 pub mod Runs
 pub mod CommandLine
+pub mod Folds
+pub mod FoldLaws
+pub mod Queries

@@ -1,11 +1,13 @@
 -- What is written for a script.
-use Rattle.std.specs.Prelude.{◌≡◌, ℕ, List, [], ◌∷◌, ◌++◌, Option}
+use Rattle.std.specs.Prelude.{◌≡◌, ℕ, Bool, true, false, List, [], ◌∷◌, ◌++◌, Option}
 use Rattle.std.specs.Io.KnownBytes.{Appends}
 use Rattle.std.specs.List.{flat_map}
 use Rattle.handles.specs.Machine.{nothing}
 use Rattle.script.specs.Replies.{line_text}
 use Rattle.script.specs.Scripts.{Spells}
 use Rattle.batch_cli.specs.Events.{ProgramState, Event, Makes, IsRun}
+use Rattle.script.specs.declared.statement.Statement.{Statement}
+use Rattle.script.specs.declared.statement.Statement.TheVariants.{Find}
 use Rattle.script.specs.declared.statement.CommandLine.{CommandLine}
 use Rattle.script.specs.declared.reply.LineReply.{LineReply}
 
@@ -43,6 +45,16 @@ start = nothing (record { pairs = 16777216; entries = 1048576 })
 -- the text has the replies of the script in some run of the machine from no handles
 abbrev pub IsOutputOf : List CommandLine → List ℕ → Type 0
 IsOutputOf script text = (end : ProgramState) × Answers script text start end
+
+-- whether the statement asks for some pair that passes, of which there may be several
+abbrev pub is_find : Statement → Bool
+is_find (Find handle test) = true
+is_find statement = false
+
+-- no line asks for some pair
+abbrev pub FindsNoPair : List CommandLine → Type 0
+FindsNoPair [] = Unit {0}
+FindsNoPair (line ∷ lines) = (is_find line.statement ≡ false) × FindsNoPair lines
 
 -- the text spells a script, and a writer that held the old bytes has its output behind them
 abbrev pub RunsText : List ℕ → Option (List ℕ) → Option (List ℕ) → Type 0

@@ -3,19 +3,21 @@
 ghost use Rattle.std.specs.Prelude.{◌≡◌, ◌≢◌, IfOk, OnOk, Some, false};
 ghost use Rattle.handles.specs.Views.{lacks_memory, outcome_of, request_of};
 ghost use Rattle.handles.specs.Machine.{view};
-ghost use Rattle.batch_cli.specs.Events.{MayAnswer, MayReply, MayStore, asked, reply_to};
+ghost use Rattle.batch_cli.specs.Events.{MayAnswer, MayReply, MayServe, MayStore, asked, reply_to};
 
 use crate::ask::{Ask, ask_of};
+use crate::jobs::worked;
 use crate::listing::listing_of;
-use handles::{Call, CallReply, Command, NoQuery, Reply, Table, law_of_answers};
+use crate::query::ScriptQuery;
+use handles::{Call, CallReply, Command, Reply, Table, law_of_answers};
 use keys::ByteText;
 use script::{Key, LineReply, Statement};
 use std::alloc::Global;
 use std::sync::Arc;
 use versions::{NoMemory, Refusal};
 
-/// The table of a program: its keys are the texts of a script's keys.
-pub type ProgramTable = Table<ByteText, i64>;
+/// The table of a program: its keys are the texts of a script's keys, and it is asked a script's questions.
+pub type ProgramTable = Table<ByteText, i64, ScriptQuery>;
 
 /// Makes the events of the statement on the table, and gives the reply of its line.
 pub fn answer(
@@ -53,13 +55,14 @@ fn or_else(
     }
 }
 
-/// Makes the event, and gives the reply that shows its outcome.
+/// Makes the event, of a job both events, and gives the reply that shows the outcome.
 fn event(alloc: Global, table: &mut ProgramTable, ask: Ask) -> Result<LineReply, NoMemory>
-    ensures { IfOk result (λ reply. MayReply table.old (asked ask) reply table.new) }
+    ensures { IfOk result (λ reply. MayServe table.old (asked ask) reply table.new) }
 {
     match ask {
         Ask::Call(call) => served(alloc, table, call),
         Ask::View(handle) => listed(alloc, table, handle),
+        Ask::Job(handle, query) => worked(alloc, table, handle, query),
     }
 }
 
@@ -71,7 +74,7 @@ fn served(
 ) -> Result<LineReply, NoMemory>
     ensures { IfOk result (λ reply. MayReply table.old (request_of call) reply table.new) }
 {
-    law_of_answers::<ByteText, i64, NoQuery>();
+    law_of_answers::<ByteText, i64, ScriptQuery>();
     let answer = table.serve(alloc, call);
     reply_of(&answer)
 }
@@ -120,7 +123,7 @@ fn reply_of(answer: &Result<CallReply<i64>, Refusal>) -> Result<LineReply, NoMem
 }
 
 /// The reply that tells the refusal, unless memory was wanting.
-fn refused(refusal: Refusal) -> Result<LineReply, NoMemory>
+pub fn refused(refusal: Refusal) -> Result<LineReply, NoMemory>
     ensures shown { IfOk result (λ reply. reply ≡ LineReply.Refused refusal) }
     ensures memory { OnOk result (refusal ≢ Refusal.NoMemory) }
 {

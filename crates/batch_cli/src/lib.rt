@@ -7,10 +7,14 @@
 
 mod arguments;
 mod ask;
+mod closures;
 mod events;
+mod fold;
 mod input;
+mod jobs;
 pub mod law;
 mod listing;
+mod query;
 mod run;
 mod status;
 mod words;
@@ -19,8 +23,8 @@ pub use arguments::{ArgFault, Options};
 pub use input::read_script;
 pub use run::{RunFault, run_script};
 pub use script::{
-    CommandLine, Key, LineReply, Listing, MapKey, Reason, Script, ScriptFault, Statement,
-    parse_script,
+    CommandLine, Folding, Key, LineReply, Listing, MapKey, Mapping, Reason, Script, ScriptFault,
+    Statement, Test, parse_script,
 };
 pub use status::execute;
 pub use words::options;

@@ -4,6 +4,7 @@ mod events;
 mod failures;
 mod memory;
 mod operations;
+mod questions;
 mod scripts;
 
 use crate::{Options, execute};

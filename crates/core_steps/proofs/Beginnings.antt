@@ -14,7 +14,7 @@ use Rattle.core_steps.specs.Desks.{Station, IsVacant, interval_of, worker_of, bo
 use Rattle.core_steps.proofs.KeptBoards.{first_is_board}
 
 -- no interval has no pairs
-no_parts : {K V : Type 0} (path : K → ℕ) (m : Map K V) → parts path m [] ≡ []
+pub no_parts : {K V : Type 0} (path : K → ℕ) (m : Map K V) → parts path m [] ≡ []
 no_parts path [] = refl
 no_parts path (x ∷ m) = no_parts path m
 

@@ -13,3 +13,5 @@ pub mod Takings
 pub mod Workings
 pub mod Beginnings
 pub mod JobSteps
+pub mod MoveSteps
+pub mod Collections

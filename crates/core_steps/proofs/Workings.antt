@@ -34,7 +34,7 @@ any_cover (i ∷ is) p e = by (lies_in i p) (list_any (λ i. lies_in i p) is) (c
     by false b c e any rest = omega (arith, e, rest any)
 
 -- two parts of a map by intervals that are apart have no more pairs together than the map
-few_together : {K V : Type 0} (path : K → ℕ) (m : Map K V) (is js : List Interval) → AreApart (is ++ js) → length (parts path m is) + length (parts path m js) ≤ length m
+pub few_together : {K V : Type 0} (path : K → ℕ) (m : Map K V) (is js : List Interval) → AreApart (is ++ js) → length (parts path m is) + length (parts path m js) ≤ length m
 few_together path [] is js apart = omega arith
 few_together path (x ∷ m) is js apart =
     let p : ℕ = position (path x.0) in
@@ -70,7 +70,7 @@ module _ {K V : Type 0} (R : K → K → Ordering) (path : K → ℕ)
         subst (λ (n : Map K V). answers n c) (sym both) (joined (parts path m is) (part path m i) first second (maps_apart m is i sorted few apart))
 
 module _ {K V P : Type 0} where
-  result_at : (ds : List (Station K V P)) (w : ℕ) (d : Station K V P) → get_or (results ds) w (result_of d) ≡ result_of (get_or ds w d)
+  pub result_at : (ds : List (Station K V P)) (w : ℕ) (d : Station K V P) → get_or (results ds) w (result_of d) ≡ result_of (get_or ds w d)
   result_at [] w d = refl
   result_at (x ∷ ds) zero d = refl
   result_at (x ∷ ds) (suc w) d = result_at ds w d

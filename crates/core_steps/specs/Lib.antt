@@ -6,3 +6,5 @@ pub mod Laws
 pub mod Queries
 pub mod Desks
 pub mod Views
+pub mod Collected
+pub mod Moves

@@ -1,9 +1,10 @@
 //! The board of one job: the desks of its workers.
 
-ghost use Rattle.std.specs.Prelude.{All, ◌≡◌, ◌<◌, ◌≤◌, IfOk, OnErr, length, option_map, slice_get, slice_index_or, slice_set};
+ghost use Rattle.std.specs.Prelude.{All, ◌≡◌, ◌<◌, ◌≤◌, [], IfOk, OnErr, length, option_map, slice_get, slice_index_or, slice_set};
 ghost use Rattle.core_steps.specs.Boards.{first_board};
 ghost use Rattle.versions.specs.Map.{Map};
 ghost use Rattle.splitter.specs.Cuts.{cut_point};
+ghost use Rattle.std.specs.VecDeque.{deque_capacity, deque_len};
 ghost use Rattle.core_steps.specs.Desks.{HasPieces, IsJobOn, IsVacant, Leaves, Station, Works, board, splitting_turn, stealing_turn, taking_turn};
 ghost use Rattle.core_steps.specs.Views.{turn_of};
 
@@ -35,6 +36,13 @@ impl<K: PathKey, V, P> Model for Board<K, V, P> {
 }
 
 impl<K: PathKey + Drop, V: Drop, P> Board<K, V, P> {
+    /// The desks, in order of the workers' numbers.
+    pub(crate) fn desks(&self) -> &[Desk<K, V, P>]
+        ensures { result.now ≡ self.now }
+    {
+        &self.desks
+    }
+
     /// These pieces wait for worker 0 now. It takes no memory.
     pub(crate) fn begin(&mut self, queue: VecDeque<Piece<K, V>>)
         requires { 0 < length self.old }
@@ -107,11 +115,30 @@ pub fn first_board<K: PathKey + Drop, V: Drop, B: Bulk<K, V>>(
     ensures job { IfOk result (λ desks. IsJobOn K.cmp K.path_of (B.answers bulk.now) view desks) }
 {
     let mut board = vacant(alloc, bulk, workers)?;
-    let mut queue = VecDeque::with_capacity(alloc, 1)?;
-    view.len();
-    queue.push_back(whole(alloc, view))?;
-    board.begin(queue);
+    let queue = VecDeque::with_capacity(alloc, 1)?;
+    begin_whole(alloc, bulk, &mut board, queue, view);
     Ok(board)
+}
+
+/// The piece of the whole view waits for worker 0 of a vacant board, in a queue with a place for it. It takes no memory.
+pub(crate) fn begin_whole<K: PathKey + Drop, V: Drop, B: Bulk<K, V>>(
+    alloc: Global,
+    bulk: &B,
+    vacant: &mut Board<K, V, B::Part>,
+    mut queue: VecDeque<Piece<K, V>>,
+    view: View<K, V>,
+)
+    requires workers { 1 ≤ length vacant.old }
+    requires desks { All (IsVacant (B.answers bulk.now)) vacant.old }
+    requires empty { queue.items ≡ [] }
+    requires place { deque_len queue < deque_capacity queue }
+    ensures first { board vacant.new ≡ first_board (length vacant.old) }
+    ensures job { IsJobOn K.cmp K.path_of (B.answers bulk.now) view vacant.new }
+{
+    let _ = bulk;
+    view.len();
+    queue.push_back_reserved(whole(alloc, view));
+    vacant.begin(queue);
 }
 
 /// A board for whose workers nothing waits yet. Each has the part of no pairs.

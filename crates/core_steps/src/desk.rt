@@ -1,6 +1,6 @@
 //! What one worker of a job has before it.
 
-ghost use Rattle.std.specs.Prelude.{◌≡◌, [], IfOk, None, Some, OnErr, is_none};
+ghost use Rattle.std.specs.Prelude.{◌≡◌, [], IfOk, None, Some, OnErr, is_none, length};
 ghost use Rattle.core_steps.specs.Boards.{oldest, without_oldest};
 ghost use Rattle.core_steps.specs.Desks.{station_split, station_take};
 ghost use Rattle.core_steps.specs.Views.{turn_of};
@@ -50,6 +50,20 @@ impl<K: PathKey + Drop, V: Drop, P> Desk<K, V, P> {
         ensures { result ≡ is_none self.now.held }
     {
         self.held.is_none()
+    }
+
+    /// The part of what the worker has worked.
+    pub(crate) fn part(&self) -> &P
+        ensures { result.now ≡ self.now.part }
+    {
+        &self.part
+    }
+
+    /// How many pieces wait.
+    pub(crate) fn waiting(&self) -> usize
+        ensures { result ≡ length self.now.queue }
+    {
+        self.queue.len()
     }
 
     /// A worker that holds no piece gets the newest one of its queue.

@@ -6,15 +6,19 @@
 #![tactic(auto)]
 
 mod board;
+mod collecting;
 mod desk;
 mod laws;
+mod moves;
 mod progress;
 mod working;
 
 pub use board::{Board, first_board, work_on};
+pub use collecting::collected;
 pub use laws::{
     law_of_boards, law_of_cores, law_of_coverings, law_of_jobs, law_of_runs, law_of_tilings,
 };
+pub use moves::{Move, make_move};
 pub use progress::Progress;
 
 #[cfg(test)]

@@ -33,6 +33,13 @@ verbs =
     ∷ record { name = codes "size"; places = handle_place ∷ [] }
     ∷ record { name = codes "clear"; places = handle_place ∷ [] }
     ∷ record { name = codes "list"; places = handle_place ∷ [] }
+    ∷ record { name = codes "count"; places = handle_place ∷ test_place ∷ [] }
+    ∷ record { name = codes "exists"; places = handle_place ∷ test_place ∷ [] }
+    ∷ record { name = codes "forall"; places = handle_place ∷ test_place ∷ [] }
+    ∷ record { name = codes "find"; places = handle_place ∷ test_place ∷ [] }
+    ∷ record { name = codes "filter"; places = handle_place ∷ test_place ∷ handle_place ∷ [] }
+    ∷ record { name = codes "mapvalues"; places = handle_place ∷ map_place ∷ handle_place ∷ [] }
+    ∷ record { name = codes "fold"; places = handle_place ∷ fold_place ∷ [] }
     ∷ []
 
 -- the verb of this name, if there is one

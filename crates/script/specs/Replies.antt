@@ -31,7 +31,9 @@ text_of (replies.Found value) = codes "some " ++ signed_decimal value
 text_of (replies.Truth true) = codes "true"
 text_of (replies.Truth false) = codes "false"
 text_of (replies.Count number) = codes "count " ++ decimal number
+text_of (replies.Pair key value) = codes "pair " ++ key ++ 32 ∷ signed_decimal value
 text_of (replies.Pairs pairs) = codes "pairs" ++ flat_map pair_text pairs
+text_of (replies.Item number) = codes "item " ++ signed_decimal number
 text_of (replies.Refused refusal) = codes "refused " ++ refusal_name refusal
 
 -- the line's number, a space, its reply and a newline

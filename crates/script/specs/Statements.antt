@@ -9,7 +9,7 @@ use Rattle.script.specs.declared.passing.Test.{Test}
 use Rattle.script.specs.declared.mapping.Mapping.{Mapping}
 use Rattle.script.specs.declared.folding.Folding.{Folding}
 use Rattle.script.specs.declared.statement.Statement.{Statement}
-use Rattle.script.specs.declared.statement.Statement.TheVariants.{Open, Snap, Drop, Get, Put, PutIfAbsent, Replace, ReplaceIf, Remove, RemoveIf, GetOrElse, Size, Clear, Pairs}
+use Rattle.script.specs.declared.statement.Statement.TheVariants.{Open, Snap, Drop, Get, Put, PutIfAbsent, Replace, ReplaceIf, Remove, RemoveIf, GetOrElse, Size, Clear, Pairs, Count, Exists, ForAll, Find, Filter, MapValues, Fold}
 use Rattle.script.specs.declared.statement.CommandLine.{CommandLine}
 
 -- what stands behind a verb
@@ -74,6 +74,13 @@ phrase_of (GetOrElse handle key value) = record { name = codes "getorelse"; argu
 phrase_of (Size handle) = record { name = codes "size"; arguments = handle_argument handle ∷ [] }
 phrase_of (Clear handle) = record { name = codes "clear"; arguments = handle_argument handle ∷ [] }
 phrase_of (Pairs handle) = record { name = codes "list"; arguments = handle_argument handle ∷ [] }
+phrase_of (Count handle test) = record { name = codes "count"; arguments = handle_argument handle ∷ test_argument test ∷ [] }
+phrase_of (Exists handle test) = record { name = codes "exists"; arguments = handle_argument handle ∷ test_argument test ∷ [] }
+phrase_of (ForAll handle test) = record { name = codes "forall"; arguments = handle_argument handle ∷ test_argument test ∷ [] }
+phrase_of (Find handle test) = record { name = codes "find"; arguments = handle_argument handle ∷ test_argument test ∷ [] }
+phrase_of (Filter handle test target) = record { name = codes "filter"; arguments = handle_argument handle ∷ test_argument test ∷ handle_argument target ∷ [] }
+phrase_of (MapValues handle mapping target) = record { name = codes "mapvalues"; arguments = handle_argument handle ∷ map_argument mapping ∷ handle_argument target ∷ [] }
+phrase_of (Fold handle folding) = record { name = codes "fold"; arguments = handle_argument handle ∷ fold_argument folding ∷ [] }
 
 -- what a statement spells: its verb's name and its arguments, a field each
 abbrev pub words_of : Statement → List (List ℕ)

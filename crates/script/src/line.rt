@@ -56,19 +56,19 @@ fn statement_at(alloc: Global, mut fields: Fields<'_>) -> Result<Statement, Stop
 
 /// Reads the arguments of a statement, in the order in which its fields are named, and makes it.
 macro_rules! statement {
-    ($alloc:ident, $fields:ident, $name:ident { $a:ident }) => {{
+    ($alloc:ident, $fields:ident, $name:ident($a:ident)) => {{
         let ($a, ()) = Arguments::read($alloc, $fields)?;
         Ok(Statement::$name { $a })
     }};
-    ($alloc:ident, $fields:ident, $name:ident { $a:ident, $b:ident }) => {{
+    ($alloc:ident, $fields:ident, $name:ident($a:ident, $b:ident)) => {{
         let ($a, ($b, ())) = Arguments::read($alloc, $fields)?;
         Ok(Statement::$name { $a, $b })
     }};
-    ($alloc:ident, $fields:ident, $name:ident { $a:ident, $b:ident, $c:ident }) => {{
+    ($alloc:ident, $fields:ident, $name:ident($a:ident, $b:ident, $c:ident)) => {{
         let ($a, ($b, ($c, ()))) = Arguments::read($alloc, $fields)?;
         Ok(Statement::$name { $a, $b, $c })
     }};
-    ($alloc:ident, $fields:ident, $name:ident { $a:ident, $b:ident, $c:ident, $d:ident }) => {{
+    ($alloc:ident, $fields:ident, $name:ident($a:ident, $b:ident, $c:ident, $d:ident)) => {{
         let ($a, ($b, ($c, ($d, ())))) = Arguments::read($alloc, $fields)?;
         Ok(Statement::$name { $a, $b, $c, $d })
     }};
@@ -81,29 +81,27 @@ fn statement_of(alloc: Global, verb: &str, fields: Fields<'_>) -> Result<Stateme
     ensures err { IfErr result (StopsBy (StatementFault (verb.now ∷ fields_of fields.entry.0.now))) }
 {
     match verb {
-        "open" => statement!(alloc, fields, Open { handle }),
-        "snap" => statement!(alloc, fields, Snap { handle, target }),
-        "drop" => statement!(alloc, fields, Drop { handle }),
-        "get" => statement!(alloc, fields, Get { handle, key }),
-        "put" => statement!(alloc, fields, Put { handle, key, value }),
-        "putifabsent" => statement!(alloc, fields, PutIfAbsent { handle, key, value }),
-        "replace" => statement!(alloc, fields, Replace { handle, key, value }),
-        "replaceif" => statement!(
-            alloc,
-            fields,
-            ReplaceIf {
-                handle,
-                key,
-                old,
-                new
-            }
-        ),
-        "remove" => statement!(alloc, fields, Remove { handle, key }),
-        "removeif" => statement!(alloc, fields, RemoveIf { handle, key, value }),
-        "getorelse" => statement!(alloc, fields, GetOrElse { handle, key, value }),
-        "size" => statement!(alloc, fields, Size { handle }),
-        "clear" => statement!(alloc, fields, Clear { handle }),
-        "list" => statement!(alloc, fields, Pairs { handle }),
+        "open" => statement!(alloc, fields, Open(handle)),
+        "snap" => statement!(alloc, fields, Snap(handle, to)),
+        "drop" => statement!(alloc, fields, Drop(handle)),
+        "get" => statement!(alloc, fields, Get(handle, key)),
+        "put" => statement!(alloc, fields, Put(handle, key, value)),
+        "putifabsent" => statement!(alloc, fields, PutIfAbsent(handle, key, value)),
+        "replace" => statement!(alloc, fields, Replace(handle, key, value)),
+        "replaceif" => statement!(alloc, fields, ReplaceIf(handle, key, old, new)),
+        "remove" => statement!(alloc, fields, Remove(handle, key)),
+        "removeif" => statement!(alloc, fields, RemoveIf(handle, key, value)),
+        "getorelse" => statement!(alloc, fields, GetOrElse(handle, key, value)),
+        "size" => statement!(alloc, fields, Size(handle)),
+        "clear" => statement!(alloc, fields, Clear(handle)),
+        "list" => statement!(alloc, fields, Pairs(handle)),
+        "count" => statement!(alloc, fields, Count(handle, test)),
+        "exists" => statement!(alloc, fields, Exists(handle, test)),
+        "forall" => statement!(alloc, fields, ForAll(handle, test)),
+        "find" => statement!(alloc, fields, Find(handle, test)),
+        "filter" => statement!(alloc, fields, Filter(handle, test, to)),
+        "mapvalues" => statement!(alloc, fields, MapValues(handle, map, to)),
+        "fold" => statement!(alloc, fields, Fold(handle, folding)),
         _ => Err(Stop::Fault(Reason::UnknownVerb)),
     }
 }

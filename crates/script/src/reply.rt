@@ -4,6 +4,7 @@ ghost use Rattle.std.specs.Prelude.{◌≡◌, ◌++◌, OnOk};
 ghost use Rattle.script.specs.Replies.{line_text, refusal_name, text_of};
 
 use crate::listing::Listing;
+use crate::map_key::MapKey;
 use std::io;
 use std::io::Write;
 use versions::Refusal;
@@ -13,16 +14,20 @@ use versions::Refusal;
 pub enum LineReply {
     /// It was done, and there is nothing to tell.
     Done,
-    /// The key has no value.
+    /// The key has no value, there is no such pair, or there is no value to fold.
     Absent,
     /// The value of the key.
     Found(i64),
-    /// Whether it was done.
+    /// Whether it was done, or is so.
     Truth(bool),
     /// How many pairs there are.
     Count(u64),
+    /// A pair.
+    Pair(MapKey, i64),
     /// All pairs.
     Pairs(Listing),
+    /// What a fold made.
+    Item(i128),
     /// It was refused.
     Refused(Refusal),
 }
@@ -52,10 +57,16 @@ pub fn push_reply(out: &mut Vec<u8>, reply: &LineReply) -> io::Result<()>
         LineReply::Truth(true) => write!(out, "true"),
         LineReply::Truth(false) => write!(out, "false"),
         LineReply::Count(number) => write!(out, "count {number}"),
+        LineReply::Pair(key, value) => {
+            write!(out, "pair ")?;
+            out.extend_from_slice(key.as_slice())?;
+            write!(out, " {value}")
+        }
         LineReply::Pairs(pairs) => {
             write!(out, "pairs")?;
             pairs.push_to(out)
         }
+        LineReply::Item(number) => write!(out, "item {number}"),
         LineReply::Refused(refusal) => write!(out, "refused {}", name_of(*refusal)),
     }
 }

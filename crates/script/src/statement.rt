@@ -1,6 +1,9 @@
 //! What a script says.
 
+use crate::folding::Folding;
 use crate::key::Key;
+use crate::mapping::Mapping;
+use crate::passing::Test;
 
 /// What a client asks of the table. Handles are numbers, whether a table has them or not.
 #[derive(Debug, Drop)]
@@ -9,10 +12,10 @@ pub enum Statement {
     Open {
         handle: u32,
     },
-    /// Makes the target live with the map of the handle.
+    /// Makes the handle `to` live with the map of the handle.
     Snap {
         handle: u32,
-        target: u32,
+        to: u32,
     },
     /// Closes the handle.
     Drop {
@@ -76,6 +79,43 @@ pub enum Statement {
     /// Asks for all pairs, in the order of their keys.
     Pairs {
         handle: u32,
+    },
+    /// Asks how many pairs pass the test.
+    Count {
+        handle: u32,
+        test: Test,
+    },
+    /// Asks whether some pair passes the test.
+    Exists {
+        handle: u32,
+        test: Test,
+    },
+    /// Asks whether every pair passes the test.
+    ForAll {
+        handle: u32,
+        test: Test,
+    },
+    /// Asks for a pair that passes the test.
+    Find {
+        handle: u32,
+        test: Test,
+    },
+    /// Makes the handle `to` live with the pairs that pass the test.
+    Filter {
+        handle: u32,
+        test: Test,
+        to: u32,
+    },
+    /// Makes the handle `to` live with the same keys and their new values.
+    MapValues {
+        handle: u32,
+        map: Mapping,
+        to: u32,
+    },
+    /// Asks what the fold makes of all values.
+    Fold {
+        handle: u32,
+        folding: Folding,
     },
 }
 

@@ -9,7 +9,7 @@ use std::sync::atomic::{AtomicBool, Ordering};
 use std::sync::{Arc, Wait};
 use std::thread;
 use std::thread::Threads;
-use std::time::Instant;
+use std::time::{Clock, Instant};
 use trie_map::TrieMap;
 
 /// How many calls a round makes, over all its threads.
@@ -111,7 +111,7 @@ fn calls_of<R: Wait>(
 }
 
 /// Times views while four threads write, and tells the median.
-fn views<R: Runtime + AllocGlobal + Threads + Wait + Sync>(
+fn views<R: Runtime + Clock + AllocGlobal + Threads + Wait + Sync>(
     rt: &R,
     map: &Shared,
     keys: &[Arc<ByteText>],
@@ -159,7 +159,7 @@ fn write_until<R: AllocGlobal + Wait>(
 }
 
 /// The median of the nanoseconds that a view takes.
-fn median_of_views<R: Runtime + AllocGlobal + Wait>(rt: &R, map: &Shared) -> Result<u64, Fault> {
+fn median_of_views<R: Clock + AllocGlobal + Wait>(rt: &R, map: &Shared) -> Result<u64, Fault> {
     let mut times = Vec::new(rt.alloc());
     for _ in 0..VIEWS {
         let start = Instant::now(rt)?;

@@ -1,5 +1,6 @@
 -- The stripes of a map: the pairs whose keys' words have one first digit.
-use Rattle.std.specs.Prelude.{◌≡◌, ℕ, zero, suc, List, [], ◌∷◌, ◌++◌, map}
+use Rattle.std.specs.Prelude.{◌≡◌, ℕ, zero, suc, Bool, true, not, ◌&&◌, ◌==◌, if◌then◌else◌, List, [], ◌∷◌, ◌++◌, map}
+use Rattle.std.specs.List.{list_any}
 use Rattle.std.specs.declared.cmp.Ordering.{Ordering}
 use Rattle.trie_map.specs.declared.stripe.TheConstants.{MOST_PAIRS_OF_STRIPE}
 use Rattle.versions.specs.Contents.{Contents}
@@ -14,6 +15,11 @@ pub record Content (K V : Type 0) : Type 0 where
 abbrev pub up_to : ℕ → List ℕ
 up_to zero = []
 up_to (suc n) = up_to n ++ n ∷ []
+
+-- whether no two of the numbers are equal
+abbrev pub all_differ : List ℕ → Bool
+all_differ [] = true
+all_differ (n ∷ ns) = not (list_any (λ other. n == other) ns) && all_differ ns
 
 module _ {K V : Type 0} where
   -- the map has no pairs and the limit of a stripe
@@ -32,3 +38,8 @@ module _ {K V : Type 0} where
   abbrev pub unions : (K → K → Ordering) → List (Map K V) → Map K V
   unions R [] = []
   unions R (m ∷ ms) = union R m (unions R ms)
+
+  -- the map of the first stripe of the digit; no pairs where there is none
+  abbrev pub map_of_digit : ℕ → List (Content K V) → Map K V
+  map_of_digit d [] = []
+  map_of_digit d (s ∷ ss) = if d == s.digit then s.entries else map_of_digit d ss

@@ -1,9 +1,9 @@
 //! The pairs of all stripes together.
-ghost use Rattle.std.specs.Prelude.{◌≡◌, ◌≤◌, ◌+◌, ◌*◌, IfOk, length};
+ghost use Rattle.std.specs.Prelude.{◌≡◌, ◌≤◌, ◌+◌, ◌*◌, IfOk, IsTrue, length};
 ghost use Rattle.hash_path.specs.Digits.{fan_out};
-ghost use Rattle.trie_map.specs.Rules.{AllKeep};
-ghost use Rattle.trie_map.specs.Stripes.{maps_of, unions};
-ghost use Rattle.versions.specs.Map.{union};
+ghost use Rattle.trie_map.specs.Rules.{AllKeep, first_digit};
+ghost use Rattle.trie_map.specs.Stripes.{all_differ, digits_of, map_of_digit, maps_of, unions};
+ghost use Rattle.versions.specs.Map.{union, value_at};
 ghost use Rattle.versions.specs.declared.version.TheConstants.{MOST_PAIRS};
 
 use crate::keeps::Keeps;
@@ -14,8 +14,8 @@ use std::alloc::Global;
 use trie_node::{NoMemory, Stamp, union_of_maps};
 use versions::{MOST_PAIRS, Version};
 
-/// The map of the pairs of all stripes; where several have a key, the value is that of the first. Each pair keeps the
-/// rule.
+/// The map of the pairs of all stripes. At each key it has exactly what the stripe of the key's first digit has. Each
+/// pair keeps the rule.
 ///
 /// Stripes of different digits share no subtrie below the root, so this costs a few nodes for each stripe, however
 /// many pairs there are.
@@ -23,7 +23,9 @@ pub fn joined<K: PathKey + Drop, V: Drop, P: Keeps<K, V>>(
     alloc: Global,
     stripes: &[Stripe<K, V, P>],
 ) -> Result<Version<K, V>, NoMemory>
-    requires { length stripes.now ≤ fan_out }
+    requires few { length stripes.now ≤ fan_out }
+    requires differ { IsTrue (all_differ (digits_of stripes.now)) }
+    ensures at_key { IfOk result (λ map. (key : K) → value_at K.cmp map.entries key ≡ value_at K.cmp (map_of_digit (first_digit K.path_of key) stripes.now) key) }
     ensures entries { IfOk result (λ map. map.entries ≡ unions K.cmp (maps_of stripes.now)) }
     ensures limit { IfOk result (λ map. map.limit ≡ MOST_PAIRS) }
     ensures few { IfOk result (λ map. length map.entries ≤ length stripes.now * MOST_PAIRS_OF_STRIPE) }

@@ -37,7 +37,7 @@ module _ {K V : Type 0} (R : K → K → Ordering) (path : K → ℕ) (total : I
       let other : is_other R k e.0 ≡ true = ap not (not_tied (R k e.0) (left_of (is_lt (R k e.0)) (below_all R k es) h)) in
       ap (λ b. cond b (e ∷ where_key R (is_other R k) es) (where_key R (is_other R k) es)) other ∙ ap (λ xs. e ∷ xs) (where_above k es (right_of (is_lt (R k e.0)) (below_all R k es) h))
 
-  below_at : (x : K) (es : List (K × V)) (i : ℕ) (d : K × V) → i < length es → T (below_all R x es) → T (is_lt (R x (get_or es i d).0))
+  pub below_at : (x : K) (es : List (K × V)) (i : ℕ) (d : K × V) → i < length es → T (below_all R x es) → T (is_lt (R x (get_or es i d).0))
   below_at x [] i d lt h = absurd (omega arith)
   below_at x (e ∷ es) zero d lt h = left_of (is_lt (R x e.0)) (below_all R x es) h
   below_at x (e ∷ es) (suc i) d lt h = below_at x es i d (omega arith) (right_of (is_lt (R x e.0)) (below_all R x es) h)

@@ -1,7 +1,9 @@
 -- What a put does to a node where it stands.
-use Rattle.std.specs.Prelude.{◌≡◌, ℕ, Bool, true, false, Option, Some, is_some, ◌||◌}
+use Rattle.std.specs.Prelude.{◌≡◌, ◌≤◌, ℕ, Bool, true, false, List, length, Option, Some, None, is_some, ◌||◌}
+use Rattle.std.specs.List.{insert}
 use Rattle.std.specs.declared.cmp.Ordering.{Ordering}
 use Rattle.std.specs.FinMap.{find}
+use Rattle.std.specs.FinMap.Entries.{put}
 use Rattle.trie_node.specs.Tree.{Tree, entries}
 use Rattle.trie_node.specs.Writes.{Writes}
 
@@ -15,3 +17,9 @@ pub record PutsIn {K V : Type 0} (R : K → K → Ordering) (path : K → ℕ) (
 -- whether a put in place may be refused: it takes place, or the key has a value, on which a handle is given
 abbrev pub is_refusable : {V : Type 0} → (Option V → Bool) → Option V → Bool
 is_refusable holds found = holds found || is_some found
+
+-- k is absent, and i is the place where a pair of it goes
+pub record GoesTo {K V : Type 0} (R : K → K → Ordering) (k : K) (i : ℕ) (es : List (K × V)) : Type 0 where
+  pub within : i ≤ length es
+  pub absent : find R k es ≡ None
+  pub puts : (v : V) → put R k v es ≡ insert es i (k, v)

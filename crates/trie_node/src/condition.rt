@@ -1,6 +1,6 @@
 //! When a write takes place.
 
-ghost use Rattle.std.specs.Prelude.{◌≡◌, Bool, true, Option, is_some, is_none, option_map};
+ghost use Rattle.std.specs.Prelude.{◌≡◌, Bool, true, Option, Some, None, is_some, is_none, option_map};
 ghost use Rattle.trie_node.specs.Conditions.{some_and};
 
 use std::alloc::Global;
@@ -61,4 +61,19 @@ impl<'v, V: Eq> Condition<V> for IfEqual<'v, V> {
             None => false,
         }
     }
+}
+
+/// Whether a condition holds of a key that is absent.
+pub(crate) fn holds_of_absent<V: Drop, C: Condition<V>>(condition: &C) -> bool
+    ensures { result ≡ C.holds condition.now None }
+{
+    let absent: Option<Arc<V, Global>> = None;
+    condition.holds(absent.as_ref())
+}
+
+/// Whether a condition holds of a value.
+pub(crate) fn holds_of<V, C: Condition<V>>(condition: &C, value: &Arc<V, Global>) -> bool
+    ensures { result ≡ C.holds condition.now (Some value.now.value) }
+{
+    condition.holds(Some(value))
 }

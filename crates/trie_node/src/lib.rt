@@ -10,6 +10,7 @@
 mod bitmap;
 mod bound_laws;
 mod branch_in_place;
+mod bucket_in_place;
 mod condition;
 mod contraction;
 mod copies;

@@ -18,7 +18,10 @@ use std::cmp::Ordering;
 use std::sync::Arc;
 
 /// The place of the key among pairs.
-fn place_of<K: PathKey, V>(pairs: &[(Arc<K, Global>, Arc<V, Global>)], key: &K) -> Option<usize>
+pub(crate) fn place_of<K: PathKey, V>(
+    pairs: &[(Arc<K, Global>, Arc<V, Global>)],
+    key: &K,
+) -> Option<usize>
     ensures there { IfSome result (λ i. IsAt K.cmp key.now i (map pair_values pairs.now)) }
     ensures absent { IfNone result (find K.cmp key.now (map pair_values pairs.now) ≡ None) }
 {

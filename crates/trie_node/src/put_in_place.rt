@@ -14,7 +14,8 @@ ghost use Rattle.trie_node.specs.PutInPlace.{PutsIn, is_refusable};
 ghost use Rattle.std.specs.declared.cmp.Ordering.TheVariants.{Equal};
 
 use crate::bitmap::{has_digit, place};
-use crate::condition::{Always, Condition};
+use crate::bucket_in_place::{have_path, put_in_pair, put_in_pairs};
+use crate::condition::{Always, Condition, holds_of_absent};
 use crate::no_memory::NoMemory;
 use crate::node::{Branch, Node, make_leaf};
 use crate::put::{Entry, Written, put_at};
@@ -23,7 +24,6 @@ use crate::stamps::Stamp;
 use hash_path::PathKey;
 use std::alloc::Global;
 use std::cmp::Ordering;
-use std::mem;
 use std::sync::Arc;
 
 /// What a write found, and whether it took place.
@@ -72,10 +72,16 @@ pub(crate) fn put_in_at<K: PathKey + Drop, V: Drop, C: Condition<V>>(
         }
         Node::Leaf { stamp, pair } => {
             if entry.key.cmp(&pair.0) == Ordering::Equal {
-                return put_in_leaf(stamp, pair, entry, condition);
+                return put_in_pair(stamp, pair, entry, condition);
             }
         }
-        Node::Bucket { .. } => {}
+        Node::Bucket { stamp, pairs } => {
+            if have_path(pairs.as_slice(), entry.path) {
+                if let Some(pairs) = Arc::get_mut(pairs) {
+                    return put_in_pairs(stamp, pairs, entry, condition);
+                }
+            }
+        }
     }
     put_copied(alloc, node, entry, level, condition)
 }
@@ -113,21 +119,6 @@ fn put_copied<K: PathKey + Drop, V: Drop, C: Condition<V>>(
     }
 }
 
-/// Whether a condition holds of a key that none of the nodes has.
-fn holds_of_absent<'a, K, V, C: Condition<V>>(condition: &C, _nodes: &'a [Node<K, V>]) -> bool
-    ensures { result ≡ C.holds condition.now None }
-{
-    let absent: Option<&'a Arc<V, Global>> = None;
-    condition.holds(absent)
-}
-
-/// Whether a condition holds of a value.
-fn holds_of<V, C: Condition<V>>(condition: &C, value: &Arc<V, Global>) -> bool
-    ensures { result ≡ C.holds condition.now (Some value.now.value) }
-{
-    condition.holds(Some(value))
-}
-
 /// Puts a leaf of the entry among the children of a branch, where none has the digit of its key.
 fn insert_leaf<K: Drop, V: Drop>(
     children: &mut Vec<Node<K, V>>,
@@ -146,40 +137,6 @@ fn insert_leaf<K: Drop, V: Drop>(
     } = entry;
     children.insert(at, make_leaf(stamp, key, value))?;
     Ok(())
-}
-
-/// A put into a leaf that has the key of the entry.
-fn put_in_leaf<K: PathKey + Drop, V: Drop, C: Condition<V>>(
-    stamp: &mut Stamp,
-    pair: &mut (Arc<K, Global>, Arc<V, Global>),
-    entry: Entry<K, V>,
-    condition: &C,
-) -> Result<Done<V>, NoMemory>
-    requires same { K.cmp entry.key.value pair.old.0.value ≡ Equal }
-    ensures ok { IfOk result (λ d. (level : ℕ) → IsTrie K.cmp K.path_of level (bucket stamp.old.0 (pair_values pair.old ∷ [])) → PutsIn K.cmp K.path_of level entry.stamp.0 entry.key.value entry.value.value (C.holds condition.now) (bucket stamp.old.0 (pair_values pair.old ∷ [])) (option_map arc_value d.previous) d.written (bucket stamp.new.0 (pair_values pair.new ∷ []))) }
-    ensures due { OnErr result (is_some (first_of K.cmp entry.key.value (pair_values pair.old ∷ [])) ≡ true) }
-    ensures err { OnErr result ((stamp.new ≡ stamp.old) × (pair.new ≡ pair.old)) }
-{
-    if !holds_of(condition, &pair.1) {
-        let previous = Arc::try_clone(&pair.1)?;
-        return Ok(Done {
-            previous: Some(previous),
-            written: false,
-        });
-    }
-    let Entry {
-        key,
-        value,
-        stamp: new_stamp,
-        ..
-    } = entry;
-    *stamp = new_stamp;
-    pair.0 = key;
-    let previous = mem::replace(&mut pair.1, value);
-    Ok(Done {
-        previous: Some(previous),
-        written: true,
-    })
 }
 
 /// A put below a branch that nobody else holds.
@@ -204,7 +161,7 @@ fn put_in_branch<K: PathKey + Drop, V: Drop, C: Condition<V>>(
     let digit = entry.path.digit(level);
     let at = place(below.bitmap, digit);
     if !has_digit(below.bitmap, digit) {
-        if !holds_of_absent(condition, below.children.as_slice()) {
+        if !holds_of_absent(condition) {
             return Ok(Done {
                 previous: None,
                 written: false,

@@ -13,6 +13,7 @@ ghost use Rattle.trie_node.specs.RemovalInPlace.{TakesOut, TakesInside};
 
 use crate::bitmap::{has_digit, place};
 use crate::branch_in_place::{count_out, lose_child};
+use crate::bucket_in_place::remove_from_pairs;
 use crate::condition::{Always, Condition};
 use crate::no_memory::NoMemory;
 use crate::node::{Branch, Node};
@@ -62,17 +63,23 @@ pub(crate) fn remove_in_at<K: PathKey + Drop, V: Drop, C: Condition<V>>(
     ensures due { OnErr result (is_some (first_of K.cmp key.now (entries (tree node.old))) ≡ true) }
     ensures err { OnErr result (tree node.new ≡ tree node.old) }
 {
-    if let Node::Branch {
-        stamp: old_stamp,
-        below,
-    } = node
-    {
-        if let Some(below) = Arc::get_mut(below) {
-            match remove_in_branch(alloc, old_stamp, below, key, path, stamp, level, condition)? {
-                TakenInside::Done(removed) => return Ok(removed),
-                TakenInside::GivesWay(rest, value) => {
-                    *node = rest;
-                    return Ok(RemovedIn::Left(value));
+    match node {
+        Node::Branch { stamp: old, below } => {
+            if let Some(below) = Arc::get_mut(below) {
+                match remove_in_branch(alloc, old, below, key, path, stamp, level, condition)? {
+                    TakenInside::Done(removed) => return Ok(removed),
+                    TakenInside::GivesWay(rest, value) => {
+                        *node = rest;
+                        return Ok(RemovedIn::Left(value));
+                    }
+                }
+            }
+        }
+        Node::Leaf { .. } => {}
+        Node::Bucket { stamp: old, pairs } => {
+            if pairs.len() > 2 {
+                if let Some(pairs) = Arc::get_mut(pairs) {
+                    return remove_from_pairs(old, pairs, key, stamp, condition);
                 }
             }
         }

@@ -61,6 +61,15 @@ fn a_list_makes_one_entry(rt: HostRuntime) -> Result<(), Fail> {
 }
 
 #[test]
+fn a_bulk_verb_makes_two_entries_unless_its_freeze_is_refused(rt: HostRuntime) -> Result<(), Fail> {
+    ends_with(&rt, b"0 count 9 all", b"1 refused NoHandle\n", 1)?;
+    ends_with(&rt, b"0 open 1\n0 count 1 all", b"2 count 0\n", 2)?;
+    let filter = b"0 open 1\n0 put 1 a 4\n0 filter 1 even 2";
+    ends_with(&rt, filter, b"3 count 1\n", 2)?;
+    ends_with(&rt, b"0 open 1\n0 filter 1 even 1", b"2 refused Taken\n", 1)
+}
+
+#[test]
 fn laws_are_calls_that_do_nothing() {
     law::script_has_one_output();
     law::text_has_one_script();

@@ -63,6 +63,63 @@ fn each_verb_has_its_fields(rt: HostRuntime) -> Result<(), Fail> {
 }
 
 #[test]
+fn each_bulk_verb_has_its_fields(rt: HostRuntime) -> Result<(), Fail> {
+    is_refused(&rt, b"0 count 1", "line 1: missing field")?;
+    is_refused(&rt, b"0 exists x all", "line 1: bad handle")?;
+    is_refused(&rt, b"0 forall 1 all 2", "line 1: extra field")?;
+    is_refused(&rt, b"0 find 1 some", "line 1: bad test")?;
+    is_refused(&rt, b"0 filter 1 all", "line 1: missing field")?;
+    is_refused(&rt, b"0 filter 1 all 02", "line 1: bad handle")?;
+    is_refused(&rt, b"0 filter 1 sum 2", "line 1: bad test")?;
+    is_refused(&rt, b"0 mapvalues 1 twice 2", "line 1: bad map")?;
+    is_refused(&rt, b"0 mapvalues 1 all 2", "line 1: bad map")?;
+    is_refused(&rt, b"0 mapvalues 1 keylen", "line 1: missing field")?;
+    is_refused(&rt, b"0 fold 1 product", "line 1: bad fold")?;
+    is_refused(&rt, b"0 fold 1 sum 2", "line 1: extra field")?;
+    is_refused(&rt, b"0 Count 1 all", "line 1: unknown verb")
+}
+
+#[test]
+fn tests_maps_and_folds_have_one_spelling(rt: HostRuntime) -> Result<(), Fail> {
+    let good = b"0 count 1 all\n0 count 1 even\n0 count 1 odd\n0 count 1 lt:-9223372036854775808\n\
+        0 count 1 ge:9223372036854775807\n0 count 1 eq:0\n0 count 1 prefix:prefix:a=b\n\
+        0 mapvalues 1 set:9223372036854775807 2\n0 mapvalues 1 add:-9223372036854775808 2\n\
+        0 mapvalues 1 keylen 2\n0 fold 1 sum\n0 fold 1 least\n0 fold 1 greatest\n";
+    is_read(&rt, good, 13)?;
+    for test in [
+        b"0 count 1 lt:x".as_slice(),
+        b"0 count 1 lt:",
+        b"0 count 1 lt",
+        b"0 count 1 lt:01",
+        b"0 count 1 lt:-0",
+        b"0 count 1 lt:+1",
+        b"0 count 1 lt:-9223372036854775809",
+        b"0 count 1 ge:9223372036854775808",
+        b"0 count 1 eq: 1",
+        b"0 count 1 prefix:",
+        b"0 count 1 prefix",
+        b"0 count 1 All",
+        b"0 count 1 all:",
+        b"0 count 1 evens",
+        b"0 count 1 gt:1",
+    ] {
+        is_refused(&rt, test, "line 1: bad test")?;
+    }
+    for map in [
+        b"0 mapvalues 1 set 2".as_slice(),
+        b"0 mapvalues 1 set: 2",
+        b"0 mapvalues 1 add:9223372036854775808 2",
+        b"0 mapvalues 1 add:-0 2",
+        b"0 mapvalues 1 keylen: 2",
+        b"0 mapvalues 1 mul:2 2",
+    ] {
+        is_refused(&rt, map, "line 1: bad map")?;
+    }
+    is_refused(&rt, b"0 fold 1 Sum", "line 1: bad fold")?;
+    is_refused(&rt, b"0 fold 1 sum:", "line 1: bad fold")
+}
+
+#[test]
 fn numbers_have_one_spelling(rt: HostRuntime) -> Result<(), Fail> {
     is_refused(&rt, b"00 open 1", "line 1: bad client")?;
     is_refused(&rt, b"+1 open 1", "line 1: bad client")?;
@@ -80,7 +137,13 @@ fn numbers_have_one_spelling(rt: HostRuntime) -> Result<(), Fail> {
 #[test]
 fn a_key_of_65_bytes_is_bad(rt: HostRuntime) -> Result<(), Fail> {
     let line = b"0 get 1 aaaaaaaaaaaaaaaaaaaaaaaaaaaaaaaaaaaaaaaaaaaaaaaaaaaaaaaaaaaaaaaaa";
-    is_refused(&rt, line, "line 1: bad key")
+    is_refused(&rt, line, "line 1: bad key")?;
+    let front =
+        b"0 count 1 prefix:aaaaaaaaaaaaaaaaaaaaaaaaaaaaaaaaaaaaaaaaaaaaaaaaaaaaaaaaaaaaaaaa";
+    is_read(&rt, front, 1)?;
+    let front =
+        b"0 count 1 prefix:aaaaaaaaaaaaaaaaaaaaaaaaaaaaaaaaaaaaaaaaaaaaaaaaaaaaaaaaaaaaaaaaa";
+    is_refused(&rt, front, "line 1: bad test")
 }
 
 #[test]

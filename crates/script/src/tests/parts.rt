@@ -18,8 +18,8 @@ fn a_script_has_its_command_lines(rt: HostRuntime) -> Result<(), Fail> {
                     "{number}: {client} puts {value} at {key} in {handle}. "
                 )?;
             }
-            Statement::Snap { handle, target } => {
-                write!(shown, "{number}: {client} copies {handle} to {target}. ")?;
+            Statement::Snap { handle, to } => {
+                write!(shown, "{number}: {client} copies {handle} to {to}. ")?;
             }
             _ => shown.push_str("another statement. ")?,
         }

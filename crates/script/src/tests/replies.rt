@@ -21,8 +21,12 @@ fn each_reply_has_its_text(rt: HostRuntime) -> Result<(), Fail> {
     push_line(&mut shown, 31, &LineReply::Truth(true))?;
     push_line(&mut shown, 32, &LineReply::Truth(false))?;
     push_line(&mut shown, 33, &LineReply::Count(16_777_216))?;
+    push_line(&mut shown, 34, &LineReply::Pair(key(alloc, b"a=b")?, -1))?;
+    push_line(&mut shown, 35, &LineReply::Item(18_446_744_073_709_551_614))?;
+    push_line(&mut shown, 36, &LineReply::Item(-9_223_372_036_854_775_808))?;
     push_line(&mut shown, 65_536, &LineReply::Refused(Refusal::NoHandle))?;
     let wanted = b"1 ok\n2 none\n30 some -5\n31 true\n32 false\n33 count 16777216\n\
+        34 pair a=b -1\n35 item 18446744073709551614\n36 item -9223372036854775808\n\
         65536 refused NoHandle\n";
     assert_eq!(rt; shown.as_slice(), wanted.as_slice());
     Ok(())

@@ -1,52 +1,100 @@
 //! Calls by one thread.
-use super::{Map, key, plain};
-use crate::{Answer, ByteText, PairFn, Query, Refusal, Stored, TrieMap};
+use super::{Map, Seen, key, plain};
+use crate::{Answer, ByteText, NoMemory, PairFn, Query, Refusal, Stored, TrieMap};
 use combiner::Sum;
+use std::alloc::Global;
+use std::sync::Wait;
 use std::test::Fail;
 use test_keys::ChosenKey;
+
+// What writes of one key answer, from no pairs on.
+fn written<R: Wait>(rt: &R, map: &Map) -> Result<[Option<u64>; 6], Refusal> {
+    let one = key(3, 0);
+    Ok([
+        plain(map.get(rt, &one)?),
+        plain(map.put(rt, one, 5)?),
+        plain(map.put(rt, one, 6)?),
+        plain(map.put_if_absent(rt, one, 7)?),
+        plain(map.replace(rt, one, 8)?),
+        plain(map.get(rt, &one)?),
+    ])
+}
+
+// Whether a key whose value is 8 is written where its value is to be equal to another.
+fn exchanged<R: Wait>(rt: &R, map: &Map) -> Result<[bool; 3], Refusal> {
+    let one = key(3, 0);
+    Ok([
+        map.replace_if(rt, one, &6, 9)?,
+        map.replace_if(rt, one, &8, 9)?,
+        map.contains_key(rt, &one),
+    ])
+}
+
+// Whether a key whose value is 9 is removed where its value is to be equal to another.
+fn removed<R: Wait>(rt: &R, map: &Map) -> Result<[bool; 3], NoMemory> {
+    let one = key(3, 0);
+    Ok([
+        map.remove_if(rt, &one, &8)?,
+        map.remove_if(rt, &one, &9)?,
+        map.contains_key(rt, &one),
+    ])
+}
+
+// What writes of a key that is not there answer.
+fn written_anew<R: Wait>(rt: &R, map: &Map) -> Result<[Option<u64>; 4], Refusal> {
+    let one = key(3, 0);
+    Ok([
+        plain(map.replace(rt, one, 1)?),
+        plain(map.put_if_absent(rt, one, 2)?),
+        plain(map.remove(rt, &one)?),
+        plain(map.remove(rt, &one)?),
+    ])
+}
 
 #[test]
 fn writes_of_one_key(rt: HostRuntime) -> Result<(), Fail> {
     let map: Map = TrieMap::new(&rt)?;
-    assert_eq!(rt; plain(map.get(&rt, &key(3, 0))?), None);
-    assert_eq!(rt; plain(map.put(&rt, key(3, 0), 5)?), None);
-    assert_eq!(rt; plain(map.put(&rt, key(3, 0), 6)?), Some(5));
-    assert_eq!(rt; plain(map.put_if_absent(&rt, key(3, 0), 7)?), Some(6));
-    assert_eq!(rt; plain(map.replace(&rt, key(3, 0), 8)?), Some(6));
-    assert!(rt; !map.replace_if(&rt, key(3, 0), &6, 9)?);
-    assert!(rt; map.replace_if(&rt, key(3, 0), &8, 9)?);
+    let answers = written(&rt, &map)?;
+    assert_eq!(rt; answers, [None, None, Some(5), Some(6), Some(6), Some(8)]);
+    assert_eq!(rt; exchanged(&rt, &map)?, [false, true, true]);
     assert_eq!(rt; plain(map.get(&rt, &key(3, 0))?), Some(9));
-    assert!(rt; map.contains_key(&rt, &key(3, 0)));
-    assert!(rt; !map.remove_if(&rt, &key(3, 0), &8)?);
-    assert!(rt; map.remove_if(&rt, &key(3, 0), &9)?);
-    assert!(rt; !map.contains_key(&rt, &key(3, 0)));
-    assert_eq!(rt; plain(map.replace(&rt, key(3, 0), 1)?), None);
-    assert_eq!(rt; plain(map.put_if_absent(&rt, key(3, 0), 2)?), None);
-    assert_eq!(rt; plain(map.remove(&rt, &key(3, 0))?), Some(2));
-    assert_eq!(rt; plain(map.remove(&rt, &key(3, 0))?), None);
+    assert_eq!(rt; removed(&rt, &map)?, [false, true, false]);
+    assert_eq!(rt; written_anew(&rt, &map)?, [None, None, Some(2), None]);
     assert!(rt; map.is_empty(&rt));
     Ok(())
+}
+
+// Puts two keys of each first digit, with the values 1 and 2.
+fn fill<R: Wait>(rt: &R, alloc: Global, map: &Map) -> Result<(), Refusal> {
+    let mut pairs = Vec::new(alloc);
+    for digit in 0..32 {
+        pairs.push((key(digit, 0), 1))?;
+        pairs.push((key(digit, 1), 2))?;
+    }
+    map.extend(rt, pairs)
+}
+
+// The value that the view has.
+fn seen(view: &Seen, key: ChosenKey) -> Option<u64> {
+    view.get(&key).map(|value| **value)
 }
 
 #[test]
 fn keys_of_every_first_digit(rt: HostRuntime) -> Result<(), Fail> {
     let map: Map = TrieMap::new(&rt)?;
-    let mut pairs = Vec::new(rt.alloc());
-    for digit in 0..32 {
-        pairs.push((key(digit, 0), 1))?;
-        pairs.push((key(digit, 1), 2))?;
-    }
-    map.extend(&rt, pairs)?;
+    fill(&rt, rt.alloc(), &map)?;
     let view = map.view(&rt)?;
     let snapshot = map.snapshot(&rt)?;
     assert_eq!(rt; map.len(&rt), 64);
     map.clear(&rt)?;
-    assert_eq!(rt; map.len(&rt), 0);
-    assert_eq!(rt; (view.len(), snapshot.len(&rt)), (64, 64));
+    assert_eq!(rt; (map.len(&rt), view.len(), snapshot.len(&rt)), (0, 64, 64));
     for digit in 0..32 {
-        assert!(rt; map.get(&rt, &key(digit, 0))?.is_none());
-        assert_eq!(rt; view.get(&key(digit, 0)).map(|value| **value), Some(1));
-        assert_eq!(rt; plain(snapshot.get(&rt, &key(digit, 1))?), Some(2));
+        let there = map.contains_key(&rt, &key(digit, 0));
+        let kept = plain(snapshot.get(&rt, &key(digit, 1))?);
+        assert_eq!(rt;
+            (there, seen(&view, key(digit, 0)), kept),
+            (false, Some(1), Some(2))
+        );
     }
     Ok(())
 }
@@ -70,23 +118,39 @@ fn a_snapshot_and_its_map_go_separate_ways(rt: HostRuntime) -> Result<(), Fail> 
     Ok(())
 }
 
+// Writes after a view was taken.
+fn write_after<R: Wait>(rt: &R, map: &Map) -> Result<(), Refusal> {
+    map.put(rt, key(7, 0), 2)?;
+    map.put(rt, key(8, 0), 3)?;
+    Ok(())
+}
+
+// The sum of the values that a walk over the view meets.
+fn walked_sum(view: &Seen) -> Result<u64, NoMemory> {
+    let mut sum = 0u64;
+    for (_, value) in view.pairs()? {
+        sum = sum.wrapping_add(**value);
+    }
+    Ok(sum)
+}
+
 #[test]
 fn a_view_stays_as_it_was(rt: HostRuntime) -> Result<(), Fail> {
     let map: Map = TrieMap::new(&rt)?;
     assert!(rt; map.view(&rt)?.is_empty());
     map.put(&rt, key(7, 0), 1)?;
     let view = map.view(&rt)?;
+    write_after(&rt, &map)?;
+    assert_eq!(rt;
+        (seen(&view, key(7, 0)), view.contains_key(&key(8, 0))),
+        (Some(1), false)
+    );
     let same = view.try_clone()?;
-    map.put(&rt, key(7, 0), 2)?;
-    map.put(&rt, key(8, 0), 3)?;
-    assert_eq!(rt; view.get(&key(7, 0)).map(|value| **value), Some(1));
-    assert!(rt; !same.contains_key(&key(8, 0)));
-    assert_eq!(rt; (same.len(), same.plain().len()), (1, 1));
-    let mut sum = 0u64;
-    for (_, value) in map.view(&rt)?.pairs()? {
-        sum = sum.wrapping_add(**value);
-    }
-    assert_eq!(rt; sum, 5);
+    assert_eq!(rt;
+        (same.len(), same.plain().len(), same.is_empty()),
+        (1, 1, false)
+    );
+    assert_eq!(rt; walked_sum(&map.view(&rt)?)?, 5);
     Ok(())
 }
 

@@ -12,7 +12,7 @@ const THREADS: u32 = 8;
 
 const CALLS: u32 = 20_000;
 
-const TIMES: u32 = 20;
+const TIMES: u32 = 50;
 
 // How many keys the threads share, and how many each has for itself.
 const SHARED: u32 = 64;

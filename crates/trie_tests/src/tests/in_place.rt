@@ -38,6 +38,45 @@ fn a_sole_holder_replaces_and_removes_without_memory(rt: HostRuntime) -> Result<
     assert_holds(&rt, alloc, &trie, &[(P, 4), (key(1, 0), 3)])
 }
 
+// The same of keys that share a bucket.
+#[test]
+fn a_sole_holder_writes_a_bucket_without_memory(rt: HostRuntime) -> Result<(), Fail> {
+    let alloc = rt.alloc();
+    let mut trie = trie_of(alloc, &[(key(7, 0), 1), (key(7, 1), 2), (key(7, 2), 3)])?;
+    let at = Arc::new(alloc, key(7, 1))?;
+    let value = Arc::new(alloc, 4)?;
+    let taken = take_all(alloc)?;
+    let put = trie.put_in(alloc, at, value, Stamp(2));
+    let removed = trie.remove_in(alloc, &key(7, 0), Stamp(2));
+    drop(taken);
+    assert!(rt; put.is_ok());
+    assert!(rt; removed.is_ok());
+    assert_holds(&rt, alloc, &trie, &[(key(7, 1), 4), (key(7, 2), 3)])
+}
+
+// A key that joins a bucket asks for room before anything is written.
+#[test]
+fn a_refused_put_leaves_a_bucket_as_it_stands(rt: HostRuntime) -> Result<(), Fail> {
+    let alloc = rt.alloc();
+    let mut trie = trie_of(alloc, &[(key(7, 0), 1), (key(7, 1), 2), (key(7, 3), 3)])?;
+    let before = outline_of(alloc, trie.root())?;
+    let at = Arc::new(alloc, key(7, 2))?;
+    let value = Arc::new(alloc, 4)?;
+    let taken = take_all(alloc)?;
+    let refused = trie.put_in(alloc, at, value, Stamp(2));
+    drop(taken);
+    assert!(rt; refused.is_err());
+    assert_same(&rt, alloc, &trie, &before)?;
+    put_in(alloc, &mut trie, key(7, 2), 4, 2)?;
+    let all = [
+        (key(7, 0), 1),
+        (key(7, 1), 2),
+        (key(7, 2), 4),
+        (key(7, 3), 3),
+    ];
+    assert_holds(&rt, alloc, &trie, &all)
+}
+
 // Puts Q with one request more granted each time, until the put is done. Until then the trie is as
 // it was.
 fn assert_put_takes(

@@ -1,7 +1,7 @@
 use Rattle.std.proofs.Common.{rules, ◌≡◌, IfOk}
 use Rattle.script.specs.declared.reply.LineReply.TheVariants.{Absent}
 use Rattle.batch_cli.specs.Events.{MayStore}
-use Rattle.batch_cli.proofs.RunLemmas.{done_at_once, or_else_answers}
+use Rattle.batch_cli.proofs.RunLemmas.{done_as_served, or_else_answers}
 use Rattle.batch_cli.proofs.events.answer.Goals as goal
 
 pub returns-in-GetOrElse : goal.returns-in-GetOrElse
@@ -12,4 +12,4 @@ returns-in-GetOrElse c =
 
 pub returns-in_default : goal.returns-in_default
 returns-in_default c =
-    done_at_once c.args.table.now c.event.new.table c.args.statement.now _ c.in_ok-reply.reply (λ h k v is absent. c.in_default.not-GetOrElse h k v is) c.in_ok-ask.ensures c.in_ok-reply.ensures
+    done_as_served c.args.table.now c.event.new.table c.args.statement.now _ c.in_ok-reply.reply (λ h k v is absent. c.in_default.not-GetOrElse h k v is) c.in_ok-ask.ensures c.in_ok-reply.ensures

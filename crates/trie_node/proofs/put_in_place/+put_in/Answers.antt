@@ -7,12 +7,14 @@ use Rattle.std.specs.Int.RustNames.{count_ones}
 use Rattle.std.proofs.lemmas.List.{map-set}
 use Rattle.std.proofs.lemmas.Result.{on_err_weaker}
 use Rattle.std.proofs.Math.Seq.{map-set_same}
-use Rattle.trie_node.specs.Tree.{IsTrie, branch, bucket, trees, entries}
+use Rattle.trie_node.specs.Tree.{IsTrie, KeysHaveWord, branch, bucket, trees, entries}
 use Rattle.trie_node.specs.PutInPlace.{is_refusable}
 use Rattle.trie_node.specs.View.{tree, branch_of, pair_values}
 use Rattle.trie_node.specs.Writes.{KeysAgree}
 use Rattle.trie_node.proofs.Divides.{trie_fits}
+use Rattle.trie_node.proofs.Placing.{puts_leaf}
 use Rattle.trie_node.proofs.Standing.{at_err, puts_equal, when_not, when_not_not}
+use Rattle.trie_node.proofs.Taken.{equal_of_index}
 use Rattle.trie_node.proofs.Views.{on_ok, tree-Branch}
 use Rattle.trie_node.proofs.Ways.{turn, gap_within, within, absent, way, leaf_added, agree_below, child_put}
 use Rattle.trie_node.proofs.put_in_place.+put_in.Goals as goal
@@ -205,5 +207,33 @@ put_in_at-returns-then-eq-clause-ok g t c =
     let a = c.args in
     let m = c.in-Leaf in
     let opened = (λ i. bucket (m.stamp-is i).0 (pair_values (m.pair-is i) ∷ [])) ∙ sym (ap tree m.is) in
-    on_ok c.put_in_leaf.result _ _ (λ r h. puts_equal R path a.level a.entry.stamp.0 a.entry.key.value a.entry.value.value (g.C.Condition.holds a.condition.now) _ _ _ _ (option_map arc_value r.previous) r.written
-    opened refl (h a.level (subst (IsTrie R path a.level) (sym opened) c.requires.trie))) c.put_in_leaf.ensures.ok
+    let tie = sym c.cmp.ensures ∙ equal_of_index c.cmp.result (sym c.eq.ensures ∙ c.if-eq.true) in
+    on_ok c.put_in_pair.result _ _ (λ r h. puts_leaf R g.met.K.Ord.total path g.met.K.PathKey.exact a.level a.entry.stamp.0 a.entry.key.value a.entry.value.value (g.C.Condition.holds a.condition.now) (tree a.node.now) _ _ _ _ (option_map arc_value r.previous) r.written
+    opened tie c.requires.trie h) c.put_in_pair.ensures.ok
+
+pub put_in_at-put_in_pairs-requires-clause-word : goal.put_in_at-put_in_pairs-requires-clause-word
+put_in_at-put_in_pairs-requires-clause-word g t c =
+    let R = g.K.Ord.cmp in
+    let path = g.K.PathKey.path_of in
+    let a = c.args in
+    let m = c.in-Bucket in
+    let held = c.as_slice.result.now in
+    let items = c.in-Some-get_mut.pairs.now.items in
+    let is = c.in-Some-get_mut.ensures.value ∙ ap arc_value m.pairs-is in
+    let opened = (λ i. bucket (m.stamp-is i).0 (map pair_values (is i).items)) ∙ sym (ap tree m.is) in
+    let same : held ≡ items = c.as_slice.ensures.value ∙ ap (λ v. v.items) (c.deref.ensures ∙ sym c.in-Some-get_mut.ensures.value) in
+    let trie = subst (IsTrie R path a.level) (sym opened) c.requires.trie in
+    let words = subst (λ xs. KeysHaveWord R path trie.2.0 (map pair_values xs)) (sym same) trie.2.1 in
+    subst (λ xs. KeysHaveWord R path (path a.entry.key.value) (map pair_values xs)) same
+    (subst (λ w. KeysHaveWord R path w (map pair_values held)) c.requires.path (c.have_path.ensures trie.2.0 words c.if-have_path.true))
+
+pub put_in_at-returns-in-Some-get_mut-clause-ok : goal.put_in_at-returns-in-Some-get_mut-clause-ok
+put_in_at-returns-in-Some-get_mut-clause-ok g t c =
+    let R = g.K.Ord.cmp in
+    let path = g.K.PathKey.path_of in
+    let a = c.args in
+    let m = c.in-Bucket in
+    let is = c.in-Some-get_mut.ensures.value ∙ ap arc_value m.pairs-is in
+    let opened = (λ i. bucket (m.stamp-is i).0 (map pair_values (is i).items)) ∙ sym (ap tree m.is) in
+    on_ok c.put_in_pairs.result _ _ (λ r h. puts_equal R path a.level a.entry.stamp.0 a.entry.key.value a.entry.value.value (g.C.Condition.holds a.condition.now) _ _ _ _ (option_map arc_value r.previous) r.written
+    opened refl (h a.level (subst (IsTrie R path a.level) (sym opened) c.requires.trie))) c.put_in_pairs.ensures.ok

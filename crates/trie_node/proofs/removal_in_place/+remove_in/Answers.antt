@@ -7,11 +7,12 @@ use Rattle.std.specs.FinMap.{find}
 use Rattle.std.proofs.lemmas.List.{map-set, length-set}
 use Rattle.std.proofs.lemmas.Result.{on_err_weaker}
 use Rattle.std.proofs.Math.Seq.{map-set_same}
-use Rattle.trie_node.specs.Tree.{IsTrie, branch, trees, entries}
-use Rattle.trie_node.specs.View.{tree, branch_of}
+use Rattle.trie_node.specs.Tree.{IsTrie, branch, bucket, trees, entries}
+use Rattle.trie_node.specs.View.{tree, branch_of, pair_values}
 use Rattle.trie_node.specs.Removals.{drawn_up}
 use Rattle.trie_node.specs.RemovalInPlace.{TakesOut, TakesInside}
 use Rattle.trie_node.specs.declared.node.Node.TheVariants.{Branch}
+use Rattle.trie_node.specs.declared.removal_in_place.TakenInside.TheVariants.{Done}
 use Rattle.trie_node.proofs.Standing.{at_err, takes_equal}
 use Rattle.trie_node.proofs.Removing.{absent_below, nothing_below, size_below, gone_below, left_below}
 use Rattle.trie_node.proofs.Views.{on_ok, tree-Branch}
@@ -187,7 +188,7 @@ remove_in_at-remove_in_branch-requires g t c κs inside =
     let a = c.args in
     let m = c.in-Branch in
     let below = c.in-Some.ensures.value ∙ ap arc_value m.below-is in
-    let opened = (λ i. branch_of (m.old_stamp-is i).0 (below i)) ∙ sym (ap tree m.is ∙ tree-Branch m.old_stamp m.below) in
+    let opened = (λ i. branch_of (m.old-is i).0 (below i)) ∙ sym (ap tree m.is ∙ tree-Branch m.old m.below) in
     (omega arith, (search rules, (search rules, (search rules, (c.requires.path, subst (IsTrie R path a.level) (sym opened) c.requires.trie)))))
 
 pub remove_in_at-returns-in-Done-clause-ok : goal.remove_in_at-returns-in-Done-clause-ok
@@ -200,9 +201,9 @@ remove_in_at-returns-in-Done-clause-ok g t c =
     let m = c.in-Branch in
     let n = c.remove_in_branch.new in
     let below = c.in-Some.ensures.value ∙ ap arc_value m.below-is in
-    let opened = (λ i. branch_of (m.old_stamp-is i).0 (below i)) ∙ sym (ap tree m.is ∙ tree-Branch m.old_stamp m.below) in
+    let opened = (λ i. branch_of (m.old-is i).0 (below i)) ∙ sym (ap tree m.is ∙ tree-Branch m.old m.below) in
     let made = tree-Branch n.stamp (record m.below { value = n.below }) in
-    let out = c.in_ok-removed in
+    let out = c.in_ok-removed-in-Branch in
     subst (λ r. TakesInside R path a.level a.stamp.0 k holds (tree a.node.now) r (tree (Branch n.stamp (record m.below { value = n.below })))) c.in-Done.is (takes_equal R path a.level a.stamp.0 k holds _ _ _ _ out.field-0 opened made out.ensures.ok)
 
 pub remove_in_at-returns-in-GivesWay-clause-ok : goal.remove_in_at-returns-in-GivesWay-clause-ok
@@ -215,13 +216,13 @@ remove_in_at-returns-in-GivesWay-clause-ok g t c =
     let m = c.in-Branch in
     let n = c.remove_in_branch.new in
     let below = c.in-Some.ensures.value ∙ ap arc_value m.below-is in
-    let opened = (λ i. branch_of (m.old_stamp-is i).0 (below i)) ∙ sym (ap tree m.is ∙ tree-Branch m.old_stamp m.below) in
+    let opened = (λ i. branch_of (m.old-is i).0 (below i)) ∙ sym (ap tree m.is ∙ tree-Branch m.old m.below) in
     let made = tree-Branch n.stamp (record m.below { value = n.below }) in
-    let out = c.in_ok-removed in
+    let out = c.in_ok-removed-in-Branch in
     subst (λ r. TakesInside R path a.level a.stamp.0 k holds (tree a.node.now) r (tree (Branch n.stamp (record m.below { value = n.below })))) c.in-GivesWay.is (takes_equal R path a.level a.stamp.0 k holds _ _ _ _ out.field-0 opened made out.ensures.ok)
 
-pub remove_in_at-returns-in_err-removed-clause-err : goal.remove_in_at-returns-in_err-removed-clause-err
-remove_in_at-returns-in_err-removed-clause-err g t c =
+pub remove_in_at-returns-in_err-removed-in-Branch-clause-err : goal.remove_in_at-returns-in_err-removed-in-Branch-clause-err
+remove_in_at-returns-in_err-removed-in-Branch-clause-err g t c =
     let R = g.K.Ord.cmp in
     let path = g.K.PathKey.path_of in
     let a = c.args in
@@ -230,12 +231,12 @@ remove_in_at-returns-in_err-removed-clause-err g t c =
     let m = c.in-Branch in
     let n = c.remove_in_branch.new in
     let below = c.in-Some.ensures.value ∙ ap arc_value m.below-is in
-    let opened = (λ i. branch_of (m.old_stamp-is i).0 (below i)) ∙ sym (ap tree m.is ∙ tree-Branch m.old_stamp m.below) in
+    let opened = (λ i. branch_of (m.old-is i).0 (below i)) ∙ sym (ap tree m.is ∙ tree-Branch m.old m.below) in
     let made = tree-Branch n.stamp (record m.below { value = n.below }) in
-    at_err c.from_residual.result (made ∙ c.in_err-removed.ensures.err ∙ opened)
+    at_err c.from_residual.result (made ∙ c.in_err-removed-in-Branch.ensures.err ∙ opened)
 
-pub remove_in_at-returns-in_err-removed-clause-due : goal.remove_in_at-returns-in_err-removed-clause-due
-remove_in_at-returns-in_err-removed-clause-due g t c =
+pub remove_in_at-returns-in_err-removed-in-Branch-clause-due : goal.remove_in_at-returns-in_err-removed-in-Branch-clause-due
+remove_in_at-returns-in_err-removed-in-Branch-clause-due g t c =
     let R = g.K.Ord.cmp in
     let path = g.K.PathKey.path_of in
     let a = c.args in
@@ -244,6 +245,17 @@ remove_in_at-returns-in_err-removed-clause-due g t c =
     let m = c.in-Branch in
     let n = c.remove_in_branch.new in
     let below = c.in-Some.ensures.value ∙ ap arc_value m.below-is in
-    let opened = (λ i. branch_of (m.old_stamp-is i).0 (below i)) ∙ sym (ap tree m.is ∙ tree-Branch m.old_stamp m.below) in
+    let opened = (λ i. branch_of (m.old-is i).0 (below i)) ∙ sym (ap tree m.is ∙ tree-Branch m.old m.below) in
     let made = tree-Branch n.stamp (record m.below { value = n.below }) in
-    at_err c.from_residual.result (ap (λ x. is_some (find R k (entries x))) (sym opened) ∙ c.in_err-removed.ensures.due)
+    at_err c.from_residual.result (ap (λ x. is_some (find R k (entries x))) (sym opened) ∙ c.in_err-removed-in-Branch.ensures.due)
+
+pub remove_in_at-returns-in-Some-get_mut-clause-ok : goal.remove_in_at-returns-in-Some-get_mut-clause-ok
+remove_in_at-returns-in-Some-get_mut-clause-ok g t c =
+    let R = g.K.Ord.cmp in
+    let path = g.K.PathKey.path_of in
+    let a = c.args in
+    let m = c.in-Bucket in
+    let is = c.in-Some-get_mut.ensures.value ∙ ap arc_value m.pairs-is in
+    let opened = (λ i. bucket (m.old-is i).0 (map pair_values (is i).items)) ∙ sym (ap tree m.is) in
+    on_ok c.remove_from_pairs.result _ _ (λ r h. takes_equal R path a.level a.stamp.0 a.key.now (g.C.Condition.holds a.condition.now) _ _ _ _ (Done r)
+    opened refl (h a.level (subst (IsTrie R path a.level) (sym opened) c.requires.trie))) c.remove_from_pairs.ensures.ok

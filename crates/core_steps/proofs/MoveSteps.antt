@@ -1,0 +1,42 @@
+-- A worker's move on the desks of a job, of whatever kind.
+use Rattle.std.proofs.Common.{◌≡◌, ℕ, ◌<◌, Bool, List, length, Option, Some, None, sym, ap, ◌∙◌, subst}
+use Rattle.std.specs.declared.cmp.Ordering.{Ordering}
+use Rattle.trie_node.specs.Map.{Map}
+use Rattle.iter.specs.declared.interval.Interval.{Interval}
+use Rattle.iter.specs.Intervals.{parts}
+use Rattle.splitter.specs.Cuts.{cut_point}
+use Rattle.core_steps.specs.Boards.{Board, worker, newest, oldest, taking, stealing, splitting, working, taken, stolen, split, split_at, Turn, TellsTruly}
+use Rattle.core_steps.specs.Desks.{Station, board, IsJobOn, Leaves, Works, taking_turn, stealing_turn, splitting_turn}
+use Rattle.core_steps.specs.Moves.{MovesTo}
+
+-- only a worked piece tells of settling
+quiet_taken : (D : Type 0) (b : Board) (w : ℕ) (held new : Option Interval) → TellsTruly (taken b w held new).0 D
+quiet_taken D b w None (Some i) = tt
+quiet_taken D b w None None = tt
+quiet_taken D b w (Some h) new = tt
+
+quiet_stolen : (D : Type 0) (b : Board) (w from : ℕ) (held old : Option Interval) → TellsTruly (stolen b w from held old).0 D
+quiet_stolen D b w from None (Some i) = tt
+quiet_stolen D b w from None None = tt
+quiet_stolen D b w from (Some h) old = tt
+
+quiet_split_at : (D : Type 0) (b : Board) (w : ℕ) (i : Interval) (o : Option ℕ) → TellsTruly (split_at b w i o).0 D
+quiet_split_at D b w i None = tt
+quiet_split_at D b w i (Some mid) = tt
+
+quiet_split : (D : Type 0) (point : Interval → Option ℕ) (b : Board) (w : ℕ) (held : Option Interval) → TellsTruly (split point b w held).0 D
+quiet_split D point b w None = tt
+quiet_split D point b w (Some i) = quiet_split_at D b w i (point i)
+
+module _ {K V P : Type 0} (R : K → K → Ordering) (path : K → ℕ) (answers : Map K V → P → Type 0) (D : Map K V → Type 0) (m : Map K V) (grain : ℕ) (ds es : List (Station K V P)) (y : Turn) where
+  pub take_moves : (w : ℕ) → Leaves ds es y (taking_turn ds w) → IsJobOn R path answers m es → MovesTo R path answers D m grain ds (taking w) y es
+  take_moves w left job = record { told = left.told_is; left = left.board_is; truly = subst (λ (t : Turn). TellsTruly t (D (parts path m (worker (board es) w).worked))) (sym left.told_is) (quiet_taken (D (parts path m (worker (board es) w).worked)) (board ds) w (worker (board ds) w).held (newest (worker (board ds) w).queue)); job = job }
+
+  pub steal_moves : (w from : ℕ) → Leaves ds es y (stealing_turn ds w from) → IsJobOn R path answers m es → MovesTo R path answers D m grain ds (stealing w from) y es
+  steal_moves w from left job = record { told = left.told_is; left = left.board_is; truly = subst (λ (t : Turn). TellsTruly t (D (parts path m (worker (board es) w).worked))) (sym left.told_is) (quiet_stolen (D (parts path m (worker (board es) w).worked)) (board ds) w from (worker (board ds) w).held (oldest (worker (board ds) from).queue)); job = job }
+
+  pub split_moves : (w : ℕ) → Leaves ds es y (splitting_turn (λ i. cut_point path m i grain) ds w) → IsJobOn R path answers m es → MovesTo R path answers D m grain ds (splitting w) y es
+  split_moves w left job = record { told = left.told_is; left = left.board_is; truly = subst (λ (t : Turn). TellsTruly t (D (parts path m (worker (board es) w).worked))) (sym left.told_is) (quiet_split (D (parts path m (worker (board es) w).worked)) (λ i. cut_point path m i grain) (board ds) w (worker (board ds) w).held); job = job }
+
+  pub work_moves : (w : ℕ) → Works R path answers m D ds w y es → IsJobOn R path answers m es → MovesTo R path answers D m grain ds (working w) y es
+  work_moves w works job = record { told = works.told_is; left = works.board_is; truly = works.truly; job = job }

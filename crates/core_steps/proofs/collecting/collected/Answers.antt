@@ -1,0 +1,20 @@
+use Rattle.std.proofs.Common.{rules, ◌≡◌, false, sym, subst, ◌∙◌}
+use Rattle.std.proofs.lemmas.Bool.{false≢true}
+use Rattle.core_steps.specs.Collected.{IsCollected}
+use Rattle.core_steps.specs.Desks.{IsJobOn}
+use Rattle.core_steps.proofs.Collections.{settled_collects}
+use Rattle.core_steps.proofs.Takings.{if_ok}
+use Rattle.core_steps.proofs.collecting.collected.Goals as goal
+
+pub returns : goal.returns
+returns g c =
+    let R = g.K.Ord.cmp in
+    let path = g.K.PathKey.path_of in
+    let answers = g.B.Bulk.answers c.args.bulk.now in
+    let decides = g.B.Bulk.decides c.args.bulk.now in
+    let no : c.is_done.result ≡ false = search rules in
+    if_ok _ _ c.settled_part.result
+    (λ part settles m job.
+    subst (λ ds. IsCollected path answers decides m ds part) c.desks-desks.ensures
+    (settled_collects path answers decides m c.desks-desks.result.now part (λ none. false≢true (sym no ∙ c.is_done.ensures.1 none)) (settles m (subst (IsJobOn R path answers m) (sym c.desks-desks.ensures) job))))
+    c.settled_part.ensures

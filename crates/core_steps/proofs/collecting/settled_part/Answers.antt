@@ -1,0 +1,47 @@
+use Rattle.std.proofs.Common.{rules, ◌≡◌, ◌<◌, ℕ, true, false, length, sym, subst, arith}
+use Rattle.versions.specs.Map.{Map}
+use Rattle.combiner.specs.Unions.{IsWithin}
+use Rattle.combiner.specs.Bulks.{Apart, IsJoined}
+use Rattle.core_steps.proofs.Collections.{lasting_whole, may_join_unit, joined_unit, decided_here, undecided_upto}
+use Rattle.core_steps.proofs.collecting.settled_part.Goals as goal
+
+pub join-requires : goal.join-requires
+join-requires g c =
+    let R = g.K.Ord.cmp in
+    let path = g.K.PathKey.path_of in
+    let answers = g.B.Bulk.answers c.args.bulk.now in
+    let laws = c.parts_follow_intervals.ensures in
+    let m = c.requires.0 in
+    let job = c.requires.1 in
+    let d = c.desk-item.result in
+    let yes : c.settled-decided.result ≡ true = search rules in
+    let lasting = subst (λ (p : g.row.B-Part.Denot). (k l : Map g.row.K.Denot g.row.V.Denot) → answers k p → IsWithin k l → answers l p) c.part-part.ensures (c.settled-decided.ensures.lasting yes) in
+    let whole = lasting_whole R path laws.map laws.apart laws.union answers m c.args.desks.now job c.loop-desk.desk-index d (omega arith) c.desk-item.is lasting in
+    ∣ subst (Apart R answers c.in_ok-unit.unit) (sym c.part-part.ensures) (may_join_unit R path laws.map laws.apart laws.union answers m c.args.desks.now job c.in_ok-unit.unit d.part c.in_ok-unit.ensures whole) ∣₁
+
+pub returns-then-decided : goal.returns-then-decided
+returns-then-decided g c = λ m job.
+    let R = g.K.Ord.cmp in
+    let path = g.K.PathKey.path_of in
+    let answers = g.B.Bulk.answers c.args.bulk.now in
+    let decides = g.B.Bulk.decides c.args.bulk.now in
+    let laws = c.parts_follow_intervals.ensures in
+    let yes : c.settled-decided.result ≡ true = search rules in
+    let d = c.desk-item.result in
+    let n = c.loop-desk.desk-index in
+    let lasting = subst (λ (p : g.row.B-Part.Denot). (k l : Map g.row.K.Denot g.row.V.Denot) → answers k p → IsWithin k l → answers l p) c.part-part.ensures (c.settled-decided.ensures.lasting yes) in
+    let whole = lasting_whole R path laws.map laws.apart laws.union answers m c.args.desks.now job n d (omega arith) c.desk-item.is lasting in
+    let join = subst (λ (p : g.row.B-Part.Denot). IsJoined R answers c.in_ok-unit.unit p c.in_ok-both.both) c.part-part.ensures c.in_ok-both.ensures in (
+      joined_unit R path laws.map laws.apart laws.union answers m c.args.desks.now job c.in_ok-unit.unit d.part c.in_ok-both.both c.in_ok-unit.ensures whole join,
+      (n, omega arith, decided_here R path laws.map laws.apart laws.union answers m c.args.desks.now job decides c.settled-decided.result n d c.part-part.result.now (omega arith) c.desk-item.is c.part-part.ensures c.settled-decided.ensures.exact yes),
+    )
+
+pub loop-desk-preserved : goal.loop-desk-preserved
+loop-desk-preserved g c = λ m job.
+    let laws = c.parts_follow_intervals.ensures in
+    let no : c.settled-decided.result ≡ false = search rules in
+    undecided_upto g.K.Ord.cmp g.K.PathKey.path_of laws.map laws.apart laws.union (g.B.Bulk.answers c.args.bulk.now) m c.args.desks.now job (g.B.Bulk.decides c.args.bulk.now) c.settled-decided.result c.loop-desk.desk-index c.desk-item.result c.part-part.result.now
+    (omega arith) c.desk-item.is c.part-part.ensures c.settled-decided.ensures.exact no (c.loop-desk.invariant m job)
+
+pub returns : goal.returns
+returns g c = λ m job some. c.loop-desk.invariant m job some.0 (omega (arith, some.1)) some.2

@@ -1,0 +1,31 @@
+-- What a worker's move comes to on the desks of one job.
+use Rattle.std.specs.Prelude.{◌≡◌, ℕ, List, length}
+use Rattle.std.specs.declared.cmp.Ordering.{Ordering}
+use Rattle.trie_node.specs.Map.{Map}
+use Rattle.iter.specs.Intervals.{part, parts}
+use Rattle.splitter.specs.Cuts.{cut_point}
+use Rattle.core_steps.specs.Boards as boards
+use Rattle.core_steps.specs.Boards.{Board, worker, mover, moved, Turn, tells_settled, TellsTruly}
+use Rattle.core_steps.specs.Desks.{Station, board, IsJobOn}
+use Rattle.core_steps.specs.declared.moves.Move.{Move}
+use Rattle.core_steps.specs.declared.moves.Move.TheVariants.{Take, Steal, Split, Work}
+
+-- the move that a worker is asked for
+abbrev pub move_of : Move → boards.Move
+move_of (Take w) = boards.taking w
+move_of (Steal w from) = boards.stealing w from
+move_of (Split w) = boards.splitting w
+move_of (Work w) = boards.working w
+
+module _ {K V P : Type 0} (path : K → ℕ) (m : Map K V) where
+  -- the turn of a worker that moves, on the board of some desks of the map
+  abbrev pub turn_on : ℕ → List (Station K V P) → boards.Move → Turn → Turn × Board
+  turn_on grain ds x y = moved (λ i. cut_point path m i grain) (λ i. length (part path m i)) (tells_settled y) (board ds) x
+
+module _ {K V P : Type 0} (R : K → K → Ordering) (path : K → ℕ) (answers : Map K V → P → Type 0) (Decides : Map K V → Type 0) (m : Map K V) where
+  -- a worker's move on the desks of a job: the board's, and what it tells of settling is true
+  pub record MovesTo (grain : ℕ) (old : List (Station K V P)) (x : boards.Move) (y : Turn) (new : List (Station K V P)) : Type 0 where
+    pub told : y ≡ (turn_on path m grain old x y).0
+    pub left : board new ≡ (turn_on path m grain old x y).1
+    pub truly : TellsTruly y (Decides (parts path m (worker (board new) (mover x)).worked))
+    pub job : IsJobOn R path answers m new

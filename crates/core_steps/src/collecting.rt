@@ -1,0 +1,90 @@
+//! How the parts of a job's workers are put together.
+ghost use Rattle.std.specs.Prelude.{◌≡◌, ◌↔◌, [], IfOk, true};
+ghost use Rattle.versions.specs.Map.{Map};
+ghost use Rattle.iter.specs.Intervals.{parts};
+ghost use Rattle.core_steps.specs.Boards.{all_worked};
+ghost use Rattle.core_steps.specs.Desks.{IsJobOn, board};
+ghost use Rattle.core_steps.specs.Invariants.{waiting};
+ghost use Rattle.core_steps.specs.Collected.{IsCollected, IsSettledPart};
+
+use crate::board::Board;
+use crate::desk::Desk;
+use combiner::Bulk;
+use hash_path::PathKey;
+use iter::parts_follow_intervals;
+use std::alloc::Global;
+use trie_node::NoMemory;
+
+/// A part that answers the whole map of a job: where nothing waits and nothing is held the parts of all workers, joined;
+/// else the part of a worker whose own pairs decide. None where there is neither.
+pub fn collected<K: PathKey + Drop, V: Drop, B: Bulk<K, V>>(
+    alloc: Global,
+    bulk: &B,
+    board: &Board<K, V, B::Part>,
+) -> Result<Option<B::Part>, NoMemory>
+    requires { (m : Map K V) × IsJobOn K.cmp K.path_of (B.answers bulk.now) m board.now }
+    ensures { IfOk result (λ part. (m : Map K V) → IsJobOn K.cmp K.path_of (B.answers bulk.now) m board.now → IsCollected K.path_of (B.answers bulk.now) (B.decides bulk.now) m board.now part) }
+{
+    let desks = board.desks();
+    if is_done(desks) {
+        return Ok(Some(joined(alloc, bulk, desks)?));
+    }
+    settled_part(alloc, bulk, desks)
+}
+
+// Whether nothing waits and nothing is held.
+fn is_done<K: PathKey + Drop, V: Drop, P>(desks: &[Desk<K, V, P>]) -> bool
+    ensures { result ≡ true ↔ (waiting (board desks.now) ≡ []) }
+{
+    for desk in desks {
+        let free = desk.is_free();
+        if !free {
+            return false;
+        }
+        let count = desk.waiting();
+        if count > 0 {
+            return false;
+        }
+    }
+    true
+}
+
+// The part of all that was worked: the parts of the workers, joined.
+fn joined<K: PathKey + Drop, V: Drop, B: Bulk<K, V>>(
+    alloc: Global,
+    bulk: &B,
+    desks: &[Desk<K, V, B::Part>],
+) -> Result<B::Part, NoMemory>
+    requires { (m : Map K V) × IsJobOn K.cmp K.path_of (B.answers bulk.now) m desks.now }
+    ensures { IfOk result (λ part. (m : Map K V) → IsJobOn K.cmp K.path_of (B.answers bulk.now) m desks.now → B.answers bulk.now (parts K.path_of m (all_worked (board desks.now))) part) }
+{
+    parts_follow_intervals::<K, V>();
+    let mut all = bulk.unit(alloc)?;
+    for desk in desks {
+        let next = bulk.join(alloc, &all, desk.part())?;
+        all = next;
+    }
+    Ok(all)
+}
+
+// The part of a worker whose own pairs decide, joined with the part of no pairs; none where there is no such worker.
+fn settled_part<K: PathKey + Drop, V: Drop, B: Bulk<K, V>>(
+    alloc: Global,
+    bulk: &B,
+    desks: &[Desk<K, V, B::Part>],
+) -> Result<Option<B::Part>, NoMemory>
+    requires { (m : Map K V) × IsJobOn K.cmp K.path_of (B.answers bulk.now) m desks.now }
+    ensures { IfOk result (λ part. (m : Map K V) → IsJobOn K.cmp K.path_of (B.answers bulk.now) m desks.now → IsSettledPart K.path_of (B.answers bulk.now) (B.decides bulk.now) m desks.now part) }
+{
+    parts_follow_intervals::<K, V>();
+    for desk in desks {
+        let part = desk.part();
+        let decided = bulk.settled(part);
+        if decided {
+            let unit = bulk.unit(alloc)?;
+            let both = bulk.join(alloc, &unit, part)?;
+            return Ok(Some(both));
+        }
+    }
+    Ok(None)
+}

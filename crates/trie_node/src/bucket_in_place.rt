@@ -1,0 +1,164 @@
+//! Leaves and buckets that are written where they stand.
+
+ghost use Rattle.std.specs.Prelude.{◌≡◌, ◌<◌, ℕ, List, ◌∷◌, [], length, map, option_map, is_some, true, get_or, slice_set as set, T, MatchResult, IfOk, OnErr, None};
+ghost use Rattle.std.specs.Arc.{arc_value};
+ghost use Rattle.std.specs.FinMap.{find as first_of, is_sorted};
+ghost use Rattle.std.specs.declared.cmp.Ordering.TheVariants.{Equal};
+ghost use Rattle.trie_node.specs.Tree.{IsTrie, KeysHaveWord, bucket};
+ghost use Rattle.trie_node.specs.View.{pair_values};
+ghost use Rattle.trie_node.specs.PutInPlace.{PutsIn, GoesTo, is_refusable};
+ghost use Rattle.trie_node.specs.Removals.{IsAt};
+ghost use Rattle.trie_node.specs.RemovalInPlace.{TakesOut};
+
+use crate::condition::{Condition, holds_of, holds_of_absent};
+use crate::no_memory::NoMemory;
+use crate::pair_removal::place_of;
+use crate::put::Entry;
+use crate::put_in_place::Done;
+use crate::removal_in_place::RemovedIn;
+use crate::stamps::Stamp;
+use hash_path::{Path, PathKey};
+use std::alloc::Global;
+use std::cmp::Ordering;
+use std::mem;
+use std::sync::Arc;
+
+/// Whether pairs of one path word have this one.
+pub(crate) fn have_path<K: PathKey, V>(
+    pairs: &[(Arc<K, Global>, Arc<V, Global>)],
+    path: Path,
+) -> bool
+    requires { 0 < length pairs.now }
+    ensures { (w : ℕ) → KeysHaveWord K.cmp K.path_of w (map pair_values pairs.now) → result ≡ true → KeysHaveWord K.cmp K.path_of path.0 (map pair_values pairs.now) }
+{
+    pairs[0].0.path() == path
+}
+
+/// The place of the key among pairs in the order of their keys, or else the place where it goes.
+fn place_among<K: PathKey, V>(
+    pairs: &[(Arc<K, Global>, Arc<V, Global>)],
+    key: &K,
+) -> Result<usize, usize>
+    requires { T (is_sorted K.cmp (map pair_values pairs.now)) }
+    ensures { MatchResult result (λ i. IsAt K.cmp key.now i (map pair_values pairs.now)) (λ i. GoesTo K.cmp key.now i (map pair_values pairs.now)) }
+{
+    for i in 0..pairs.len() {
+        match key.cmp(&pairs[i].0) {
+            Ordering::Less => return Err(i),
+            Ordering::Equal => return Ok(i),
+            Ordering::Greater => {}
+        }
+    }
+    Err(pairs.len())
+}
+
+/// A put into the pair that has the key of the entry: a leaf's, or one of a bucket's.
+pub(crate) fn put_in_pair<K: PathKey + Drop, V: Drop, C: Condition<V>>(
+    stamp: &mut Stamp,
+    pair: &mut (Arc<K, Global>, Arc<V, Global>),
+    entry: Entry<K, V>,
+    condition: &C,
+) -> Result<Done<V>, NoMemory>
+    ensures ok { IfOk result (λ d. (level : ℕ) (es : List (K × V)) (i : ℕ) → IsAt K.cmp entry.key.value i es → get_or es i (pair_values pair.old) ≡ pair_values pair.old → IsTrie K.cmp K.path_of level (bucket stamp.old.0 es) → PutsIn K.cmp K.path_of level entry.stamp.0 entry.key.value entry.value.value (C.holds condition.now) (bucket stamp.old.0 es) (option_map arc_value d.previous) d.written (bucket stamp.new.0 (set es i (pair_values pair.new)))) }
+    ensures err { OnErr result ((stamp.new ≡ stamp.old) × (pair.new ≡ pair.old)) }
+{
+    if !holds_of(condition, &pair.1) {
+        let previous = Arc::try_clone(&pair.1)?;
+        return Ok(Done {
+            previous: Some(previous),
+            written: false,
+        });
+    }
+    let Entry {
+        key,
+        value,
+        stamp: new_stamp,
+        ..
+    } = entry;
+    *stamp = new_stamp;
+    pair.0 = key;
+    let previous = mem::replace(&mut pair.1, value);
+    Ok(Done {
+        previous: Some(previous),
+        written: true,
+    })
+}
+
+/// A put of a pair at the place where it goes among a bucket's, where the condition holds of an
+/// absent key.
+fn insert_pair<K: PathKey + Drop, V: Drop, C: Condition<V>>(
+    stamp: &mut Stamp,
+    pairs: &mut Vec<(Arc<K, Global>, Arc<V, Global>)>,
+    at: usize,
+    entry: Entry<K, V>,
+    condition: &C,
+) -> Result<Done<V>, NoMemory>
+    requires goes { GoesTo K.cmp entry.key.value at (map pair_values pairs.old.items) }
+    requires word { KeysHaveWord K.cmp K.path_of (K.path_of entry.key.value) (map pair_values pairs.old.items) }
+    ensures ok { IfOk result (λ d. (level : ℕ) → IsTrie K.cmp K.path_of level (bucket stamp.old.0 (map pair_values pairs.old.items)) → PutsIn K.cmp K.path_of level entry.stamp.0 entry.key.value entry.value.value (C.holds condition.now) (bucket stamp.old.0 (map pair_values pairs.old.items)) (option_map arc_value d.previous) d.written (bucket stamp.new.0 (map pair_values pairs.new.items))) }
+    ensures due { OnErr result (C.holds condition.now None ≡ true) }
+    ensures err { OnErr result ((stamp.new ≡ stamp.old) × (pairs.new.items ≡ pairs.old.items)) }
+{
+    if !holds_of_absent(condition) {
+        return Ok(Done {
+            previous: None,
+            written: false,
+        });
+    }
+    let Entry {
+        key,
+        value,
+        stamp: new_stamp,
+        ..
+    } = entry;
+    pairs.insert(at, (key, value))?;
+    *stamp = new_stamp;
+    Ok(Done {
+        previous: None,
+        written: true,
+    })
+}
+
+/// A put among the pairs of a bucket, which have the path word of the entry's key.
+pub(crate) fn put_in_pairs<K: PathKey + Drop, V: Drop, C: Condition<V>>(
+    stamp: &mut Stamp,
+    pairs: &mut Vec<(Arc<K, Global>, Arc<V, Global>)>,
+    entry: Entry<K, V>,
+    condition: &C,
+) -> Result<Done<V>, NoMemory>
+    requires sorted { T (is_sorted K.cmp (map pair_values pairs.old.items)) }
+    requires word { KeysHaveWord K.cmp K.path_of (K.path_of entry.key.value) (map pair_values pairs.old.items) }
+    ensures ok { IfOk result (λ d. (level : ℕ) → IsTrie K.cmp K.path_of level (bucket stamp.old.0 (map pair_values pairs.old.items)) → PutsIn K.cmp K.path_of level entry.stamp.0 entry.key.value entry.value.value (C.holds condition.now) (bucket stamp.old.0 (map pair_values pairs.old.items)) (option_map arc_value d.previous) d.written (bucket stamp.new.0 (map pair_values pairs.new.items))) }
+    ensures due { OnErr result (is_refusable (C.holds condition.now) (first_of K.cmp entry.key.value (map pair_values pairs.old.items)) ≡ true) }
+    ensures err { OnErr result (bucket stamp.new.0 (map pair_values pairs.new.items) ≡ bucket stamp.old.0 (map pair_values pairs.old.items)) }
+{
+    match place_among(pairs.as_slice(), &entry.key) {
+        Ok(at) => put_in_pair(stamp, &mut pairs[at], entry, condition),
+        Err(at) => insert_pair(stamp, pairs, at, entry, condition),
+    }
+}
+
+/// The removal of the key from a bucket of these pairs, of which one at least is left.
+pub(crate) fn remove_from_pairs<K: PathKey + Drop, V: Drop, C: Condition<V>>(
+    stamp: &mut Stamp,
+    pairs: &mut Vec<(Arc<K, Global>, Arc<V, Global>)>,
+    key: &K,
+    new_stamp: Stamp,
+    condition: &C,
+) -> Result<RemovedIn<V>, NoMemory>
+    requires { 1 < length pairs.old.items }
+    ensures ok { IfOk result (λ r. (level : ℕ) → IsTrie K.cmp K.path_of level (bucket stamp.old.0 (map pair_values pairs.old.items)) → TakesOut K.cmp K.path_of level new_stamp.0 key.now (C.holds condition.now) (bucket stamp.old.0 (map pair_values pairs.old.items)) r (bucket stamp.new.0 (map pair_values pairs.new.items))) }
+    ensures due { OnErr result (is_some (first_of K.cmp key.now (map pair_values pairs.old.items)) ≡ true) }
+    ensures err { OnErr result (bucket stamp.new.0 (map pair_values pairs.new.items) ≡ bucket stamp.old.0 (map pair_values pairs.old.items)) }
+{
+    let Some(at) = place_of(pairs.as_slice(), key) else {
+        return Ok(RemovedIn::Nothing(None));
+    };
+    if !holds_of(condition, &pairs[at].1) {
+        let value = Arc::try_clone(&pairs[at].1)?;
+        return Ok(RemovedIn::Nothing(Some(value)));
+    }
+    let (_key, value) = pairs.remove(at);
+    *stamp = new_stamp;
+    Ok(RemovedIn::Left(value))
+}
