@@ -8,13 +8,14 @@ use crate::law_of_folds;
 use combiner::{Monoid, Sum};
 use std::test::Fail;
 
-// Two values summed, the last of the map first: it is the fold over the map's own listing.
-fn sum_of_two(first: i64, last: i64) -> i128
-    ensures { result ≡ folded wrapped_sum (pos 0) (items_of {K = ℕ} {V = ℤ} (λ k v. v) ((1, first) ∷ (2, last) ∷ [])) }
+// Two values summed, the last of the map first. The law says that this is the fold over the map's own listing.
+fn sum_of_two(sum: Sum, first: i64, last: i64) -> i128
+    ensures own { result ≡ folded wrapped_sum (pos 0) (last ∷ first ∷ []) }
+    ensures map { folded wrapped_sum (pos 0) (last ∷ first ∷ []) ≡ folded wrapped_sum (pos 0) (items_of {K = ℕ} {V = ℤ} (λ k v. v) ((1, first) ∷ (2, last) ∷ [])) }
 {
     law_of_folds::<u64, i64, Sum>();
-    let only = Sum.op(&i128::from(first), &Sum.unit());
-    Sum.op(&i128::from(last), &only)
+    let only = sum.op(&i128::from(first), &sum.unit());
+    sum.op(&i128::from(last), &only)
 }
 
 #[test]
@@ -25,8 +26,8 @@ fn a_fold_is_the_same_in_any_order(rt: HostRuntime) -> Result<(), Fail> {
         (-3, 4, 1),
     ];
     for (first, last, want) in table {
-        assert_eq!(rt; sum_of_two(first, last), want);
-        assert_eq!(rt; sum_of_two(last, first), want);
+        assert_eq!(rt; sum_of_two(Sum, first, last), want);
+        assert_eq!(rt; sum_of_two(Sum, last, first), want);
     }
     Ok(())
 }
