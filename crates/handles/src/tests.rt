@@ -1,4 +1,7 @@
 //! What calls of a table answer, by hand.
+mod asking;
+mod jobs;
+mod laws;
 mod memory;
 mod operations;
 mod refusals;
