@@ -1,7 +1,4 @@
 //! What calls of a table answer, by hand.
-mod asking;
-mod jobs;
-mod laws;
 mod memory;
 mod operations;
 mod refusals;

@@ -1,8 +1,6 @@
 //! Calls that make no request for memory, with every request refused.
-use super::asking::{self, Asking, close, count_of, filter_of, freeze, worked};
 use super::{LARGEST, of_path, put};
-use crate::{CallReply, Command, Reply, Table};
-use bulk_ops::Answer;
+use crate::{Command, Reply, Table};
 use std::sync::Arc;
 use std::test::Fail;
 use test_keys::take_all;
@@ -40,37 +38,5 @@ fn a_snapshot_a_view_a_get_and_a_drop_make_no_request(rt: HostRuntime) -> Result
     assert_eq!(rt; dropped, Ok(()));
     assert_eq!(rt; table.entries(), 8);
     assert_eq!(rt; table.open(alloc, 3), Ok(()));
-    Ok(())
-}
-
-#[test]
-fn a_freeze_a_finish_and_an_abandon_make_no_request(rt: HostRuntime) -> Result<(), Fail> {
-    let alloc = rt.alloc();
-    let mut table = Asking::new(alloc, LARGEST)?;
-    table.open(alloc, 1)?;
-    asking::put(alloc, &mut table, 1, 97, 4)?;
-    let (filter, count) = (filter_of(alloc, 4, 5)?, count_of(alloc, 4)?);
-    let (job, view) = freeze(&mut table, 1, &filter)?;
-    let query = &*filter;
-    let part = worked(alloc, &view, query)?;
-
-    let taken = take_all(alloc)?;
-    let told = close(&mut table, job, &view, query, part);
-    let frozen = freeze(&mut table, 1, &count);
-    let not_live = freeze(&mut table, 7, &count);
-    let reserved = freeze(&mut table, 1, &filter);
-    let abandoned = table.abandon(1);
-    let again = table.abandon(1);
-    drop(taken);
-
-    assert!(rt; matches!(&told, Ok(Answer::Made(1))));
-    assert!(rt; matches!(&frozen, Ok((1, view)) if view.len() == 1));
-    assert_eq!(rt; not_live.err(), Some(Refusal::NoHandle));
-    assert_eq!(rt; reserved.err(), Some(Refusal::Taken));
-    assert_eq!(rt; abandoned, Ok(()));
-    assert_eq!(rt; again, Err(Refusal::NoJob));
-    assert_eq!(rt; table.entries(), 8);
-    let four = Ok(CallReply::Reply(Reply::Old(Some(Arc::new(alloc, 4)?))));
-    assert_eq!(rt; asking::get(alloc, &mut table, 5, 97), four);
     Ok(())
 }
