@@ -13,8 +13,5 @@ pub mod Takings
 pub mod Workings
 pub mod Beginnings
 pub mod JobSteps
-pub mod Postings
 pub mod MoveSteps
-pub mod WholeSteps
 pub mod Collections
-pub mod RunSteps

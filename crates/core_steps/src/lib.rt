@@ -7,26 +7,19 @@
 
 mod board;
 mod collecting;
-mod cores;
 mod desk;
 mod laws;
 mod moves;
-mod outcome;
-mod post;
 mod progress;
-mod step;
 mod working;
 
 pub use board::{Board, first_board, work_on};
 pub use collecting::collected;
-pub use cores::Core;
 pub use laws::{
     law_of_boards, law_of_cores, law_of_coverings, law_of_jobs, law_of_runs, law_of_tilings,
 };
 pub use moves::{Move, make_move};
-pub use outcome::{Outcome, Trace};
 pub use progress::Progress;
-pub use step::Step;
 
 #[cfg(test)]
 mod tests;

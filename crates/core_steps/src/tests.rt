@@ -1,8 +1,6 @@
 //! The worked steps of one board, by hand: two keys, at the positions 0 and 3, two workers, a count of all pairs, and
 //! pieces of one pair.
 
-mod rows;
-
 use crate::{Board, Progress, first_board, law_of_jobs, work_on};
 use bulk_ops::{PairFn, Part, Query, Stored};
 use combiner::Sum;
