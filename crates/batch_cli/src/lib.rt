@@ -12,7 +12,7 @@ mod events;
 mod fold;
 mod input;
 mod jobs;
-pub mod law;
+mod laws;
 mod listing;
 mod query;
 mod run;
@@ -21,10 +21,12 @@ mod words;
 
 pub use arguments::{ArgFault, Options};
 pub use input::read_script;
+pub use laws::script_has_one_output;
 pub use run::{RunFault, run_script};
 pub use script::{
     CommandLine, Folding, Key, LineReply, Listing, MapKey, Mapping, Reason, Script, ScriptFault,
-    Statement, Test, parse_script,
+    Statement, Test, parse_script, spelled_text_has_no_fault, text_has_one_fault,
+    text_has_one_script,
 };
 pub use status::execute;
 pub use words::options;

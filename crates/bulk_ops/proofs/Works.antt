@@ -5,7 +5,7 @@ use Rattle.std.specs.declared.cmp.Ordering.TheVariants.{Less, Equal, Greater}
 use Rattle.std.specs.Ordering.{eq_by_cmp, is_eq}
 use Rattle.std.specs.Cmp.{IsTotalOrder}
 use Rattle.std.specs.FinMap.Entries.{find-put, find_tied, is_sorted-put, length-put}
-use Rattle.trie_node.specs.Listings.{IsListing, gathered}
+use Rattle.trie_shape.specs.Listings.{IsListing, gathered}
 use Rattle.versions.specs.Map.{Map, IsMap, ShareNoKey, value_at, with_pair}
 use Rattle.versions.specs.declared.version.TheConstants.{MOST_PAIRS}
 use Rattle.combiner.specs.Unions.{AreApart, IsWithin}

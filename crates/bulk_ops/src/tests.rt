@@ -1,5 +1,6 @@
 //! What a small map answers, by hand. Its keys have chosen path words; its values are at the ends of `i64`.
 
+mod laws;
 mod memory;
 
 use crate::{

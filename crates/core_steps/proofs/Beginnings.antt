@@ -1,15 +1,14 @@
 -- A board as it begins.
-use Rattle.std.proofs.Common.{◌≡◌, ℕ, zero, suc, ◌<◌, ◌≤◌, Bool, true, false, cond, List, [], ◌∷◌, length, map, replicate, filter, get_or, set, Option, Some, None, refl, sym, ap, ◌∙◌, subst, arith}
+use Rattle.std.proofs.Common.{◌≡◌, ℕ, zero, suc, ◌≤◌, Bool, true, false, cond, List, [], ◌∷◌, length, map, replicate, get_or, set, Option, refl, sym, ap, ◌∙◌, subst, arith}
 use Rattle.std.specs.Prelude.{All, IfSome, option_map}
 use Rattle.std.specs.declared.cmp.Ordering.{Ordering}
 use Rattle.std.proofs.lemmas.List.{map-set}
 use Rattle.std.proofs.lemmas.List.Elements.{All-nil, All-cons, All-head, All-tail, All-get_or, All-set, All-weaker, All-map}
-use Rattle.trie_node.specs.Map.{Map, IsMap}
+use Rattle.trie_shape.specs.Map.{Map, IsMap}
 use Rattle.versions.specs.declared.version.TheConstants.{MOST_PAIRS}
-use Rattle.iter.specs.declared.interval.Interval.{Interval}
 use Rattle.iter.specs.Intervals.{whole, lies_in, cover, parts}
 use Rattle.splitter.specs.Portion.{Portion}
-use Rattle.core_steps.specs.Boards.{Worker, Board, nobody, first_board, intervals}
+use Rattle.core_steps.specs.Boards.{Worker, nobody, first_board, intervals}
 use Rattle.core_steps.specs.Desks.{Station, IsVacant, interval_of, worker_of, board, result_of, results, HasPieces, HasPart, IsJobOn}
 use Rattle.core_steps.proofs.KeptBoards.{first_is_board}
 

@@ -1,6 +1,6 @@
 -- The parts of a job's workers, joined.
 use Rattle.std.proofs.Common.{◌≡◌, ℕ, zero, suc, ◌+◌, ◌<◌, ◌≤◌, Bool, true, false, List, [], ◌∷◌, ◌++◌, length, map, take, drop, get_or, Option, Some, None, is_none, refl, sym, ap, ◌∙◌, subst, append_assoc, inl, inr, arith}
-use Rattle.std.specs.Prelude.{All, Contains, ◌↔◌, option_map, option_to_list, sum_by, nat_lt}
+use Rattle.std.specs.Prelude.{Contains, ◌↔◌, option_map, option_to_list, nat_lt}
 use Rattle.std.specs.List.{list_any}
 use Rattle.std.proofs.lemmas.Bool.{cases_Bool, false≢true}
 use Rattle.std.proofs.lemmas.Bool.Decides.{nat_tests}
@@ -9,7 +9,7 @@ use Rattle.std.proofs.lemmas.List.{take_more, take_all, drop_more, drop_all, app
 use Rattle.std.proofs.lemmas.List.Elements.{All-get_or, All-contains, All-contains_itself, All-filter}
 use Rattle.std.proofs.lemmas.List.Sums.{sum_by-append}
 use Rattle.hash_path.specs.Digits.{position}
-use Rattle.trie_node.specs.Map.{Map, IsMap, ShareNoKey, union}
+use Rattle.trie_shape.specs.Map.{Map, IsMap, ShareNoKey, union}
 use Rattle.iter.specs.declared.interval.Interval.{Interval}
 use Rattle.iter.specs.Intervals.{AreApart, lies_in, cover, parts}
 use Rattle.combiner.specs.Unions as unions

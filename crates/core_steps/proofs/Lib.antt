@@ -13,5 +13,9 @@ pub mod Takings
 pub mod Workings
 pub mod Beginnings
 pub mod JobSteps
+pub mod Postings
 pub mod MoveSteps
+pub mod WholeSteps
+pub mod OpenSteps
 pub mod Collections
+pub mod RunSteps

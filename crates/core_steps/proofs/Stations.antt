@@ -1,13 +1,12 @@
 -- Desks, and the board that they show.
-use Rattle.std.proofs.Common.{◌≡◌, ℕ, zero, suc, ◌-◌, ◌<◌, Bool, true, false, List, [], ◌∷◌, ◌++◌, length, take, drop, map, get_or, set, Option, Some, None, is_none, refl, sym, ap, ◌∙◌, subst, arith}
-use Rattle.std.specs.Prelude.{All, IfSome, option_map, slice_get}
+use Rattle.std.proofs.Common.{◌≡◌, ℕ, zero, suc, ◌-◌, ◌<◌, List, [], ◌∷◌, ◌++◌, length, take, map, get_or, set, Option, refl, sym, ap, ◌∙◌, subst, arith}
+use Rattle.std.specs.Prelude.{option_map, slice_get}
 use Rattle.std.proofs.lemmas.List.{map-set, set-set, set-get_or, get_or-set_same, length-map, length-set, take-map}
 use Rattle.std.proofs.lemmas.Option.{slice_get-map}
-use Rattle.std.proofs.lemmas.List.Elements.{All-get_or, All-set, All-append, All-nil, All-cons}
-use Rattle.trie_node.specs.Map.{Map}
-use Rattle.iter.specs.declared.interval.Interval.{Interval}
+use Rattle.std.proofs.lemmas.List.Elements.{All-get_or, All-set}
+use Rattle.trie_shape.specs.Map.{Map}
 use Rattle.splitter.specs.Portion.{Portion}
-use Rattle.core_steps.specs.Boards.{Worker, Board, nobody, worker, with_queue, with_held, newest, without_newest, oldest, without_oldest, Turn, took, cut, uncut, idle}
+use Rattle.core_steps.specs.Boards.{Worker, Board, worker, with_queue, with_held, newest, without_newest, oldest, without_oldest, Turn}
 use Rattle.core_steps.specs.Desks.{Station, interval_of, worker_of, board, result_of, results, HasPieces, Leaves}
 
 pub newest_interval : {K V : Type 0} (ps : List (Portion K V)) → newest (map interval_of ps) ≡ option_map interval_of (newest ps)

@@ -1,15 +1,15 @@
 -- What taking, stealing and splitting leave of a board.
-use Rattle.std.proofs.Common.{◌≡◌, ℕ, ◌-◌, ◌<◌, true, List, [], ◌∷◌, ◌++◌, length, take, drop, map, get_or, set, Option, Some, None, is_none, refl, sym, ap, ◌∙◌, subst, arith}
+use Rattle.std.proofs.Common.{◌≡◌, ℕ, ◌-◌, ◌<◌, true, List, [], ◌∷◌, ◌++◌, length, map, get_or, set, Option, Some, None, is_none, refl, sym, ap, ◌∙◌, subst}
 use Rattle.std.specs.Prelude.{All, IfSome, IfOk, Result, Ok, Err, option_map, slice_get}
 use Rattle.std.proofs.lemmas.Option.{slice_get_within, get_or_from_slice_get}
-use Rattle.std.proofs.lemmas.List.Elements.{All-get_or, All-append, All-nil, All-cons, All-set, All-take, All-drop, All-push}
-use Rattle.trie_node.specs.Map.{Map}
+use Rattle.std.proofs.lemmas.List.Elements.{All-get_or, All-set, All-take, All-drop, All-push}
+use Rattle.trie_shape.specs.Map.{Map}
 use Rattle.iter.specs.declared.interval.Interval.{Interval}
 use Rattle.splitter.specs.Portion.{Portion}
 use Rattle.splitter.specs.Cuts.{cut_point}
-use Rattle.core_steps.specs.Boards.{Worker, Board, worker, with_queue, with_held, newest, without_newest, oldest, without_oldest, Turn, took, cut, uncut, idle, taken, stolen, split, split_at}
-use Rattle.core_steps.specs.Desks.{Station, interval_of, worker_of, board, result_of, HasPieces, Leaves, station_take, station_taken, station_split, station_split_of, station_cut, taking_turn, stealing_turn, splitting_turn}
-use Rattle.core_steps.proofs.Stations.{newest_interval, rest_intervals, oldest_interval, later_intervals, map_append, worker_is, with_queue_is, with_held_is, with_both_is, still_there, read_same, leaves_set, leaves_same, results_at}
+use Rattle.core_steps.specs.Boards.{Worker, Board, worker, with_queue, with_held, newest, without_newest, oldest, without_oldest, Turn, took, cut, taken, stolen, split, split_at}
+use Rattle.core_steps.specs.Desks.{Station, interval_of, board, result_of, HasPieces, Leaves, station_take, station_taken, station_split, station_split_of, station_cut, taking_turn, stealing_turn, splitting_turn}
+use Rattle.core_steps.proofs.Stations.{newest_interval, rest_intervals, oldest_interval, later_intervals, map_append, worker_is, with_queue_is, with_held_is, with_both_is, still_there, leaves_set, leaves_same, results_at}
 
 -- a result that is one thing where it is another
 pub if_ok : {X E : Type 0} (A B : X → Type 0) (r : Result X E) → ((x : X) → A x → B x) → IfOk r A → IfOk r B

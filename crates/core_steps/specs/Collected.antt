@@ -1,6 +1,6 @@
 -- What the collecting of all parts comes to on the desks of one job.
 use Rattle.std.specs.Prelude.{◌≡◌, ◌⊎◌, ℕ, ◌<◌, List, [], length, Option, Some, None}
-use Rattle.trie_node.specs.Map.{Map}
+use Rattle.trie_shape.specs.Map.{Map}
 use Rattle.iter.specs.Intervals.{parts}
 use Rattle.core_steps.specs.Boards.{worker, all_worked}
 use Rattle.core_steps.specs.Desks.{Station, board}

@@ -1,7 +1,7 @@
 -- A board as the code keeps it: with the pieces of its intervals, and the parts of what was worked.
-use Rattle.std.specs.Prelude.{◌≡◌, ℕ, ◌<◌, ◌≤◌, Bool, All, IfSome, List, [], ◌∷◌, ◌++◌, length, map, Option, Some, None, option_map, option_to_list}
+use Rattle.std.specs.Prelude.{◌≡◌, ℕ, ◌≤◌, Bool, All, IfSome, List, [], ◌∷◌, ◌++◌, length, map, Option, Some, None, option_map, option_to_list}
 use Rattle.std.specs.declared.cmp.Ordering.{Ordering}
-use Rattle.trie_node.specs.Map.{Map, IsMap}
+use Rattle.trie_shape.specs.Map.{Map, IsMap}
 use Rattle.versions.specs.declared.version.TheConstants.{MOST_PAIRS}
 use Rattle.iter.specs.declared.interval.Interval.{Interval}
 use Rattle.iter.specs.Intervals.{AreApart, part, parts}

@@ -6,5 +6,7 @@ pub mod Laws
 pub mod Queries
 pub mod Desks
 pub mod Views
+pub mod Posts
 pub mod Collected
 pub mod Moves
+pub mod Steps

@@ -1,7 +1,7 @@
 -- What a worker's move comes to on the desks of one job.
 use Rattle.std.specs.Prelude.{◌≡◌, ℕ, List, length}
 use Rattle.std.specs.declared.cmp.Ordering.{Ordering}
-use Rattle.trie_node.specs.Map.{Map}
+use Rattle.trie_shape.specs.Map.{Map}
 use Rattle.iter.specs.Intervals.{part, parts}
 use Rattle.splitter.specs.Cuts.{cut_point}
 use Rattle.core_steps.specs.Boards as boards

@@ -2,10 +2,10 @@
 use Rattle.std.proofs.Common.{◌≡◌, ℕ, zero, suc, ◌+◌, ◌<◌, ◌≤◌, ◌==◌, Bool, true, false, cond, List, [], ◌∷◌, ◌++◌, length, get_or, take, sum_by, refl, sym, ap, ◌∙◌, arith}
 use Rattle.std.proofs.lemmas.List.{take_more, take_all}
 use Rattle.std.proofs.lemmas.List.Sums.{sum_by-cons, sum_by-append, sum_by_push, sum_by-take-le}
-use Rattle.trie_node.specs.Tree.{Tree, branch, bucket, Trees, no_trees, more_trees, digits_of}
-use Rattle.trie_node.specs.Shape.{Fits, AllFit, count_of, nodes_below, nodes_of_all, Nodes, own_count}
-use Rattle.trie_node.specs.Outline.{children, list_of, stamp_of}
-use Rattle.trie_node.specs.Counts.{node_count, count_of_all, HasPairs, AllHavePairs}
+use Rattle.trie_shape.specs.Tree.{Tree, branch, bucket, Trees, no_trees, more_trees, digits_of}
+use Rattle.trie_shape.specs.Shape.{Fits, AllFit, count_of, nodes_below, nodes_of_all, Nodes, own_count}
+use Rattle.trie_shape.specs.Outline.{children, list_of, stamp_of}
+use Rattle.trie_shape.specs.Counts.{node_count, count_of_all, HasPairs, AllHavePairs}
 use Rattle.generation.specs.Owned.{own_below, own_of_all}
 
 bit_le : (b : Bool) → cond b 1 0 ≤ 1

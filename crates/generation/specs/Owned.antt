@@ -1,6 +1,6 @@
 -- How many nodes of a trie carry a stamp.
 use Rattle.std.specs.Prelude.{ℕ, ◌+◌, ◌==◌, cond}
-use Rattle.trie_node.specs.Tree.{Tree, branch, bucket, Trees, no_trees, more_trees}
+use Rattle.trie_shape.specs.Tree.{Tree, branch, bucket, Trees, no_trees, more_trees}
 
 module _ {K V : Type 0} where
   abbrev mutual

@@ -1,10 +1,10 @@
 //! The nodes that carry a stamp.
 
 ghost use Rattle.std.specs.Prelude.{◌≡◌, ◌<◌, ◌^◌};
-ghost use Rattle.trie_node.specs.Counts.{node_count};
-ghost use Rattle.trie_node.specs.Shape.{Fits, nodes, own_count};
-ghost use Rattle.trie_node.specs.Roots.{IsRoot, word_of};
-ghost use Rattle.trie_node.specs.View.{tree};
+ghost use Rattle.trie_shape.specs.Counts.{node_count};
+ghost use Rattle.trie_shape.specs.Shape.{Fits, nodes, own_count};
+ghost use Rattle.trie_shape.specs.Roots.{IsRoot, word_of};
+ghost use Rattle.trie_shape.specs.View.{tree};
 ghost use Rattle.generation.specs.Owned.{own_below};
 
 use hash_path::PathKey;

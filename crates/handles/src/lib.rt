@@ -16,8 +16,6 @@ mod no_query;
 mod places;
 mod reply;
 mod table;
-#[cfg(test)]
-mod tests;
 
 pub use call::Call;
 pub use call_reply::CallReply;

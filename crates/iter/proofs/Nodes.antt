@@ -1,8 +1,8 @@
 -- How many nodes the tries of a map have.
 use Rattle.std.proofs.Common.{◌≡◌, suc, ◌+◌, refl, sym, ap, ◌∙◌}
-use Rattle.trie_node.specs.Tree.{Tree, branch, bucket, Trees, no_trees, more_trees}
-use Rattle.trie_node.specs.Counts.{node_count, count_of_all}
-use Rattle.trie_node.specs.Shape.{plain, all_plain}
+use Rattle.trie_shape.specs.Tree.{Tree, branch, bucket, Trees, no_trees, more_trees}
+use Rattle.trie_shape.specs.Counts.{node_count, count_of_all}
+use Rattle.trie_shape.specs.Shape.{plain, all_plain}
 
 module _ {K V : Type 0} where
   mutual

@@ -14,7 +14,7 @@ use Rattle.std.proofs.lemmas.List.Folds.{list_any-append}
 use Rattle.std.proofs.lemmas.List.Elements.{filter_agree}
 use Rattle.hash_path.specs.Digits.{position, word_bits}
 use Rattle.hash_path.specs.Laws.{PositionIsBelow}
-use Rattle.trie_node.specs.Map.{Map, IsMap, ShareNoKey, union, value_at}
+use Rattle.trie_shape.specs.Map.{Map, IsMap, ShareNoKey, union, value_at}
 use Rattle.iter.specs.declared.interval.Interval.{Interval}
 use Rattle.iter.specs.Intervals.{whole, lies_in, cover, AreApart, Tile, part, parts}
 use Rattle.iter.proofs.Tiling.{once_cut, cover_cons, cover_append}

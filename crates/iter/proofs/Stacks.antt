@@ -3,9 +3,9 @@ use Rattle.std.proofs.Common.{◌≡◌, ℕ, suc, ◌+◌, ◌-◌, ◌≤◌, 
 use Rattle.std.proofs.lemmas.List.{append-nil}
 use Rattle.std.specs.declared.cmp.Ordering.{Ordering}
 use Rattle.std.proofs.lemmas.List.Sums.{sum_by-cons}
-use Rattle.trie_node.specs.Counts.{node_count}
-use Rattle.trie_node.specs.Outline.{children}
-use Rattle.trie_node.specs.Tree.{Tree, entries}
+use Rattle.trie_shape.specs.Counts.{node_count}
+use Rattle.trie_shape.specs.Outline.{children}
+use Rattle.trie_shape.specs.Tree.{Tree, entries}
 use Rattle.iter.specs.Subtries.{pairs_of_all, nodes_of_all, AllStand}
 use Rattle.iter.specs.Stacks.{trees_of, IsWithin, unwalked, subtries, Descend, IsSound}
 use Rattle.iter.specs.declared.children.Children.{Children}

@@ -5,9 +5,9 @@ use Rattle.std.proofs.lemmas.List.Concat.{flat_map-append}
 use Rattle.std.proofs.lemmas.List.Sums.{sum_by-append}
 use Rattle.std.proofs.lemmas.List.Elements.{All-nil, All-cons, All-head, All-tail, All-take, All-drop}
 use Rattle.std.specs.declared.cmp.Ordering.{Ordering}
-use Rattle.trie_node.specs.Counts.{node_count}
-use Rattle.trie_node.specs.Outline.{children}
-use Rattle.trie_node.specs.Tree.{Tree, IsTrie, entries}
+use Rattle.trie_shape.specs.Counts.{node_count}
+use Rattle.trie_shape.specs.Outline.{children}
+use Rattle.trie_shape.specs.Tree.{Tree, IsTrie, entries}
 use Rattle.iter.specs.Subtries.{children_between, pairs_of_all, nodes_of_all, AllStand}
 
 module _ {X : Type 0} (P : X → Type 0) where

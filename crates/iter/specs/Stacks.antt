@@ -2,10 +2,10 @@
 use Rattle.std.specs.Prelude.{ℕ, suc, ◌-◌, ◌^◌, ◌<◌, ◌≤◌, List, [], ◌∷◌, ◌++◌, length, Option, Some, None}
 use Rattle.std.specs.declared.cmp.Ordering.{Ordering}
 use Rattle.hash_path.specs.Digits.{word_digits}
-use Rattle.trie_node.specs.Outline.{children}
-use Rattle.trie_node.specs.Tree.{Tree}
-use Rattle.trie_node.specs.View.{tree}
-use Rattle.trie_node.specs.declared.node.Node.{Node}
+use Rattle.trie_shape.specs.Outline.{children}
+use Rattle.trie_shape.specs.Tree.{Tree}
+use Rattle.trie_shape.specs.View.{tree}
+use Rattle.trie_shape.specs.declared.node.Node.{Node}
 use Rattle.iter.specs.Subtries.{children_between, AllStand}
 use Rattle.iter.specs.declared.children.Children.{Children}
 use Rattle.iter.specs.declared.ahead.Ahead.{Ahead}

@@ -1,9 +1,9 @@
 -- Subtries of a trie, one after another.
 use Rattle.std.specs.Prelude.{ℕ, ◌<◌, All, List, length, take, drop, flat_map, sum_by}
 use Rattle.std.specs.declared.cmp.Ordering.{Ordering}
-use Rattle.trie_node.specs.Counts.{node_count}
-use Rattle.trie_node.specs.Outline.{children}
-use Rattle.trie_node.specs.Tree.{Tree, IsTrie, entries}
+use Rattle.trie_shape.specs.Counts.{node_count}
+use Rattle.trie_shape.specs.Outline.{children}
+use Rattle.trie_shape.specs.Tree.{Tree, IsTrie, entries}
 
 module _ {K V : Type 0} where
   -- the children of a node from one number on and below another

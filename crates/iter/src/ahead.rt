@@ -2,9 +2,9 @@
 
 ghost use Rattle.std.specs.Prelude.{◌≡◌, ◌+◌, ◌<◌, ◌≤◌, ◌++◌, ◌^◌, [], length, map, IfNone, IfSome};
 ghost use Rattle.hash_path.specs.Digits.{last_level};
-ghost use Rattle.trie_node.specs.Outline.{children};
-ghost use Rattle.trie_node.specs.Tree.{IsTrie};
-ghost use Rattle.trie_node.specs.View.{pair_values, tree};
+ghost use Rattle.trie_shape.specs.Outline.{children};
+ghost use Rattle.trie_shape.specs.Tree.{IsTrie};
+ghost use Rattle.trie_shape.specs.View.{pair_values, tree};
 ghost use Rattle.iter.specs.Subtries.{children_between, nodes_of_all, pairs_of_all};
 ghost use Rattle.iter.specs.Stacks.{IsSound, subtries};
 

@@ -1,8 +1,8 @@
 //! Children of a branch that are still to be entered.
 
 ghost use Rattle.std.specs.Prelude.{◌≡◌, ◌≤◌, [], ◌∷◌, length, MatchOption};
-ghost use Rattle.trie_node.specs.Outline.{children};
-ghost use Rattle.trie_node.specs.View.{tree};
+ghost use Rattle.trie_shape.specs.Outline.{children};
+ghost use Rattle.trie_shape.specs.View.{tree};
 ghost use Rattle.iter.specs.Stacks.{IsWithin, trees_of};
 ghost use Rattle.iter.specs.Subtries.{children_between};
 

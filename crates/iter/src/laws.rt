@@ -3,7 +3,7 @@
 
 ghost use Rattle.std.specs.Prelude.{◌≡◌, ◌+◌, ◌<◌, ◌≤◌, ℕ, List, [], ◌∷◌, ◌++◌, cond, nat_lt, Option, None, length};
 ghost use Rattle.hash_path.specs.Digits.{position};
-ghost use Rattle.trie_node.specs.Map.{Map, IsMap, ShareNoKey, union, value_at};
+ghost use Rattle.trie_shape.specs.Map.{Map, IsMap, ShareNoKey, union, value_at};
 ghost use Rattle.iter.specs.declared.interval.Interval.{Interval};
 ghost use Rattle.iter.specs.Intervals.{whole, cover, AreApart, Tile, part, parts};
 

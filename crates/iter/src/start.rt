@@ -1,11 +1,11 @@
 //! Walks from their beginning.
 
 ghost use Rattle.std.specs.Prelude.{◌≡◌, IfOk};
-ghost use Rattle.trie_node.specs.Counts.{node_count};
-ghost use Rattle.trie_node.specs.Order.{walked};
-ghost use Rattle.trie_node.specs.Roots.{IsRoot, map_of};
-ghost use Rattle.trie_node.specs.Tree.{Tree};
-ghost use Rattle.trie_node.specs.View.{tree};
+ghost use Rattle.trie_shape.specs.Counts.{node_count};
+ghost use Rattle.trie_shape.specs.Order.{walked};
+ghost use Rattle.trie_shape.specs.Roots.{IsRoot, map_of};
+ghost use Rattle.trie_shape.specs.Tree.{Tree};
+ghost use Rattle.trie_shape.specs.View.{tree};
 
 use crate::walk::Pairs;
 use hash_path::PathKey;

@@ -3,9 +3,9 @@
 ghost use Rattle.std.specs.Prelude.{◌≡◌, ◌+◌, ◌<◌, ◌≤◌, ◌^◌, [], length};
 ghost use Rattle.std.specs.Iterator.{YieldsFirstBy, item_count};
 ghost use Rattle.hash_path.specs.Digits.{last_level};
-ghost use Rattle.trie_node.specs.Outline.{children};
-ghost use Rattle.trie_node.specs.Tree.{IsTrie};
-ghost use Rattle.trie_node.specs.View.{tree};
+ghost use Rattle.trie_shape.specs.Outline.{children};
+ghost use Rattle.trie_shape.specs.Tree.{IsTrie};
+ghost use Rattle.trie_shape.specs.View.{tree};
 ghost use Rattle.iter.specs.Subtries.{children_between, nodes_of_all, pairs_of_all};
 ghost use Rattle.iter.specs.Walks.{item};
 
@@ -27,7 +27,7 @@ pub struct Pairs<'a, K: PathKey, V> {
 
 impl<'a, K: PathKey, V> Model for Pairs<'a, K, V> {
     ghost use Rattle.std.specs.Prelude.{◌≡◌, ◌+◌, ◌++◌, length, map};
-    ghost use Rattle.trie_node.specs.View.{pair_values};
+    ghost use Rattle.trie_shape.specs.View.{pair_values};
     ghost use Rattle.iter.specs.Subtries.{nodes_of_all, pairs_of_all};
     ghost use Rattle.iter.specs.Stacks.{IsSound, subtries};
     ghost use Rattle.iter.specs.Walks.{Walk};

@@ -1,7 +1,7 @@
 //! The value of a key, which is made where there is none.
 ghost use Rattle.std.specs.Prelude.{◌≡◌, IfOk, MatchOption, OnErr, None, Some};
 ghost use Rattle.map_ops.specs.Writes.{writes};
-ghost use Rattle.trie_node.specs.Roots.{word_of};
+ghost use Rattle.trie_shape.specs.Roots.{word_of};
 ghost use Rattle.versions.specs.Changes.{RestampsIf};
 ghost use Rattle.versions.specs.Commands as commands;
 ghost use Rattle.versions.specs.Map.{value_at};

@@ -2,8 +2,8 @@
 ghost use Rattle.std.specs.Prelude.{◌≡◌, option_map, IfOk, OnErr, OnOk};
 ghost use Rattle.std.specs.Arc.{arc_value};
 ghost use Rattle.map_ops.specs.Writes.{writes};
-ghost use Rattle.trie_node.specs.Roots.{word_of};
-ghost use Rattle.trie_node.specs.Shape.{Restamps};
+ghost use Rattle.trie_shape.specs.Roots.{word_of};
+ghost use Rattle.trie_shape.specs.Shape.{Restamps};
 ghost use Rattle.versions.specs.Changes.{RestampsIf};
 ghost use Rattle.versions.specs.Commands as commands;
 ghost use Rattle.versions.specs.Puts.{FullExactly};

@@ -11,7 +11,7 @@ mod fault;
 mod fields;
 mod folding;
 mod key;
-pub mod law;
+mod laws;
 mod line;
 mod lines;
 mod listing;
@@ -23,12 +23,11 @@ mod passing;
 mod reply;
 mod statement;
 mod stop;
-#[cfg(test)]
-mod tests;
 
 pub use fault::{Reason, ScriptFault};
 pub use folding::Folding;
 pub use key::Key;
+pub use laws::{spelled_text_has_no_fault, text_has_one_fault, text_has_one_script};
 pub use listing::Listing;
 pub use map_key::MapKey;
 pub use mapping::Mapping;
@@ -36,3 +35,6 @@ pub use parse::{Script, parse_script};
 pub use passing::Test;
 pub use reply::{LineReply, push_line};
 pub use statement::{CommandLine, Statement};
+
+#[cfg(test)]
+mod tests;

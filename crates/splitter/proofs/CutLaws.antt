@@ -5,7 +5,7 @@ use Rattle.std.proofs.lemmas.Bool.{and_parts, and_from, leb-true, ltb-true, le-l
 use Rattle.std.proofs.lemmas.List.Elements.{All-map, filter_passes, All-contains}
 use Rattle.hash_path.specs.Digits.{word_bits, spelled, position}
 use Rattle.hash_path.specs.Laws.{IsWord, DigitOrder, DigitInterval, SharedDigits}
-use Rattle.trie_node.specs.Map.{Map}
+use Rattle.trie_shape.specs.Map.{Map}
 use Rattle.iter.specs.declared.interval.Interval.{Interval}
 use Rattle.iter.specs.Intervals.{lies_in, part, Tile}
 use Rattle.splitter.specs.Cuts.{cut_point, words_of, middle_of}

@@ -10,13 +10,13 @@ use Rattle.std.specs.declared.cmp.Ordering.{Ordering}
 use Rattle.std.specs.FinMap.Entries.{where_key}
 use Rattle.hash_path.specs.Digits.{word_bits, word_digits, digit, digits_after, lowest, position, breadth}
 use Rattle.hash_path.specs.Laws.{PositionIsBelow, DigitInterval, SharedDigits, IntervalStep}
-use Rattle.trie_node.specs.Looks.{Shows}
-use Rattle.trie_node.specs.Map.{Map, IsMap}
-use Rattle.trie_node.specs.Order.{walked}
-use Rattle.trie_node.specs.Outline.{children}
-use Rattle.trie_node.specs.Shape.{Fits}
-use Rattle.trie_node.specs.Tree.{Tree, IsTrie, digits_of, entries}
-use Rattle.trie_node.specs.declared.looks.Look.TheVariants.{Branch}
+use Rattle.trie_shape.specs.Looks.{Shows}
+use Rattle.trie_shape.specs.Map.{Map, IsMap}
+use Rattle.trie_shape.specs.Order.{walked}
+use Rattle.trie_shape.specs.Outline.{children}
+use Rattle.trie_shape.specs.Shape.{Fits}
+use Rattle.trie_shape.specs.Tree.{Tree, IsTrie, digits_of, entries}
+use Rattle.trie_shape.specs.declared.looks.Look.TheVariants.{Branch}
 use Rattle.iter.specs.Subtries.{children_between, pairs_of_all}
 use Rattle.iter.specs.Intervals.{lies_in, part}
 use Rattle.iter.specs.declared.interval.Interval.{Interval}

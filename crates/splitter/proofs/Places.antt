@@ -10,9 +10,9 @@ use Rattle.std.specs.FinMap.{is_sorted}
 use Rattle.std.specs.FinMap.Entries.{where_key, is_sorted-where_key}
 use Rattle.hash_path.specs.Digits.{word_bits, word_digits, digit, digits_after, lowest}
 use Rattle.hash_path.specs.Laws.{IsWord, DigitInterval, SharedDigits}
-use Rattle.trie_node.specs.Map.{Map, IsMap}
-use Rattle.trie_node.specs.Order.{walked}
-use Rattle.trie_node.specs.Tree.{Tree, entries}
+use Rattle.trie_shape.specs.Map.{Map, IsMap}
+use Rattle.trie_shape.specs.Order.{walked}
+use Rattle.trie_shape.specs.Tree.{Tree, entries}
 use Rattle.iter.specs.Subtries.{pairs_of_all}
 use Rattle.splitter.specs.Cuts.{digits_at, differ_at, words_of}
 use Rattle.splitter.proofs.Ranges.{kept_rise}

@@ -6,11 +6,11 @@ use Rattle.std.proofs.lemmas.Bool.{cases_lt, eq-eqb, lt-ltb, le-ltb, false_from_
 use Rattle.std.proofs.lemmas.List.Elements.{All-head, All-tail, filter-append}
 use Rattle.std.proofs.lemmas.List.Concat.{flat_map-append}
 use Rattle.hash_path.specs.Digits.{digit}
-use Rattle.trie_node.specs.Tree.{Tree, branch, bucket, Trees, no_trees, more_trees, digits_of, digits_from, entries}
-use Rattle.trie_node.specs.Looks.{Shows}
-use Rattle.trie_node.specs.Outline.{children, list_of}
-use Rattle.trie_node.specs.Shape.{Fits, count_of}
-use Rattle.trie_node.specs.declared.looks.Look.TheVariants.{Branch}
+use Rattle.trie_shape.specs.Tree.{Tree, branch, bucket, Trees, no_trees, more_trees, digits_of, digits_from, entries}
+use Rattle.trie_shape.specs.Looks.{Shows}
+use Rattle.trie_shape.specs.Outline.{children, list_of}
+use Rattle.trie_shape.specs.Shape.{Fits, count_of}
+use Rattle.trie_shape.specs.declared.looks.Look.TheVariants.{Branch}
 use Rattle.iter.specs.Subtries.{pairs_of_all}
 
 -- 1. Rising digits.

@@ -2,12 +2,12 @@
 use Rattle.std.specs.Prelude.{◌≡◌, ℕ, ◌≤◌, All, length}
 use Rattle.std.specs.declared.cmp.Ordering.{Ordering}
 use Rattle.hash_path.specs.Digits.{digits_after, lowest}
-use Rattle.trie_node.specs.Looks.{Shows}
-use Rattle.trie_node.specs.Map.{Map}
-use Rattle.trie_node.specs.Order.{walked}
-use Rattle.trie_node.specs.Outline.{children}
-use Rattle.trie_node.specs.Tree.{Tree, IsTrie, entries}
-use Rattle.trie_node.specs.declared.looks.Look.TheVariants.{Branch}
+use Rattle.trie_shape.specs.Looks.{Shows}
+use Rattle.trie_shape.specs.Map.{Map}
+use Rattle.trie_shape.specs.Order.{walked}
+use Rattle.trie_shape.specs.Outline.{children}
+use Rattle.trie_shape.specs.Tree.{Tree, IsTrie, entries}
+use Rattle.trie_shape.specs.declared.looks.Look.TheVariants.{Branch}
 use Rattle.iter.specs.Subtries.{children_between, pairs_of_all}
 use Rattle.iter.specs.Intervals.{part}
 use Rattle.iter.specs.declared.interval.Interval.{Interval}

@@ -2,7 +2,7 @@
 
 ghost use Rattle.std.specs.Prelude.{◌≡◌, ◌+◌, ◌<◌, ◌≤◌, length, get_or};
 ghost use Rattle.hash_path.specs.Digits.{word_bits, breadth};
-ghost use Rattle.trie_node.specs.Tree.{digits_of};
+ghost use Rattle.trie_shape.specs.Tree.{digits_of};
 
 /// The digit of a number among those of a bitmap, counted from 0 in rising order.
 pub(crate) fn nth_digit(bitmap: u32, n: u32) -> u32

@@ -1,7 +1,7 @@
 //! Where a piece is cut.
 
 ghost use Rattle.std.specs.Prelude.{◌≡◌, ◌+◌, ◌<◌, Some, None, IfOk, MatchOption};
-ghost use Rattle.trie_node.specs.View.{tree};
+ghost use Rattle.trie_shape.specs.View.{tree};
 ghost use Rattle.iter.specs.Intervals.{part};
 ghost use Rattle.splitter.specs.Cuts.{middle_of, words_of};
 ghost use Rattle.splitter.specs.Laws.{below, from};

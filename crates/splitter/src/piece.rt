@@ -1,9 +1,9 @@
 //! A piece of a view.
 
 ghost use Rattle.std.specs.Prelude.{◌≡◌, ◌≤◌, ◌^◌, length, IfOk};
-ghost use Rattle.trie_node.specs.Map.{IsMap};
-ghost use Rattle.trie_node.specs.Order.{walked};
-ghost use Rattle.trie_node.specs.View.{tree};
+ghost use Rattle.trie_shape.specs.Map.{IsMap};
+ghost use Rattle.trie_shape.specs.Order.{walked};
+ghost use Rattle.trie_shape.specs.View.{tree};
 ghost use Rattle.versions.specs.declared.version.TheConstants.{MOST_PAIRS};
 ghost use Rattle.iter.specs.Intervals.{part, whole};
 ghost use Rattle.splitter.specs.Places.{IsPlace};
@@ -32,8 +32,8 @@ pub struct Piece<K: PathKey, V> {
 impl<K: PathKey, V> Model for Piece<K, V> {
     ghost use Rattle.std.specs.Prelude.{◌≡◌, ◌≤◌, ◌^◌, length, MatchOption};
     ghost use Rattle.hash_path.specs.Digits.{word_bits};
-    ghost use Rattle.trie_node.specs.Map.{IsMap};
-    ghost use Rattle.trie_node.specs.View.{tree};
+    ghost use Rattle.trie_shape.specs.Map.{IsMap};
+    ghost use Rattle.trie_shape.specs.View.{tree};
     ghost use Rattle.iter.specs.Intervals.{part, whole};
     ghost use Rattle.splitter.specs.Places.{IsPlace};
     ghost use Rattle.splitter.specs.Portion.{Portion};

@@ -2,10 +2,10 @@
 
 ghost use Rattle.std.specs.Prelude.{◌≡◌, ◌≤◌, IfOk, length};
 ghost use Rattle.iter.specs.Subtries.{children_between, pairs_of_all};
-ghost use Rattle.trie_node.specs.Outline.{children};
-ghost use Rattle.trie_node.specs.Shape.{Fits};
-ghost use Rattle.trie_node.specs.Tree.{entries};
-ghost use Rattle.trie_node.specs.View.{tree};
+ghost use Rattle.trie_shape.specs.Outline.{children};
+ghost use Rattle.trie_shape.specs.Shape.{Fits};
+ghost use Rattle.trie_shape.specs.Tree.{entries};
+ghost use Rattle.trie_shape.specs.View.{tree};
 
 use trie_node::{NoMemory, Node, bitmap_counts_children, child, size};
 

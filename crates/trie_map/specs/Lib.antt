@@ -1,4 +1,4 @@
-pub use Rattle.trie_node.specs.Map
+pub use Rattle.trie_shape.specs.Map
 pub use Rattle.bulk_ops.specs.Meanings
 pub use Rattle.bulk_ops.specs.Queries
 pub use Rattle.bulk_ops.specs.Told

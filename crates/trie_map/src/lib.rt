@@ -31,6 +31,3 @@ pub use trie_map::TrieMap;
 pub use trie_node::NoMemory;
 pub use versions::{MOST_PAIRS, Refusal, Version};
 pub use view::View;
-
-#[cfg(test)]
-mod tests;

@@ -2,7 +2,7 @@
 ghost use Rattle.std.specs.Prelude.{◌≡◌, ◌↔◌, [], IfOk, IfSome, IsTrue, is_some, length, option_map};
 ghost use Rattle.bulk_ops.specs.Told.{IsAnswered};
 ghost use Rattle.trie_map.specs.Rules.{AllKeep};
-ghost use Rattle.trie_node.specs.Order.{walked};
+ghost use Rattle.trie_shape.specs.Order.{walked};
 ghost use Rattle.versions.specs.Map.{IsMap, value_at};
 
 use crate::keeps::{Anything, Keeps};

@@ -2,7 +2,7 @@
 use Rattle.std.proofs.Common.{◌≡◌, ℕ, Bool, Option, Some, None, is_some, option_map, refl, sym, ap, ◌∙◌, subst, IfSome}
 use Rattle.std.specs.declared.cmp.Ordering.{Ordering}
 use Rattle.std.specs.FinMap.{find}
-use Rattle.trie_node.specs.Tree.{Tree, entries}
+use Rattle.trie_shape.specs.Tree.{Tree, entries}
 use Rattle.trie_node.specs.Writes.{Writes, WritesWhere}
 
 module _ {K V : Type 0} (R : K → K → Ordering) (path : K → ℕ) (level stamp : ℕ) (k : K) (given : Option V) (holds : Option V → Bool) (old : Tree K V) where

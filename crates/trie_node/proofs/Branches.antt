@@ -17,16 +17,16 @@ use Rattle.std.proofs.lemmas.Nat.Bits.{bit_at_set_same, bit_at_set_other, bit_at
 use Rattle.std.proofs.lemmas.List.{get_or_at, set_at}
 use Rattle.std.proofs.lemmas.List.Edits.{insert-append_right, remove-append_right}
 use Rattle.hash_path.specs.Digits.{digit}
-use Rattle.trie_node.specs.Tree.{Tree, branch, bucket, trees, entries, entries_of_all, KeysHaveDigit, IsTrie, AreTries, digits_of, HasTwoWords}
-use Rattle.trie_node.specs.Shape.{Nodes, Lacks, nodes_below, nodes_of_all, IsRestamped, Restamps}
-use Rattle.trie_node.specs.Roots.{word_of}
+use Rattle.trie_shape.specs.Tree.{Tree, branch, bucket, trees, entries, entries_of_all, KeysHaveDigit, IsTrie, AreTries, digits_of, HasTwoWords}
+use Rattle.trie_shape.specs.Shape.{Nodes, Lacks, nodes_below, nodes_of_all, IsRestamped, Restamps}
+use Rattle.trie_shape.specs.Roots.{word_of}
 use Rattle.trie_node.specs.Writes.{Writes}
-use Rattle.trie_node.proofs.Bits.{bit_at_clear_others}
-use Rattle.trie_node.proofs.Tries.{or_else, or_none, join, entries_append, find_append, find_lacking, at_child, at_gap}
+use Rattle.trie_shape.proofs.Bits.{bit_at_clear_others}
+use Rattle.trie_shape.proofs.Tries.{or_else, or_none, join, entries_append, find_append, find_lacking, at_child, at_gap}
 use Rattle.trie_node.proofs.Restamps.{restamps_between, restamps_branch, nodes_append}
-use Rattle.trie_node.proofs.Spell.{starts_snoc}
-use Rattle.trie_node.proofs.Finds.{tied}
-use Rattle.trie_node.proofs.Passing.{passes_none_lacking, begins_itself}
+use Rattle.trie_shape.proofs.Spell.{starts_snoc}
+use Rattle.trie_shape.proofs.Finds.{tied}
+use Rattle.trie_shape.proofs.Passing.{passes_none_lacking, begins_itself}
 
 -- what is given instead of the middle of three answers, where the others have none
 among : {A : Type 0} (b : Bool) (given first middle last : Option A) → (b ≡ true → first ≡ None) → (b ≡ true → last ≡ None) →

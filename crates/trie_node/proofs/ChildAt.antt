@@ -8,16 +8,16 @@ use Rattle.std.specs.FinMap.{find}
 use Rattle.std.specs.Int.{bit_at}
 use Rattle.std.specs.Int.RustNames.{count_ones}
 use Rattle.hash_path.specs.Digits.{digit}
-use Rattle.trie_node.specs.declared.looks.Look.TheVariants.{Branch}
-use Rattle.trie_node.specs.Looks.{Shows}
+use Rattle.trie_shape.specs.declared.looks.Look.TheVariants.{Branch}
+use Rattle.trie_shape.specs.Looks.{Shows}
 use Rattle.trie_node.specs.Merges.{child_among, child_at, pairs_of}
-use Rattle.trie_node.specs.Outline.{children, list_of}
-use Rattle.trie_node.specs.Shape.{Fits, Lacks}
-use Rattle.trie_node.specs.Tree.{Tree, branch, bucket, Trees, no_trees, more_trees, digits_of, entries, entries_of_all, KeysHaveDigit, IsTrie, AreTries}
-use Rattle.trie_node.proofs.Apart.{find_lacking_all}
-use Rattle.trie_node.proofs.Bits.{digits_around, IsOnceEach, length-digits_of}
-use Rattle.trie_node.proofs.Children.{length-children}
-use Rattle.trie_node.proofs.Tries.{or_else, or_none, find_append, find_other}
+use Rattle.trie_shape.specs.Outline.{children, list_of}
+use Rattle.trie_shape.specs.Shape.{Fits, Lacks}
+use Rattle.trie_shape.specs.Tree.{Tree, branch, bucket, Trees, no_trees, more_trees, digits_of, entries, entries_of_all, KeysHaveDigit, IsTrie, AreTries}
+use Rattle.trie_shape.proofs.Apart.{find_lacking_all}
+use Rattle.trie_shape.proofs.Bits.{digits_around, IsOnceEach, length-digits_of}
+use Rattle.trie_shape.proofs.Children.{length-children}
+use Rattle.trie_shape.proofs.Tries.{or_else, or_none, find_append, find_other}
 
 other_digit : (x d : ℕ) → x ≢ d → (x == d) ≡ false
 other_digit x d ne = false_from_ne_true (x == d) (λ e. ne (eqb-true x d e))

@@ -8,13 +8,13 @@ use Rattle.std.specs.Cmp.{IsTotalOrder}
 use Rattle.std.specs.FinMap.{find}
 use Rattle.std.proofs.lemmas.List.{take_more}
 use Rattle.trie_node.specs.Merges.{CanMerge, PutsEach, StampsPass, written_over}
-use Rattle.trie_node.specs.Tree.{Tree, bucket, entries, IsTrie}
+use Rattle.trie_shape.specs.Tree.{Tree, bucket, entries, IsTrie}
 use Rattle.trie_node.specs.Writes.{Writes, WritesWhere, KeysAgree}
-use Rattle.trie_node.proofs.Apart.{apart_sorted}
-use Rattle.trie_node.proofs.Finds.{tied, found_first}
-use Rattle.trie_node.proofs.Listings.{IsApart}
+use Rattle.trie_shape.proofs.Apart.{apart_sorted}
+use Rattle.trie_shape.proofs.Finds.{tied, found_first}
+use Rattle.trie_shape.proofs.Listings.{IsApart}
 use Rattle.trie_node.proofs.StampTests.{written_within}
-use Rattle.trie_node.proofs.Tries.{or_else, or_none, find_append}
+use Rattle.trie_shape.proofs.Tries.{or_else, or_none, find_append}
 
 either_found : {V : Type 0} (holds : Option V → Bool) (given found : Option V) → is_some (written_over holds given found) ≡ true → (is_some given ≡ true) ⊎ (is_some found ≡ true)
 either_found holds None found e = inr e

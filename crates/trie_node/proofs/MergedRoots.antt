@@ -5,15 +5,15 @@ use Rattle.std.proofs.lemmas.Bool.{le-leb}
 use Rattle.std.specs.declared.cmp.Ordering.{Ordering}
 use Rattle.std.specs.declared.cmp.Ordering.TheVariants.{Equal}
 use Rattle.std.specs.Cmp.{IsTotalOrder}
-use Rattle.trie_node.specs.Map.{union}
+use Rattle.trie_shape.specs.Map.{union}
 use Rattle.trie_node.specs.Merges.{CanMerge, EachStampPasses, Merges}
-use Rattle.trie_node.specs.Roots.{IsRoot, map_of, word_of}
-use Rattle.trie_node.specs.Shape.{NoneAbove, nodes}
-use Rattle.trie_node.specs.Tree.{Tree, entries}
-use Rattle.trie_node.proofs.Listings.{listed_as}
-use Rattle.trie_node.proofs.Roots.{find_entries, length_map_of, map_of_is_map, root_is_trie, trie_is_root}
+use Rattle.trie_shape.specs.Roots.{IsRoot, map_of, word_of}
+use Rattle.trie_shape.specs.Shape.{NoneAbove, nodes}
+use Rattle.trie_shape.specs.Tree.{Tree, entries}
+use Rattle.trie_shape.proofs.Listings.{listed_as}
+use Rattle.trie_shape.proofs.Roots.{find_entries, length_map_of, map_of_is_map, root_is_trie, trie_is_root}
 use Rattle.trie_node.proofs.StampTests.{listed_pass, none_above_pass, pass_listed, pass_none_above}
-use Rattle.trie_node.proofs.Unions.{IsMap-union, is_sorted_of, union-empty, value_at-union}
+use Rattle.trie_shape.proofs.Unions.{IsMap-union, is_sorted_of, union-empty, value_at-union}
 
 no_elements : {A : Type 0} (xs : List A) → length xs ≡ 0 → xs ≡ []
 no_elements [] e = refl

@@ -12,16 +12,16 @@ use Rattle.std.proofs.lemmas.List.{append-nil, get_or_default}
 use Rattle.std.proofs.lemmas.Nat.{or_lt}
 use Rattle.std.proofs.lemmas.Nat.Bits.{bit_at_or, bit_at-suc, bit_at_lowest}
 use Rattle.hash_path.specs.Digits.{digit}
-use Rattle.trie_node.specs.declared.looks.Look.TheVariants.{Branch}
-use Rattle.trie_node.specs.Looks.{Shows}
+use Rattle.trie_shape.specs.declared.looks.Look.TheVariants.{Branch}
+use Rattle.trie_shape.specs.Looks.{Shows}
 use Rattle.trie_node.specs.Merges.{CanMerge, Merges, StampsPass, AllStampsPass, child_among, child_at, pairs_of}
-use Rattle.trie_node.specs.Outline.{children}
-use Rattle.trie_node.specs.Shape.{Fits, Lacks}
-use Rattle.trie_node.specs.Tree.{Tree, branch, bucket, Trees, no_trees, more_trees, trees, digits_from, digits_of, entries, entries_of_all, HasTwoWords, IsTrie, AreTries}
-use Rattle.trie_node.proofs.Bits.{agree_more, cond_append, once_each}
+use Rattle.trie_shape.specs.Outline.{children}
+use Rattle.trie_shape.specs.Shape.{Fits, Lacks}
+use Rattle.trie_shape.specs.Tree.{Tree, branch, bucket, Trees, no_trees, more_trees, trees, digits_from, digits_of, entries, entries_of_all, HasTwoWords, IsTrie, AreTries}
+use Rattle.trie_shape.proofs.Bits.{agree_more, cond_append, once_each}
 use Rattle.trie_node.proofs.ChildAt.{IsBelow, child_in, child_out, child_known, child_fewer, count_under, count_most, count_next, find_digit, place_in}
-use Rattle.trie_node.proofs.Divides.{trie_fits}
-use Rattle.trie_node.proofs.Tries.{or_else, or_none, entries_append, find_append, find_lacking, find_other, join}
+use Rattle.trie_shape.proofs.Divides.{trie_fits}
+use Rattle.trie_shape.proofs.Tries.{or_else, or_none, entries_append, find_append, find_lacking, find_other, join}
 
 -- the set bits among one more of the lowest
 digits_suc : (k d m : ℕ) → digits_from (suc k) d m ≡ digits_from k d m ++ cond (bit_at m k == 1) ((d + k) ∷ []) []

@@ -1,5 +1,5 @@
 -- Where a key stands or goes among pairs in the order of their keys.
-use Rattle.std.proofs.Common.{◌≡◌, ℕ, zero, suc, ◌+◌, ◌<◌, T, Bool, cond, List, [], ◌∷◌, length, set, get_or, Option, Some, None, is_some, refl, sym, ap, ◌∙◌, subst, arith}
+use Rattle.std.proofs.Common.{◌≡◌, ℕ, zero, suc, ◌<◌, T, Bool, cond, List, [], ◌∷◌, length, set, get_or, Option, Some, None, is_some, refl, sym, ap, ◌∙◌, subst, arith}
 use Rattle.std.specs.List.{insert}
 use Rattle.std.specs.declared.cmp.Ordering.{Ordering}
 use Rattle.std.specs.declared.cmp.Ordering.TheVariants.{Less, Equal, Greater}
@@ -8,11 +8,11 @@ use Rattle.std.specs.Cmp.{IsTotalOrder, tied_itself}
 use Rattle.std.specs.FinMap.{find, is_sorted}
 use Rattle.std.specs.FinMap.Entries.{put, by_order, below_all}
 use Rattle.std.proofs.lemmas.List.{get_or_default}
-use Rattle.trie_node.specs.Tree.{Tree, bucket, IsTrie}
+use Rattle.trie_shape.specs.Tree.{Tree, bucket, IsTrie}
 use Rattle.trie_node.specs.Writes.{Writes}
 use Rattle.trie_node.specs.Removals.{IsAt}
 use Rattle.trie_node.specs.PutInPlace.{PutsIn}
-use Rattle.trie_node.proofs.InOrder.{left_of, right_of}
+use Rattle.trie_shape.proofs.InOrder.{left_of, right_of}
 use Rattle.trie_node.proofs.Standing.{puts_equal}
 use Rattle.trie_node.proofs.Taken.{below_at}
 use Rattle.trie_node.proofs.Words.{word_of_found, puts_in_word}

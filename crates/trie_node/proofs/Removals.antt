@@ -1,5 +1,5 @@
 -- What is left of a trie by a removal is a trie.
-use Rattle.std.proofs.Common.{◌≡◌, ℕ, zero, suc, ◌+◌, ◌<◌, ◌≢◌, Bool, true, false, cond, List, [], ◌∷◌, length, Option, Some, None, is_some, refl, sym, ap, ◌∙◌, subst, arith, length-append, get_or, set, ◌==◌, ◌&&◌, ◌%◌, ◌^◌, ◌*◌}
+use Rattle.std.proofs.Common.{◌≡◌, ℕ, zero, suc, ◌+◌, ◌<◌, Bool, true, false, cond, List, [], ◌∷◌, length, Option, Some, None, is_some, refl, sym, ap, ◌∙◌, subst, arith, length-append, get_or, set, ◌==◌, ◌&&◌, ◌%◌, ◌^◌, ◌*◌}
 use Rattle.std.specs.List.{remove}
 use Rattle.std.specs.Int.{bit_at, bit_not, w32}
 use Rattle.std.specs.Int.RustNames.{count_ones, bit_and}
@@ -12,38 +12,17 @@ use Rattle.std.specs.Ordering.{eq_by_cmp}
 use Rattle.std.specs.Cmp.{IsTotalOrder}
 use Rattle.std.specs.FinMap.{find}
 use Rattle.hash_path.specs.Digits.{digit}
-use Rattle.trie_node.specs.Tree.{Tree, branch, bucket, Trees, no_trees, more_trees, trees, entries, entries_of_all, IsTrie, AreTries, digits_of, HasTwoWords}
-use Rattle.trie_node.specs.Shape.{nodes_below, nodes_of_all, IsRestamped, Restamps}
-use Rattle.trie_node.specs.Roots.{word_of}
+use Rattle.trie_shape.specs.Tree.{Tree, branch, bucket, Trees, no_trees, more_trees, trees, entries, entries_of_all, IsTrie, AreTries, digits_of, HasTwoWords}
+use Rattle.trie_shape.specs.Shape.{nodes_below, nodes_of_all, IsRestamped, Restamps}
+use Rattle.trie_shape.specs.Roots.{word_of}
 use Rattle.trie_node.specs.Writes.{Writes}
-use Rattle.trie_node.specs.Removals.{is_bucket, drawn_up, is_removable, IsTaken, IsOnly, Leaves}
-use Rattle.trie_node.proofs.Bits.{IsOnceEach, once_each}
-use Rattle.trie_node.proofs.Finds.{found_first, tied}
-use Rattle.trie_node.proofs.Passing.{found_before, found_after}
+use Rattle.trie_node.specs.Removals.{is_removable, IsTaken, IsOnly, Leaves}
+use Rattle.trie_shape.specs.Drawn.{drawn_up}
+use Rattle.trie_shape.proofs.Bits.{IsOnceEach, once_each}
+use Rattle.trie_shape.proofs.Finds.{found_first, tied}
+use Rattle.trie_shape.proofs.Passing.{found_before, found_after}
 use Rattle.trie_node.proofs.Branches.{Changes, writes_of_two, changes_replaced, changes_dropped}
-use Rattle.trie_node.proofs.Tries.{no_child, one_child}
-
--- a branch that is drawn up, and one that is not
-pub drawn_up_only : {K V : Type 0} (level stamp size bitmap : ℕ) (t : Tree K V) → 0 < level → is_bucket t ≡ true → drawn_up level (branch stamp size bitmap (trees (t ∷ []))) ≡ t
-drawn_up_only zero stamp size bitmap t up is = absurd (omega arith)
-drawn_up_only (suc level) stamp size bitmap (branch s n b ts) up is = absurd (false≢true is)
-drawn_up_only (suc level) stamp size bitmap (bucket s es) up is = refl
-
-pub drawn_up_root : {K V : Type 0} (level : ℕ) (t : Tree K V) → level ≡ 0 → drawn_up level t ≡ t
-drawn_up_root zero t e = refl
-drawn_up_root (suc level) t e = absurd (omega (arith, e))
-
-pub drawn_up_more : {K V : Type 0} (level stamp size bitmap : ℕ) (ts : List (Tree K V)) → length ts ≢ 1 → drawn_up level (branch stamp size bitmap (trees ts)) ≡ branch stamp size bitmap (trees ts)
-drawn_up_more zero stamp size bitmap ts ne = refl
-drawn_up_more (suc level) stamp size bitmap [] ne = refl
-drawn_up_more (suc level) stamp size bitmap (t ∷ []) ne = absurd (ne refl)
-drawn_up_more (suc level) stamp size bitmap (branch s n b us ∷ u ∷ ts) ne = refl
-drawn_up_more (suc level) stamp size bitmap (bucket s es ∷ u ∷ ts) ne = refl
-
-pub drawn_up_branch : {K V : Type 0} (level stamp size bitmap : ℕ) (t : Tree K V) → is_bucket t ≡ false → drawn_up level (branch stamp size bitmap (trees (t ∷ []))) ≡ branch stamp size bitmap (trees (t ∷ []))
-drawn_up_branch zero stamp size bitmap t is = refl
-drawn_up_branch (suc level) stamp size bitmap (branch s n b ts) is = refl
-drawn_up_branch (suc level) stamp size bitmap (bucket s es) is = absurd (false≢true (sym is))
+use Rattle.trie_shape.proofs.Tries.{no_child, one_child}
 
 module _ {K V : Type 0} (R : K → K → Ordering) (path : K → ℕ) (total : IsTotalOrder R) (exact : (x y : K) → R x y ≡ Equal → x ≡ y) where
   -- in a trie below the root a key is found

@@ -1,5 +1,5 @@
 -- What a removal below a branch does to the branch.
-use Rattle.std.proofs.Common.{◌≡◌, ℕ, ◌+◌, ◌-◌, ◌*◌, ◌<◌, ◌==◌, ◌%◌, ◌^◌, Bool, true, false, map, set, Option, None, refl, sym, ap, ◌∙◌, subst, arith}
+use Rattle.std.proofs.Common.{◌≡◌, ℕ, ◌+◌, ◌-◌, ◌*◌, ◌<◌, ◌==◌, ◌%◌, ◌^◌, Bool, false, map, set, Option, None, refl, sym, ap, ◌∙◌, subst, arith}
 use Rattle.std.specs.List.{remove}
 use Rattle.std.specs.declared.cmp.Ordering.{Ordering}
 use Rattle.std.specs.declared.cmp.Ordering.TheVariants.{Equal}
@@ -7,13 +7,14 @@ use Rattle.std.specs.Cmp.{IsTotalOrder}
 use Rattle.std.specs.FinMap.{find}
 use Rattle.std.specs.Int.{bit_at, bit_not, w32}
 use Rattle.std.specs.Int.RustNames.{bit_and}
-use Rattle.trie_node.specs.Tree.{Tree, branch, trees, entries}
-use Rattle.trie_node.specs.View.{tree, branch_of}
-use Rattle.trie_node.specs.Removals.{drawn_up, is_removable, IsTaken, IsOnly, Leaves}
-use Rattle.trie_node.specs.declared.node.Node.{Node}
-use Rattle.trie_node.specs.declared.node.Branch.{Branch}
+use Rattle.trie_shape.specs.Tree.{Tree, branch, trees, entries}
+use Rattle.trie_shape.specs.View.{tree, branch_of}
+use Rattle.trie_node.specs.Removals.{is_removable, IsTaken, IsOnly, Leaves}
+use Rattle.trie_shape.specs.Drawn.{drawn_up}
+use Rattle.trie_shape.specs.declared.node.Node.{Node}
+use Rattle.trie_shape.specs.declared.node.Branch.{Branch}
 use Rattle.trie_node.proofs.Removals.{removes_absent, removes_nothing, some_size, removes_gone, removes_left}
-use Rattle.trie_node.proofs.Ways.{Turn, Way}
+use Rattle.trie_shape.proofs.Ways.{Turn, Way}
 
 -- nothing is removed where no child has the key's digit
 pub absent_below : {K V : Type 0} {R : K → K → Ordering} {path : K → ℕ} {level : ℕ} {k : K} {b : Branch K V} {d : ℕ} → Turn R path level k b d → IsTotalOrder R → ((x y : K) → R x y ≡ Equal → x ≡ y) →

@@ -3,8 +3,8 @@ use Rattle.std.proofs.Common.{◌≡◌, ℕ, Bool, true, false, List, [], ◌�
 use Rattle.std.specs.Bool.{MatchBool}
 use Rattle.std.specs.List.{All, Contains, starts_with}
 use Rattle.std.proofs.lemmas.List.Elements.{All-cons, All-append, Contains-get_or, Contains-append_left, Contains-append_right}
-use Rattle.trie_node.specs.Tree.{Tree, trees}
-use Rattle.trie_node.specs.Shape.{Nodes, nodes_below, nodes_of_all, IsRestamped, Restamps}
+use Rattle.trie_shape.specs.Tree.{Tree, trees}
+use Rattle.trie_shape.specs.Shape.{Nodes, nodes_below, nodes_of_all, IsRestamped, Restamps}
 
 -- a node is restamped also where there were more nodes before
 abbrev Within : Nodes → Nodes → Type 0

@@ -16,15 +16,15 @@ use Rattle.std.proofs.lemmas.List.{append-nil}
 use Rattle.std.proofs.lemmas.List.Elements.{Contains-append_cases}
 use Rattle.std.proofs.lemmas.Nat.Bits.{bit_at-zero, bit_at_set_same, bit_at_set_other}
 use Rattle.hash_path.specs.Digits.{digit}
-use Rattle.trie_node.specs.Tree.{Tree, branch, bucket, trees, entries, digits_of, KeysHaveWord, HasTwoWords, IsTrie, AreTries}
-use Rattle.trie_node.specs.Shape.{Nodes, nodes_below, nodes_of_all, IsRestamped, Restamps}
-use Rattle.trie_node.specs.Roots.{word_of}
+use Rattle.trie_shape.specs.Tree.{Tree, branch, bucket, trees, entries, digits_of, KeysHaveWord, HasTwoWords, IsTrie, AreTries}
+use Rattle.trie_shape.specs.Shape.{Nodes, nodes_below, nodes_of_all, IsRestamped, Restamps}
+use Rattle.trie_shape.specs.Roots.{word_of}
 use Rattle.trie_node.specs.Writes.{Writes}
-use Rattle.trie_node.proofs.Bits.{digits_around}
-use Rattle.trie_node.proofs.Tries.{at_child, place_within}
+use Rattle.trie_shape.proofs.Bits.{digits_around}
+use Rattle.trie_shape.proofs.Tries.{at_child, place_within}
 use Rattle.trie_node.proofs.Branches.{Changes, IsNearlyTrie, nearly_replaced, nearly_added, writes_of_two, puts_leaf}
-use Rattle.trie_node.proofs.Empty.{no_digits}
-use Rattle.trie_node.proofs.Finds.{found_first}
+use Rattle.trie_shape.proofs.Empty.{no_digits}
+use Rattle.trie_shape.proofs.Finds.{found_first}
 
 -- the bitmap of one digit
 abbrev pub one_digit : ℕ → ℕ

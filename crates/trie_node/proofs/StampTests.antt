@@ -8,9 +8,9 @@ use Rattle.std.proofs.lemmas.List.{length-take-le}
 use Rattle.std.proofs.lemmas.List.Elements.{All-cons, All-nil, All-append, All-contains}
 use Rattle.hash_path.specs.Digits.{spelled}
 use Rattle.trie_node.specs.Merges.{EachStampPasses, StampsPass, AllStampsPass}
-use Rattle.trie_node.specs.Roots.{word_of}
-use Rattle.trie_node.specs.Shape.{Nodes, nodes_below, nodes_of_all, NoneAbove, IsRestamped, Restamps}
-use Rattle.trie_node.specs.Tree.{Tree, branch, bucket, Trees, no_trees, more_trees, digits_of, IsTrie, AreTries}
+use Rattle.trie_shape.specs.Roots.{word_of}
+use Rattle.trie_shape.specs.Shape.{Nodes, nodes_below, nodes_of_all, NoneAbove, IsRestamped, Restamps}
+use Rattle.trie_shape.specs.Tree.{Tree, branch, bucket, Trees, no_trees, more_trees, digits_of, IsTrie, AreTries}
 use Rattle.trie_node.specs.Writes.{Writes}
 
 -- what holds of each element of a list holds of each of its parts

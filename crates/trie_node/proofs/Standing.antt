@@ -1,8 +1,8 @@
 -- What a put makes of a node where it stands.
-use Rattle.std.proofs.Common.{get_or, ◌<◌, not, true, false, OnErr, Result, Ok, Err, ◌≡◌, ℕ, zero, suc, ◌≤◌, Bool, Option, sym, subst, List, [], ◌∷◌, length, map, refl, ap, arith}
-use Rattle.std.specs.List.{insert, remove}
+use Rattle.std.proofs.Common.{not, true, false, OnErr, Result, Ok, Err, ◌≡◌, ℕ, zero, suc, ◌≤◌, Bool, Option, sym, subst, List, [], ◌∷◌, length, map, refl, ap, arith}
+use Rattle.std.specs.List.{insert}
 use Rattle.std.specs.declared.cmp.Ordering.{Ordering}
-use Rattle.trie_node.specs.Tree.{Tree}
+use Rattle.trie_shape.specs.Tree.{Tree}
 use Rattle.trie_node.specs.PutInPlace.{PutsIn}
 use Rattle.trie_node.specs.RemovalInPlace.{TakesInside}
 use Rattle.trie_node.specs.declared.removal_in_place.TakenInside.{TakenInside}
@@ -31,16 +31,6 @@ when_not false e = refl
 pub when_not_not : (b : Bool) → not b ≡ false → b ≡ true
 when_not_not true e = refl
 when_not_not false e = sym e
-
-pub map_remove : {A B : Type 0} (f : A → B) (xs : List A) (i : ℕ) → i < length xs → map f (remove xs i) ≡ remove (map f xs) i
-map_remove f [] i lt = absurd (omega arith)
-map_remove f (y ∷ ys) zero lt = refl
-map_remove f (y ∷ ys) (suc i) lt = ap (λ zs. f y ∷ zs) (map_remove f ys i (omega arith))
-
-pub one_of : {A : Type 0} (xs : List A) (d : A) → length xs ≡ 1 → xs ≡ get_or xs 0 d ∷ []
-one_of [] d one = absurd (omega (arith, one))
-one_of (x ∷ []) d one = refl
-one_of (x ∷ y ∷ xs) d one = absurd (omega (arith, one))
 
 -- a removal from trees is one from trees that are equal to them
 pub takes_equal : {K V : Type 0} (R : K → K → Ordering) (path : K → ℕ) (level stamp : ℕ) (k : K) (holds : Option V → Bool) (old old2 new new2 : Tree K V) (r : TakenInside K V) →

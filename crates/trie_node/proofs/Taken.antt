@@ -12,17 +12,17 @@ use Rattle.std.specs.FinMap.Entries.{below_all, where_key, is_sorted-where_key}
 use Rattle.std.proofs.lemmas.List.{get_or-map, get_or_default, length-map}
 use Rattle.std.proofs.lemmas.List.Edits.{length-remove}
 use Rattle.std.proofs.lemmas.List.Elements.{All-cons, All-nil}
-use Rattle.trie_node.specs.Map.{is_other, without}
-use Rattle.trie_node.specs.Tree.{bucket, IsTrie}
-use Rattle.trie_node.specs.Shape.{nodes_below, IsRestamped, Restamps}
-use Rattle.trie_node.specs.Roots.{listed, word_of}
+use Rattle.trie_shape.specs.Map.{is_other, without}
+use Rattle.trie_shape.specs.Tree.{bucket, IsTrie}
+use Rattle.trie_shape.specs.Shape.{nodes_below, IsRestamped, Restamps}
+use Rattle.trie_shape.specs.Roots.{listed, word_of}
 use Rattle.trie_node.specs.Writes.{Writes}
 use Rattle.trie_node.specs.Removals.{IsAt, IsOnly}
-use Rattle.trie_node.proofs.Shortened.{remove_only}
-use Rattle.trie_node.proofs.InOrder.{left_of, right_of}
-use Rattle.trie_node.proofs.Finds.{found_first, tied}
-use Rattle.trie_node.proofs.Listings.{find_without, find_listed, without_listed}
-use Rattle.trie_node.proofs.Passing.{begins_itself}
+use Rattle.trie_shape.proofs.Shortened.{remove_only}
+use Rattle.trie_shape.proofs.InOrder.{left_of, right_of}
+use Rattle.trie_shape.proofs.Finds.{found_first, tied}
+use Rattle.trie_shape.proofs.Listings.{find_without, find_listed, without_listed}
+use Rattle.trie_shape.proofs.Passing.{begins_itself}
 
 not_tied : (r : Ordering) → T (is_lt r) → is_eq r ≡ false
 not_tied Less h = refl

@@ -7,12 +7,12 @@ use Rattle.std.specs.Ordering.{eq_by_cmp, is_eq}
 use Rattle.std.specs.Cmp.{IsTotalOrder}
 use Rattle.std.specs.FinMap.{find}
 use Rattle.std.specs.FinMap.Entries.{put, by_order, find-put, length-put, is_sorted-put}
-use Rattle.trie_node.specs.Tree.{bucket, KeysHaveWord, IsTrie}
-use Rattle.trie_node.specs.Shape.{nodes_below}
-use Rattle.trie_node.specs.Roots.{word_of}
+use Rattle.trie_shape.specs.Tree.{bucket, KeysHaveWord, IsTrie}
+use Rattle.trie_shape.specs.Shape.{nodes_below}
+use Rattle.trie_shape.specs.Roots.{word_of}
 use Rattle.trie_node.specs.Writes.{Writes}
-use Rattle.trie_node.proofs.Finds.{tied}
-use Rattle.trie_node.proofs.Finds.{found_first}
+use Rattle.trie_shape.proofs.Finds.{tied}
+use Rattle.trie_shape.proofs.Finds.{found_first}
 use Rattle.trie_node.proofs.Taken.{stamped}
 
 one_more : (b : Bool) (n m : ℕ) → m ≡ cond b n (n + 1) → (n ≤ m) × (m ≤ n + 1)

@@ -1,10 +1,10 @@
 -- What a put and a removal make of a root.
 use Rattle.std.specs.Prelude.{◌≡◌, ℕ}
 use Rattle.std.specs.declared.cmp.Ordering.{Ordering}
-use Rattle.trie_node.specs.Map.{with_pair, without}
-use Rattle.trie_node.specs.Tree.{Tree}
-use Rattle.trie_node.specs.Shape.{nodes, Restamps}
-use Rattle.trie_node.specs.Roots.{map_of, word_of, IsRoot}
+use Rattle.trie_shape.specs.Map.{with_pair, without}
+use Rattle.trie_shape.specs.Tree.{Tree}
+use Rattle.trie_shape.specs.Shape.{nodes, Restamps}
+use Rattle.trie_shape.specs.Roots.{map_of, word_of, IsRoot}
 
 -- the new tree is the root of the old map with k mapped to v;
 -- the nodes of k's path have the stamp, and all others stood there before

@@ -1,17 +1,6 @@
-pub mod Map
-pub mod Tree
-pub mod Shape
-pub mod View
-pub mod Roots
 pub mod Writes
-pub mod Outline
-pub mod Looks
-pub mod Conditions
 pub mod Changes
 pub mod Removals
-pub mod Order
-pub mod Counts
 pub mod Merges
 pub mod PutInPlace
 pub mod RemovalInPlace
-pub mod Listings

@@ -5,8 +5,8 @@ use Rattle.std.specs.declared.cmp.Ordering.{Ordering}
 use Rattle.std.specs.FinMap.{find}
 use Rattle.std.specs.List.{All}
 use Rattle.hash_path.specs.Digits.{word_digits, digit_bits}
-use Rattle.trie_node.specs.Shape.{Nodes}
-use Rattle.trie_node.specs.Tree.{Tree, branch, bucket, Trees, no_trees, more_trees, entries, digits_of, IsTrie}
+use Rattle.trie_shape.specs.Shape.{Nodes}
+use Rattle.trie_shape.specs.Tree.{Tree, branch, bucket, Trees, no_trees, more_trees, entries, digits_of, IsTrie}
 
 -- the stamp of each node passes the test
 abbrev pub EachStampPasses : (ℕ → Bool) → Nodes → Type 0

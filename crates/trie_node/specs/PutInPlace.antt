@@ -4,7 +4,7 @@ use Rattle.std.specs.List.{insert}
 use Rattle.std.specs.declared.cmp.Ordering.{Ordering}
 use Rattle.std.specs.FinMap.{find}
 use Rattle.std.specs.FinMap.Entries.{put}
-use Rattle.trie_node.specs.Tree.{Tree, entries}
+use Rattle.trie_shape.specs.Tree.{Tree, entries}
 use Rattle.trie_node.specs.Writes.{Writes}
 
 -- the old tree has become the new one by a put of k under a condition; previous is the value that k had

@@ -1,12 +1,12 @@
 -- What a removal leaves of a subtree.
-use Rattle.std.specs.Prelude.{◌≡◌, ℕ, suc, ◌+◌, ◌<◌, Bool, true, false, ◌&&◌, cond, List, [], length, Option, Some, None, is_some, option_map, get_or}
+use Rattle.std.specs.Prelude.{◌≡◌, ℕ, ◌+◌, ◌<◌, Bool, true, false, ◌&&◌, cond, List, [], length, Option, Some, None, is_some, option_map, get_or}
 use Rattle.std.specs.declared.cmp.Ordering.{Ordering}
 use Rattle.std.specs.Ordering.{eq_by_cmp}
 use Rattle.std.specs.FinMap.{find}
 use Rattle.trie_node.specs.declared.removal_outcome.Removal.{Removal}
 use Rattle.trie_node.specs.declared.removal_outcome.Removal.TheVariants.{Nothing, Gone, Left}
-use Rattle.trie_node.specs.Tree.{Tree, branch, bucket, no_trees, more_trees, entries}
-use Rattle.trie_node.specs.View.{tree}
+use Rattle.trie_shape.specs.Tree.{Tree, entries}
+use Rattle.trie_shape.specs.View.{tree}
 use Rattle.trie_node.specs.Writes.{Writes}
 
 -- the pair at the place i is that of k
@@ -14,17 +14,6 @@ pub record IsAt {K V : Type 0} (R : K → K → Ordering) (k : K) (i : ℕ) (es 
   pub within : i < length es
   pub key : (d : K × V) → k ≡ (get_or es i d).0
   pub value : (d : K × V) → find R k es ≡ Some (get_or es i d).1
-
-module _ {K V : Type 0} where
-  -- whether a tree is a leaf or a bucket
-  abbrev pub is_bucket : Tree K V → Bool
-  is_bucket (branch stamp size bitmap ts) = false
-  is_bucket (bucket stamp es) = true
-
-  -- a branch below the root gives way to its only child, where that is a leaf or a bucket
-  abbrev pub drawn_up : ℕ → Tree K V → Tree K V
-  drawn_up (suc level) (branch stamp size bitmap (more_trees (bucket stamp2 es) no_trees)) = bucket stamp2 es
-  drawn_up level t = t
 
 module _ {K V : Type 0} (R : K → K → Ordering) where
   -- whether there is something to remove

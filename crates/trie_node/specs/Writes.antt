@@ -5,9 +5,9 @@ use Rattle.std.specs.Ordering.{eq_by_cmp}
 use Rattle.std.specs.FinMap.{find}
 use Rattle.std.specs.List.{starts_with}
 use Rattle.hash_path.specs.Digits.{digit_bits}
-use Rattle.trie_node.specs.Tree.{Tree, entries, IsTrie}
-use Rattle.trie_node.specs.Shape.{nodes_below, Restamps}
-use Rattle.trie_node.specs.Roots.{word_of}
+use Rattle.trie_shape.specs.Tree.{Tree, entries, IsTrie}
+use Rattle.trie_shape.specs.Shape.{nodes_below, Restamps}
+use Rattle.trie_shape.specs.Roots.{word_of}
 
 -- the new tree is the old one with k mapped to what is given, or without k where none is;
 -- the stamp is on the nodes of the key's path, and on no other that did not have it

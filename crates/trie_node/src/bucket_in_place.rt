@@ -4,24 +4,23 @@ ghost use Rattle.std.specs.Prelude.{◌≡◌, ◌<◌, ℕ, List, ◌∷◌, []
 ghost use Rattle.std.specs.Arc.{arc_value};
 ghost use Rattle.std.specs.FinMap.{find as first_of, is_sorted};
 ghost use Rattle.std.specs.declared.cmp.Ordering.TheVariants.{Equal};
-ghost use Rattle.trie_node.specs.Tree.{IsTrie, KeysHaveWord, bucket};
-ghost use Rattle.trie_node.specs.View.{pair_values};
+ghost use Rattle.trie_shape.specs.Tree.{IsTrie, KeysHaveWord, bucket};
+ghost use Rattle.trie_shape.specs.View.{pair_values};
 ghost use Rattle.trie_node.specs.PutInPlace.{PutsIn, GoesTo, is_refusable};
 ghost use Rattle.trie_node.specs.Removals.{IsAt};
 ghost use Rattle.trie_node.specs.RemovalInPlace.{TakesOut};
 
-use crate::condition::{Condition, holds_of, holds_of_absent};
-use crate::no_memory::NoMemory;
+use crate::condition::{holds_of, holds_of_absent};
 use crate::pair_removal::place_of;
 use crate::put::Entry;
 use crate::put_in_place::Done;
 use crate::removal_in_place::RemovedIn;
-use crate::stamps::Stamp;
 use hash_path::{Path, PathKey};
 use std::alloc::Global;
 use std::cmp::Ordering;
 use std::mem;
 use std::sync::Arc;
+use trie_shape::{Condition, NoMemory, Stamp};
 
 /// Whether pairs of one path word have this one.
 pub(crate) fn have_path<K: PathKey, V>(

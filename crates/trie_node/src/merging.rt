@@ -2,26 +2,23 @@
 
 ghost use Rattle.std.specs.Prelude.{◌≡◌, ℕ, ◌+◌, ◌<◌, ◌≤◌, ◌^◌, Bool, map, length, option_map, true, Some, IfOk};
 ghost use Rattle.hash_path.specs.Digits.{fan_out};
-ghost use Rattle.trie_node.specs.declared.looks.Look.TheVariants.{Branch};
-ghost use Rattle.trie_node.specs.Looks.{Shows};
-ghost use Rattle.trie_node.specs.Map.{union};
+ghost use Rattle.trie_shape.specs.declared.looks.Look.TheVariants.{Branch};
+ghost use Rattle.trie_shape.specs.Looks.{Shows};
+ghost use Rattle.trie_shape.specs.Map.{union};
 ghost use Rattle.trie_node.specs.Merges.{CanMerge, EachStampPasses, Merges, PutsEach, child_at};
-ghost use Rattle.trie_node.specs.Roots.{IsRoot, map_of, word_of};
-ghost use Rattle.trie_node.specs.Shape.{Fits, NoneAbove, nodes};
-ghost use Rattle.trie_node.specs.Tree.{bucket};
-ghost use Rattle.trie_node.specs.View.{tree, pair_values};
+ghost use Rattle.trie_shape.specs.Roots.{IsRoot, map_of, word_of};
+ghost use Rattle.trie_shape.specs.Shape.{Fits, NoneAbove, nodes};
+ghost use Rattle.trie_shape.specs.Tree.{bucket};
+ghost use Rattle.trie_shape.specs.View.{tree, pair_values};
 
-use crate::bitmap::{has_digit, place};
-use crate::condition::{Always, Condition, IfAbsent};
-use crate::looks::Look;
-use crate::no_memory::NoMemory;
-use crate::node::{Node, make_branch};
 use crate::put::{Entry, put_at};
-use crate::reading::{child, look, size};
-use crate::stamps::Stamp;
 use hash_path::{FAN_OUT, PathKey};
 use std::alloc::Global;
 use std::sync::Arc;
+use trie_shape::{
+    Always, Condition, IfAbsent, Look, NoMemory, Node, Stamp, child, has_digit, look, make_branch,
+    place, size,
+};
 
 /// The child of a branch that has the digit, or none.
 fn child_of<K, V>(branch: &Node<K, V>, bitmap: u32, digit: u32) -> Option<&Node<K, V>>

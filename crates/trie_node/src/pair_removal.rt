@@ -3,19 +3,16 @@
 ghost use Rattle.std.specs.Prelude.{◌≡◌, ◌<◌, ◌++◌, ℕ, map, length, true, IfOk, OnOk, OnErr, IfSome, None, IfNone};
 ghost use Rattle.std.specs.List.{remove};
 ghost use Rattle.std.specs.FinMap.{find};
-ghost use Rattle.trie_node.specs.Tree.{IsTrie, bucket};
-ghost use Rattle.trie_node.specs.View.{tree, pair_values};
+ghost use Rattle.trie_shape.specs.Tree.{IsTrie, bucket};
+ghost use Rattle.trie_shape.specs.View.{tree, pair_values};
 ghost use Rattle.trie_node.specs.Removals.{IsAt, Removes, is_removable};
 
-use crate::condition::Condition;
-use crate::no_memory::NoMemory;
-use crate::node::{Node, make_bucket, make_leaf};
 use crate::removal_outcome::Removal;
-use crate::stamps::Stamp;
 use hash_path::PathKey;
 use std::alloc::Global;
 use std::cmp::Ordering;
 use std::sync::Arc;
+use trie_shape::{Condition, NoMemory, Node, Stamp, make_bucket, make_leaf};
 
 /// The place of the key among pairs.
 pub(crate) fn place_of<K: PathKey, V>(

@@ -6,26 +6,22 @@ ghost use Rattle.std.specs.Int.RustNames.{count_ones};
 ghost use Rattle.std.specs.FinMap.{find as first_of};
 ghost use Rattle.std.specs.FinMap.Entries.{put as put_in_order};
 ghost use Rattle.hash_path.specs.Digits.{digit_bits, fan_out};
-ghost use Rattle.trie_node.specs.Map.{value_at};
-ghost use Rattle.trie_node.specs.Tree.{IsTrie, KeysHaveWord, branch, bucket, trees, entries};
-ghost use Rattle.trie_node.specs.View.{tree, branch_of, pair_values};
-ghost use Rattle.trie_node.specs.Outline.{stamp_of};
-ghost use Rattle.trie_node.specs.Roots.{IsRoot, map_of};
+ghost use Rattle.trie_shape.specs.Map.{value_at};
+ghost use Rattle.trie_shape.specs.Tree.{IsTrie, KeysHaveWord, branch, bucket, trees, entries};
+ghost use Rattle.trie_shape.specs.View.{tree, branch_of, pair_values};
+ghost use Rattle.trie_shape.specs.Outline.{stamp_of};
+ghost use Rattle.trie_shape.specs.Roots.{IsRoot, map_of};
 ghost use Rattle.trie_node.specs.Writes.{Writes, WritesWhere, KeysAgree};
 ghost use Rattle.trie_node.specs.Changes.{IsPut};
 
-use crate::bitmap::{has_digit, place};
-use crate::condition::{Always, Condition};
-use crate::copies::{with_child, with_more};
-use crate::no_memory::NoMemory;
-use crate::node::{Branch, Node, make_bucket, make_leaf};
-use crate::pairs::{find_pair, put_pair};
-use crate::reading::size as count;
-use crate::stamps::Stamp;
 use hash_path::{Path, PathKey};
 use std::alloc::Global;
 use std::slice;
 use std::sync::Arc;
+use trie_shape::{
+    Always, Branch, Condition, NoMemory, Node, Stamp, find_pair, has_digit, make_bucket, make_leaf,
+    place, put_pair, size as count, with_child, with_more,
+};
 
 /// What a write under a condition made, and what it found.
 #[derive(Drop)]

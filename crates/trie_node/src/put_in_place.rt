@@ -4,27 +4,25 @@ ghost use Rattle.std.specs.Prelude.{◌≡◌, ◌<◌, ◌≤◌, ◌^◌, ◌*
 ghost use Rattle.std.specs.Arc.{arc_value};
 ghost use Rattle.std.specs.List.{insert};
 ghost use Rattle.std.specs.FinMap.{find as first_of};
-ghost use Rattle.trie_node.specs.Roots.{IsRoot, map_of};
-ghost use Rattle.trie_node.specs.Map.{value_at};
+ghost use Rattle.trie_shape.specs.Roots.{IsRoot, map_of};
+ghost use Rattle.trie_shape.specs.Map.{value_at};
 ghost use Rattle.trie_node.specs.Changes.{IsPut};
-ghost use Rattle.trie_node.specs.Tree.{IsTrie, entries, bucket};
-ghost use Rattle.trie_node.specs.View.{tree, branch_of, pair_values};
+ghost use Rattle.trie_shape.specs.Tree.{IsTrie, entries, bucket};
+ghost use Rattle.trie_shape.specs.View.{tree, branch_of, pair_values};
 ghost use Rattle.trie_node.specs.Writes.{KeysAgree};
 ghost use Rattle.trie_node.specs.PutInPlace.{PutsIn, is_refusable};
 ghost use Rattle.std.specs.declared.cmp.Ordering.TheVariants.{Equal};
 
-use crate::bitmap::{has_digit, place};
 use crate::bucket_in_place::{have_path, put_in_pair, put_in_pairs};
-use crate::condition::{Always, Condition, holds_of_absent};
-use crate::no_memory::NoMemory;
-use crate::node::{Branch, Node, make_leaf};
+use crate::condition::holds_of_absent;
 use crate::put::{Entry, Written, put_at};
-use crate::reading::size as count;
-use crate::stamps::Stamp;
 use hash_path::PathKey;
 use std::alloc::Global;
 use std::cmp::Ordering;
 use std::sync::Arc;
+use trie_shape::{
+    Always, Branch, Condition, NoMemory, Node, Stamp, has_digit, make_leaf, place, size as count,
+};
 
 /// What a write found, and whether it took place.
 #[derive(Drop)]

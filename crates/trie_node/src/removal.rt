@@ -1,26 +1,23 @@
 //! Roots with a pair removed.
 
 ghost use Rattle.std.specs.Prelude.{ℕ, ◌≡◌, ◌&&◌, option_map, is_some, IfOk, OnErr, IfSome, None, true};
-ghost use Rattle.trie_node.specs.Map.{value_at, without};
-ghost use Rattle.trie_node.specs.Tree.{IsTrie, entries};
-ghost use Rattle.trie_node.specs.View.{tree, branch_of};
-ghost use Rattle.trie_node.specs.Roots.{IsRoot, map_of, word_of};
-ghost use Rattle.trie_node.specs.Shape.{nodes, Restamps};
+ghost use Rattle.trie_shape.specs.Map.{value_at, without};
+ghost use Rattle.trie_shape.specs.Tree.{IsTrie, entries};
+ghost use Rattle.trie_shape.specs.View.{tree, branch_of};
+ghost use Rattle.trie_shape.specs.Roots.{IsRoot, map_of, word_of};
+ghost use Rattle.trie_shape.specs.Shape.{nodes, Restamps};
 ghost use Rattle.trie_node.specs.Changes.{IsRemoval};
 ghost use Rattle.trie_node.specs.Removals.{Removes, is_removable};
 
-use crate::bitmap::{has_digit, place};
-use crate::condition::{Always, Condition};
-use crate::contraction::{with_rest, without_rest};
-use crate::no_memory::NoMemory;
-use crate::node::{Branch, Node};
 use crate::pair_removal::take_pair;
 use crate::put::Written;
 use crate::removal_outcome::Removal;
-use crate::stamps::Stamp;
 use hash_path::{Path, PathKey};
 use std::alloc::Global;
 use std::slice;
+use trie_shape::{
+    Always, Branch, Condition, NoMemory, Node, Stamp, has_digit, place, with_rest, without_rest,
+};
 
 /// The removal of the key from a branch that stands at the level.
 #[cycle(removal)]

@@ -3,27 +3,24 @@
 ghost use Rattle.std.specs.Prelude.{◌≡◌, ◌&&◌, option_map, is_some, None, IfOk, OnOk, OnErr, true, false};
 ghost use Rattle.std.specs.Arc.{arc_value};
 ghost use Rattle.std.specs.FinMap.{find as first_of};
-ghost use Rattle.trie_node.specs.Shape.{nodes, Restamps};
-ghost use Rattle.trie_node.specs.Roots.{IsRoot, map_of, word_of};
-ghost use Rattle.trie_node.specs.Map.{value_at, without};
+ghost use Rattle.trie_shape.specs.Shape.{nodes, Restamps};
+ghost use Rattle.trie_shape.specs.Roots.{IsRoot, map_of, word_of};
+ghost use Rattle.trie_shape.specs.Map.{value_at, without};
 ghost use Rattle.trie_node.specs.Changes.{IsRemoval};
-ghost use Rattle.trie_node.specs.Tree.{IsTrie, entries};
-ghost use Rattle.trie_node.specs.View.{tree, branch_of};
+ghost use Rattle.trie_shape.specs.Tree.{IsTrie, entries};
+ghost use Rattle.trie_shape.specs.View.{tree, branch_of};
 ghost use Rattle.trie_node.specs.RemovalInPlace.{TakesOut, TakesInside};
 
-use crate::bitmap::{has_digit, place};
-use crate::branch_in_place::{count_out, lose_child};
 use crate::bucket_in_place::remove_from_pairs;
-use crate::condition::{Always, Condition};
-use crate::no_memory::NoMemory;
-use crate::node::{Branch, Node};
 use crate::put_in_place::{Done, shared};
 use crate::removal::remove_at;
 use crate::removal_outcome::Removal;
-use crate::stamps::Stamp;
 use hash_path::{Path, PathKey};
 use std::alloc::Global;
 use std::sync::Arc;
+use trie_shape::{
+    Always, Branch, Condition, NoMemory, Node, Stamp, count_out, has_digit, lose_child, place,
+};
 
 /// What a removal did to a node.
 #[derive(Drop)]

@@ -1,8 +1,8 @@
 //! What a removal did to a subtree.
 
-use crate::node::Node;
 use std::alloc::Global;
 use std::sync::Arc;
+use trie_shape::Node;
 
 /// What a removal did to a subtree.
 #[derive(Drop)]

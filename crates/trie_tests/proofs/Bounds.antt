@@ -4,9 +4,9 @@ use Rattle.std.specs.declared.cmp.Ordering.{Ordering}
 use Rattle.std.specs.Cmp.{IsTotalOrder}
 use Rattle.std.specs.FinMap.{find, is_sorted}
 use Rattle.std.specs.FinMap.Entries.{length-put, length_without}
-use Rattle.trie_node.specs.Map.{IsMap, with_pair, without}
-use Rattle.trie_node.specs.Tree.{Tree}
-use Rattle.trie_node.specs.Roots.{IsRoot, map_of}
+use Rattle.trie_shape.specs.Map.{IsMap, with_pair, without}
+use Rattle.trie_shape.specs.Tree.{Tree}
+use Rattle.trie_shape.specs.Roots.{IsRoot, map_of}
 use Rattle.trie_node.specs.Changes.{IsPut}
 
 one_more : (b : Bool) (n m : ℕ) → m ≡ cond b n (n + 1) → m ≤ n + 1

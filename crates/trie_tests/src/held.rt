@@ -1,7 +1,7 @@
 //! A root that is known to be one, so that tests can write it again and again.
 
-ghost use Rattle.trie_node.specs.Shape.{Fits};
-ghost use Rattle.trie_node.specs.View.{tree};
+ghost use Rattle.trie_shape.specs.Shape.{Fits};
+ghost use Rattle.trie_shape.specs.View.{tree};
 
 use hash_path::PathKey;
 use std::alloc::Global;
@@ -21,9 +21,9 @@ pub struct Held<K: PathKey, V> {
 
 impl<K: PathKey, V> Model for Held<K, V> {
     ghost use Rattle.std.specs.Prelude.{◌≤◌, length};
-    ghost use Rattle.trie_node.specs.Map.{Map};
-    ghost use Rattle.trie_node.specs.View.{tree};
-    ghost use Rattle.trie_node.specs.Roots.{IsRoot, map_of};
+    ghost use Rattle.trie_shape.specs.Map.{Map};
+    ghost use Rattle.trie_shape.specs.View.{tree};
+    ghost use Rattle.trie_shape.specs.Roots.{IsRoot, map_of};
 
     ghost Value = { Map K V };
 

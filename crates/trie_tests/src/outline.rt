@@ -1,8 +1,8 @@
 //! What stands where in a trie: read from its nodes, and made from pairs by the rule of the shape.
 
 ghost use Rattle.std.specs.Prelude.{◌≤◌};
-ghost use Rattle.trie_node.specs.Shape.{Fits};
-ghost use Rattle.trie_node.specs.View.{tree};
+ghost use Rattle.trie_shape.specs.Shape.{Fits};
+ghost use Rattle.trie_shape.specs.View.{tree};
 
 use hash_path::{Path, PathKey};
 use std::alloc::{AllocError, Global};

@@ -1,4 +1,4 @@
-pub use Rattle.trie_node.specs.Map
+pub use Rattle.trie_shape.specs.Map
 pub mod Commands
 pub mod Contents
 pub mod Puts

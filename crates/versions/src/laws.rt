@@ -1,8 +1,8 @@
 //! Laws of the words in which contracts speak of maps. Their functions do nothing: each contract is the law.
 ghost use Rattle.std.specs.Prelude.{◌≡◌, ◌↔◌, ℕ, List, Contains, map, true, if◌then◌else◌, Some, None};
 ghost use Rattle.std.specs.Ordering.{eq_by_cmp};
-ghost use Rattle.trie_node.specs.Roots.{word_of};
-ghost use Rattle.trie_node.specs.Shape.{is_name};
+ghost use Rattle.trie_shape.specs.Roots.{word_of};
+ghost use Rattle.trie_shape.specs.Shape.{is_name};
 ghost use Rattle.versions.specs.Map.{IsAntisymmetric, IsMap, Map, value_at, with_pair, without};
 
 use crate::version::Version;

@@ -20,6 +20,3 @@ pub use refusal::Refusal;
 pub use trie_node::NoMemory;
 pub use version::{MOST_PAIRS, Version};
 pub use view::View;
-
-#[cfg(test)]
-mod tests;

@@ -1,9 +1,9 @@
 //! A finite map with a limit on its pairs.
 ghost use Rattle.std.specs.Prelude.{◌≡◌, ◌↔◌, ◌≤◌, ◌<◌, ◌+◌, ◌^◌, ◌&&◌, ◌∷◌, length, [], is_some, if◌then◌else◌, None, option_map, IfOk, IsTrue, OnOk, OnErr};
 ghost use Rattle.std.specs.Arc.{arc_value};
-ghost use Rattle.trie_node.specs.Roots.{IsRoot, map_of, word_of};
-ghost use Rattle.trie_node.specs.Shape.{NoneAbove, Restamps, nodes, own_count};
-ghost use Rattle.trie_node.specs.View.{tree};
+ghost use Rattle.trie_shape.specs.Roots.{IsRoot, map_of, word_of};
+ghost use Rattle.trie_shape.specs.Shape.{NoneAbove, Restamps, nodes, own_count};
+ghost use Rattle.trie_shape.specs.View.{tree};
 ghost use Rattle.versions.specs.Changes.{RestampsIf};
 ghost use Rattle.versions.specs.Commands.{is_full_for};
 ghost use Rattle.versions.specs.Map.{IsMap, value_at, with_pair, without};
@@ -35,9 +35,9 @@ pub struct Version<K: PathKey, V> {
 
 impl<K: PathKey, V> Model for Version<K, V> {
     ghost use Rattle.std.specs.Prelude.{◌≤◌, length};
-    ghost use Rattle.trie_node.specs.Roots.{IsRoot, map_of, word_of};
-    ghost use Rattle.trie_node.specs.Shape.{NoneAbove, nodes};
-    ghost use Rattle.trie_node.specs.View.{tree};
+    ghost use Rattle.trie_shape.specs.Roots.{IsRoot, map_of, word_of};
+    ghost use Rattle.trie_shape.specs.Shape.{NoneAbove, nodes};
+    ghost use Rattle.trie_shape.specs.View.{tree};
     ghost use Rattle.versions.specs.Contents.{Contents};
     ghost use Rattle.versions.specs.declared.version.TheConstants.{MOST_PAIRS};
 

@@ -1,7 +1,7 @@
 //! A map as it stood at one moment.
 ghost use Rattle.std.specs.Prelude.{◌≡◌, ◌≤◌, ◌↔◌, [], length, option_map, is_some, IfOk, IsTrue};
-ghost use Rattle.trie_node.specs.Roots.{IsRoot, map_of};
-ghost use Rattle.trie_node.specs.View.{tree};
+ghost use Rattle.trie_shape.specs.Roots.{IsRoot, map_of};
+ghost use Rattle.trie_shape.specs.View.{tree};
 ghost use Rattle.versions.specs.Map.{IsMap, value_at};
 ghost use Rattle.versions.specs.declared.version.TheConstants.{MOST_PAIRS};
 
@@ -18,8 +18,8 @@ pub struct View<K: PathKey, V> {
 
 impl<K: PathKey, V> Model for View<K, V> {
     ghost use Rattle.std.specs.Prelude.{◌≤◌, length};
-    ghost use Rattle.trie_node.specs.Roots.{IsRoot, map_of};
-    ghost use Rattle.trie_node.specs.View.{tree};
+    ghost use Rattle.trie_shape.specs.Roots.{IsRoot, map_of};
+    ghost use Rattle.trie_shape.specs.View.{tree};
     ghost use Rattle.versions.specs.Map.{Map};
     ghost use Rattle.versions.specs.declared.version.TheConstants.{MOST_PAIRS};
 

@@ -1,6 +1,6 @@
 //! How many entries of the journal a statement makes.
 use crate::events::answer;
-use crate::{law, parse_script};
+use crate::{parse_script, script_has_one_output, text_has_one_script};
 use handles::{Limits, Table};
 use script::push_line;
 use std::alloc::Global;
@@ -71,6 +71,6 @@ fn a_bulk_verb_makes_two_entries_unless_its_freeze_is_refused(rt: HostRuntime) -
 
 #[test]
 fn laws_are_calls_that_do_nothing() {
-    law::script_has_one_output();
-    law::text_has_one_script();
+    script_has_one_output();
+    text_has_one_script();
 }

@@ -1,8 +1,8 @@
 //! Operations whose requests for memory are refused: the first, then the second, and so on.
 
-use super::{Asked, at, at_three, below, chosen, first, instead};
+use super::{Asked, at, at_three, below, chosen, first, instead, plainly, values};
 use crate::{Part, work};
-use combiner::{Bulk, merge};
+use combiner::{Both, Bulk, Greatest, Least, Sum, merge};
 use splitter::{Piece, whole};
 use std::alloc::{AllocError, Global};
 use std::sync::Arc;
@@ -67,6 +67,67 @@ fn work_is_refused_until_there_is_memory(rt: HostRuntime) -> Result<(), Fail> {
         }
     }
     assert!(rt; false, "work is refused with memory to spare");
+    Ok(())
+}
+
+// Keys below 3 are two of the three; the sum and the extremes are those of all values.
+#[test]
+fn what_makes_no_map_asks_for_no_memory(rt: HostRuntime) -> Result<(), Fail> {
+    let alloc = rt.alloc();
+    let piece = whole(alloc, first(alloc, 3)?);
+    let taken = take_all(alloc)?;
+    let count = work(alloc, &piece, &Asked::Count(below(3)));
+    let exists = work(alloc, &piece, &Asked::Exists(below(1)));
+    let for_all = work(alloc, &piece, &Asked::ForAll(below(4)));
+    let find = work(alloc, &piece, &Asked::Find(below(2)));
+    let monoid = Both(Sum, Both(Least, Greatest));
+    let fold = work(alloc, &piece, &Asked::Fold(monoid, values()));
+    drop(taken);
+    assert!(rt; matches!(&count, Ok(Part::Number(2))));
+    assert!(rt; matches!(&exists, Ok(Part::Truth(false))));
+    assert!(rt; matches!(&for_all, Ok(Part::Truth(true))));
+    let found = match &find {
+        Ok(Part::Found(found)) => plainly(found),
+        _ => None,
+    };
+    assert_eq!(rt; found, Some((1, i64::MIN)));
+    let sums = (9_223_372_036_854_775_806, (Some(i64::MIN), Some(i64::MAX)));
+    assert!(rt; matches!(&fold, Ok(Part::Item(item)) if *item == sums));
+    Ok(())
+}
+
+// How many blocks of memory a filter wants that keeps the keys below a number.
+fn wanted_by_filter(
+    alloc: Global,
+    piece: &Piece<ChosenKey, i64>,
+    id: u32,
+) -> Result<usize, AllocError> {
+    let query = Asked::Filter(below(id), 9);
+    for given in 0..MOST_GIVEN {
+        let mut blocks = spare(alloc)?;
+        let taken = take_all(alloc)?;
+        give(&mut blocks, given);
+        let answer = work(alloc, piece, &query);
+        drop(taken);
+        if answer.is_ok() {
+            return Ok(given);
+        }
+    }
+    Ok(MOST_GIVEN)
+}
+
+// No key is below 1, one is below 2: a filter that keeps nothing wants its empty map alone, of one pair as of three.
+#[test]
+fn a_pair_that_does_not_pass_asks_for_no_memory(rt: HostRuntime) -> Result<(), Fail> {
+    let alloc = rt.alloc();
+    let (one, three) = (
+        whole(alloc, first(alloc, 1)?),
+        whole(alloc, first(alloc, 3)?),
+    );
+    let empty = wanted_by_filter(alloc, &one, 1)?;
+    assert!(rt; empty > 0 && empty < MOST_GIVEN);
+    assert_eq!(rt; wanted_by_filter(alloc, &three, 1)?, empty);
+    assert!(rt; wanted_by_filter(alloc, &three, 2)? > empty);
     Ok(())
 }
 

@@ -1,5 +1,8 @@
 //! Scripts, keys and laws, each called once.
-use crate::{Key, Statement, law, parse_script};
+use crate::{
+    Key, Statement, parse_script, spelled_text_has_no_fault, text_has_one_fault,
+    text_has_one_script,
+};
 use std::sync::Arc;
 use std::test::Fail;
 
@@ -50,7 +53,7 @@ fn a_key_is_a_text_of_some_bytes(rt: HostRuntime) -> Result<(), Fail> {
 
 #[test]
 fn laws_are_calls_that_do_nothing() {
-    law::spelled_text_has_no_fault();
-    law::text_has_one_script();
-    law::text_has_one_fault();
+    spelled_text_has_no_fault();
+    text_has_one_script();
+    text_has_one_fault();
 }

@@ -1,6 +1,7 @@
 //! What tests and maps say of pairs.
-use crate::argument::Argument;
-use crate::{Folding, Key, Mapping, Test};
+use super::{is_read, is_refused};
+use crate::{Key, Mapping, Test};
+use std::process::Abort;
 use std::test::Fail;
 
 #[test]
@@ -66,9 +67,26 @@ fn each_map_has_its_new_value(rt: HostRuntime) {
     assert_eq!(rt; Mapping::KeyLength.new_value(b"abc", -1), 3);
 }
 
+// Whether a line with this field is read, or refused with this fault.
+fn is_said(
+    rt: &(impl Abort + AllocGlobal),
+    before: &[u8],
+    field: &[u8],
+    after: &[u8],
+    fault: Option<&str>,
+) -> Result<(), Fail> {
+    let mut line = Vec::new(rt.alloc());
+    line.extend_from_slice(before)?;
+    line.extend_from_slice(field)?;
+    line.extend_from_slice(after)?;
+    match fault {
+        Some(fault) => is_refused(rt, line.as_slice(), fault),
+        None => is_read(rt, line.as_slice(), 1),
+    }
+}
+
 #[test]
-fn tests_have_one_spelling(rt: HostRuntime) {
-    let alloc = rt.alloc();
+fn tests_have_one_spelling(rt: HostRuntime) -> Result<(), Fail> {
     for field in [
         b"all".as_slice(),
         b"even",
@@ -79,11 +97,10 @@ fn tests_have_one_spelling(rt: HostRuntime) {
         b"prefix:prefix:a=b",
         b"prefix:aaaaaaaaaaaaaaaaaaaaaaaaaaaaaaaaaaaaaaaaaaaaaaaaaaaaaaaaaaaaaaaa",
     ] {
-        assert!(rt; Test::read(alloc, field).is_ok());
+        is_said(&rt, b"0 count 1 ", field, b"", None)?;
     }
     for field in [
-        b"".as_slice(),
-        b"All",
+        b"All".as_slice(),
         b"all:",
         b"evens",
         b"gt:1",
@@ -97,22 +114,23 @@ fn tests_have_one_spelling(rt: HostRuntime) {
         b"ge:9223372036854775808",
         b"prefix",
         b"prefix:",
-        b"prefix:a b",
         b"prefix:aaaaaaaaaaaaaaaaaaaaaaaaaaaaaaaaaaaaaaaaaaaaaaaaaaaaaaaaaaaaaaaaa",
     ] {
-        assert!(rt; Test::read(alloc, field).is_err());
+        is_said(&rt, b"0 count 1 ", field, b"", Some("line 1: bad test"))?;
     }
+    let two = b"prefix:a b";
+    is_said(&rt, b"0 count 1 ", two, b"", Some("line 1: extra field"))?;
+    is_said(&rt, b"0 count 1", b"", b"", Some("line 1: missing field"))
 }
 
 #[test]
-fn maps_and_folds_have_one_spelling(rt: HostRuntime) {
-    let alloc = rt.alloc();
+fn maps_and_folds_have_one_spelling(rt: HostRuntime) -> Result<(), Fail> {
     for field in [
         b"set:9223372036854775807".as_slice(),
         b"add:-9223372036854775808",
         b"keylen",
     ] {
-        assert!(rt; Mapping::read(alloc, field).is_ok());
+        is_said(&rt, b"0 mapvalues 1 ", field, b" 2", None)?;
     }
     for field in [
         b"set".as_slice(),
@@ -122,12 +140,19 @@ fn maps_and_folds_have_one_spelling(rt: HostRuntime) {
         b"keylen:",
         b"twice",
     ] {
-        assert!(rt; Mapping::read(alloc, field).is_err());
+        is_said(
+            &rt,
+            b"0 mapvalues 1 ",
+            field,
+            b" 2",
+            Some("line 1: bad map"),
+        )?;
     }
     for field in [b"sum".as_slice(), b"least", b"greatest"] {
-        assert!(rt; Folding::read(alloc, field).is_ok());
+        is_said(&rt, b"0 fold 1 ", field, b"", None)?;
     }
-    for field in [b"product".as_slice(), b"Sum", b"sum:", b""] {
-        assert!(rt; Folding::read(alloc, field).is_err());
+    for field in [b"product".as_slice(), b"Sum", b"sum:"] {
+        is_said(&rt, b"0 fold 1 ", field, b"", Some("line 1: bad fold"))?;
     }
+    is_said(&rt, b"0 fold 1", b"", b"", Some("line 1: missing field"))
 }

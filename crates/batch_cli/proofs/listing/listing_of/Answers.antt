@@ -1,7 +1,7 @@
 use Rattle.std.proofs.Common.{◌≡◌, ◌∙◌, rules}
 use Rattle.hash_path.specs.Fnv.{fnv1a}
 use Rattle.keys.specs.Order.{bytes_cmp}
-use Rattle.trie_node.specs.Order.{walked}
+use Rattle.trie_shape.specs.Order.{walked}
 use Rattle.versions.specs.Map.{with_pair}
 use Rattle.batch_cli.proofs.listing.listing_of.Goals as goal
 

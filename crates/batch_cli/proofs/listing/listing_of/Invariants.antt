@@ -1,6 +1,6 @@
 use Rattle.std.proofs.Common.{◌≡◌}
 use Rattle.keys.specs.Order.{bytes_cmp}
-use Rattle.trie_node.specs.Listings.{gathered}
+use Rattle.trie_shape.specs.Listings.{gathered}
 use Rattle.batch_cli.proofs.listing.listing_of.Given as goal
 
 -- the listing, with the pairs that are left, is that of the view

@@ -1,8 +1,8 @@
 use Rattle.std.proofs.Common.{◌≡◌, ◌≤◌, Bool, arith, length, sym, subst, ◌∙◌}
 use Rattle.hash_path.specs.Digits.{position}
 use Rattle.iter.specs.Intervals.{lies_in, part}
-use Rattle.trie_node.specs.Map.{IsMap}
-use Rattle.trie_node.specs.Order.{walked}
+use Rattle.trie_shape.specs.Map.{IsMap}
+use Rattle.trie_shape.specs.Order.{walked}
 use Rattle.versions.specs.declared.version.TheConstants.{MOST_PAIRS}
 use Rattle.bulk_ops.proofs.PartKinds.{passing_le}
 use Rattle.bulk_ops.proofs.Unions.{sorted_passing, true_of, truth_of}

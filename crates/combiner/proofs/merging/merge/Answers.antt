@@ -1,7 +1,7 @@
 use Rattle.std.proofs.Common.{◌≤◌, arith}
-use Rattle.trie_node.specs.Roots.{word_of}
-use Rattle.trie_node.specs.Shape.{nodes}
-use Rattle.trie_node.specs.View.{tree}
+use Rattle.trie_shape.specs.Roots.{word_of}
+use Rattle.trie_shape.specs.Shape.{nodes}
+use Rattle.trie_shape.specs.View.{tree}
 use Rattle.combiner.proofs.Stamps.{none_above}
 use Rattle.combiner.proofs.merging.merge.Goals as goal
 

@@ -1,4 +1,4 @@
-use Rattle.std.proofs.Common.{◌≡◌, ◌++◌, ◌∷◌, [], length, get_or, set, refl, sym, subst, ap, ◌∙◌, arith}
+use Rattle.std.proofs.Common.{◌++◌, ◌∷◌, [], length, get_or, set, refl, sym, subst, ap, ◌∙◌}
 use Rattle.core_steps.specs.Desks.{IsJobOn, board}
 use Rattle.core_steps.proofs.Beginnings.{first_station, begun_board, begun_job}
 use Rattle.core_steps.proofs.board.begin_whole.Goals as goal

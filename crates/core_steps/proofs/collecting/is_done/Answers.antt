@@ -1,4 +1,4 @@
-use Rattle.std.proofs.Common.{rules, ◌≡◌, true, false, is_none, [], refl, sym, ◌∙◌, arith}
+use Rattle.std.proofs.Common.{rules, ◌≡◌, true, false, is_none, refl, sym, ◌∙◌, arith}
 use Rattle.std.proofs.lemmas.Bool.{false≢true}
 use Rattle.core_steps.proofs.Collections.{none_left, held_waits, queue_waits, none_waits_here}
 use Rattle.core_steps.proofs.collecting.is_done.Goals as goal

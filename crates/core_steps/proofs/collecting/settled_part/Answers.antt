@@ -1,4 +1,4 @@
-use Rattle.std.proofs.Common.{rules, ◌≡◌, ◌<◌, ℕ, true, false, length, sym, subst, arith}
+use Rattle.std.proofs.Common.{rules, ◌≡◌, true, false, sym, subst, arith}
 use Rattle.versions.specs.Map.{Map}
 use Rattle.combiner.specs.Unions.{IsWithin}
 use Rattle.combiner.specs.Bulks.{Apart, IsJoined}

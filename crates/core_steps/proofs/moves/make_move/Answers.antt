@@ -1,8 +1,7 @@
-use Rattle.std.proofs.Common.{◌≡◌, ◌<◌, length, [], ◌∷◌, sym, subst}
+use Rattle.std.proofs.Common.{◌<◌, length, [], ◌∷◌, sym, subst}
 use Rattle.std.specs.Prelude.{All}
 use Rattle.std.proofs.lemmas.List.Elements.{All-head, All-tail}
 use Rattle.core_steps.specs.Boards.{named_by}
-use Rattle.core_steps.specs.Desks.{HasPieces, IsJobOn}
 use Rattle.core_steps.specs.Moves.{MovesTo, move_of}
 use Rattle.core_steps.specs.Views.{turn_of}
 use Rattle.core_steps.proofs.MoveSteps.{take_moves, steal_moves, split_moves, work_moves}

@@ -1,4 +1,4 @@
-use Rattle.std.proofs.Common.{◌≡◌, List, ◌++◌, ◌∷◌, [], Option, Some, None, sym, subst, ap, ◌∙◌, length, refl}
+use Rattle.std.proofs.Common.{◌≡◌, List, ◌++◌, ◌∷◌, [], Option, None, sym, subst, ap, ◌∙◌, length}
 use Rattle.iter.specs.declared.interval.Interval.{Interval}
 use Rattle.iter.specs.Intervals.{part}
 use Rattle.splitter.specs.Portion.{Portion}

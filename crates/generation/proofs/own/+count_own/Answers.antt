@@ -1,6 +1,6 @@
 use Rattle.std.proofs.Common.{rules, ◌≡◌, ◌+◌, ◌<◌, ◌==◌, cond, length, arith}
-use Rattle.trie_node.specs.Outline.{children, stamp_of}
-use Rattle.trie_node.specs.View.{tree}
+use Rattle.trie_shape.specs.Outline.{children, stamp_of}
+use Rattle.trie_shape.specs.View.{tree}
 use Rattle.generation.proofs.Walk.{fewer_below, own_more, own_within, own_all}
 use Rattle.generation.proofs.own.+count_own.Goals as goal
 

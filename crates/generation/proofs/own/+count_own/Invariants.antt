@@ -1,7 +1,7 @@
 use Rattle.std.proofs.Common.{◌≡◌, ◌+◌, take, sum_by}
-use Rattle.trie_node.specs.Outline.{children}
-use Rattle.trie_node.specs.View.{tree}
-use Rattle.trie_node.specs.Counts.{node_count}
+use Rattle.trie_shape.specs.Outline.{children}
+use Rattle.trie_shape.specs.View.{tree}
+use Rattle.trie_shape.specs.Counts.{node_count}
 use Rattle.generation.specs.Owned.{own_below}
 use Rattle.generation.proofs.own.+count_own.Given as goal
 

@@ -1,6 +1,6 @@
 use Rattle.std.proofs.Common.{sym, ◌∙◌, []}
-use Rattle.trie_node.specs.Roots.{word_of}
-use Rattle.trie_node.specs.View.{tree}
+use Rattle.trie_shape.specs.Roots.{word_of}
+use Rattle.trie_shape.specs.View.{tree}
 use Rattle.generation.proofs.Walk.{own_nodes_below}
 use Rattle.generation.proofs.own.own_nodes.Goals as goal
 

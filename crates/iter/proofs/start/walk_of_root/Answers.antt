@@ -1,8 +1,8 @@
 use Rattle.std.proofs.Common.{arith, ap}
 use Rattle.std.proofs.lemmas.List.{take_all}
 use Rattle.std.specs.Int.RustNames.{count_ones}
-use Rattle.trie_node.specs.Outline.{children}
-use Rattle.trie_node.specs.View.{tree}
+use Rattle.trie_shape.specs.Outline.{children}
+use Rattle.trie_shape.specs.View.{tree}
 use Rattle.iter.specs.Subtries.{nodes_of_all}
 use Rattle.iter.proofs.Nodes.{same_node_count}
 use Rattle.iter.proofs.start.walk_of_root.Goals as goal

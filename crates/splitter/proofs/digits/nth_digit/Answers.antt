@@ -1,5 +1,5 @@
 use Rattle.std.proofs.Common.{◌≡◌, ◌+◌, ◌-◌, ◌/◌, ◌<◌, ℕ, suc, ◌∷◌, length, get_or, sym, ap, ◌∙◌, subst, arith}
-use Rattle.trie_node.specs.Tree.{digits_from}
+use Rattle.trie_shape.specs.Tree.{digits_from}
 use Rattle.splitter.proofs.Rows.{digits_at_start, set_next, unset_next}
 use Rattle.splitter.proofs.digits.nth_digit.Goals.{then-rest-eq1+else-left-eq0, else-rest-eq1}
 use Rattle.splitter.proofs.digits.nth_digit.Goals as goal

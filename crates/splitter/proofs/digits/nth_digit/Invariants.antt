@@ -1,5 +1,5 @@
 use Rattle.std.proofs.Common.{◌≡◌, ◌-◌, ◌<◌, length, get_or}
-use Rattle.trie_node.specs.Tree.{digits_of, digits_from}
+use Rattle.trie_shape.specs.Tree.{digits_of, digits_from}
 use Rattle.splitter.proofs.digits.nth_digit.Given as goal
 
 -- the digit of a number is that of what is left of the number, among what is left of the bitmap

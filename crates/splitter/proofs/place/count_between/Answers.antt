@@ -1,6 +1,6 @@
 use Rattle.std.proofs.Common.{◌+◌, ◌<◌, length, arith}
-use Rattle.trie_node.specs.Outline.{children}
-use Rattle.trie_node.specs.View.{tree}
+use Rattle.trie_shape.specs.Outline.{children}
+use Rattle.trie_shape.specs.View.{tree}
 use Rattle.splitter.proofs.Rows.{count_more, fewer_between}
 use Rattle.splitter.proofs.place.count_between.Goals as goal
 

@@ -1,5 +1,5 @@
 use Rattle.std.proofs.Common.{◌≡◌, length}
-use Rattle.trie_node.specs.View.{tree}
+use Rattle.trie_shape.specs.View.{tree}
 use Rattle.iter.specs.Subtries.{children_between, pairs_of_all}
 use Rattle.splitter.proofs.place.count_between.Given as goal
 

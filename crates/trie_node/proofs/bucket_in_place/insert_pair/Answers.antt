@@ -1,7 +1,7 @@
-use Rattle.std.proofs.Common.{◌≡◌, Some, map, length, sym, ap, ◌∙◌, subst, true≢false, arith}
+use Rattle.std.proofs.Common.{Some, map, sym, ap, ◌∙◌, subst, true≢false, arith}
 use Rattle.std.proofs.lemmas.List.{length-map}
-use Rattle.trie_node.specs.Tree.{bucket}
-use Rattle.trie_node.specs.View.{pair_values}
+use Rattle.trie_shape.specs.Tree.{bucket}
+use Rattle.trie_shape.specs.View.{pair_values}
 use Rattle.trie_node.specs.Writes.{Writes}
 use Rattle.trie_node.proofs.Standing.{map_insert}
 use Rattle.trie_node.proofs.Words.{puts_in_word}

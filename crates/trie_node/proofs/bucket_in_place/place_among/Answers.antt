@@ -1,6 +1,6 @@
-use Rattle.std.proofs.Common.{◌≡◌, ◌<◌, map, length, get_or, subst, sym, ap, ◌∙◌, add-one, arith}
+use Rattle.std.proofs.Common.{◌≡◌, ◌<◌, map, length, subst, sym, ap, ◌∙◌, add-one, arith}
 use Rattle.std.proofs.lemmas.List.{length-map, get_or-map}
-use Rattle.trie_node.specs.View.{pair_values}
+use Rattle.trie_shape.specs.View.{pair_values}
 use Rattle.trie_node.proofs.Placing.{ComesAfter, after_next, puts_before, puts_last, absent_before, absent_last, stands_at}
 use Rattle.trie_node.proofs.bucket_in_place.place_among.Goals as goal
 

@@ -1,5 +1,5 @@
 use Rattle.std.proofs.Common.{map}
-use Rattle.trie_node.specs.View.{pair_values}
+use Rattle.trie_shape.specs.View.{pair_values}
 use Rattle.trie_node.proofs.Placing.{ComesAfter}
 use Rattle.trie_node.proofs.bucket_in_place.place_among.Given as goal
 

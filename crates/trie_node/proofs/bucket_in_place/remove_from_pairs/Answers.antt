@@ -1,13 +1,12 @@
-use Rattle.std.proofs.Common.{◌≡◌, ◌<◌, ◌+◌, ◌&&◌, map, length, Some, None, is_some, refl, subst, sym, ap, ◌∙◌, arith}
-use Rattle.std.specs.Arc.{arc_value}
-use Rattle.std.specs.FinMap.{find}
+use Rattle.std.proofs.Common.{◌<◌, ◌+◌, ◌&&◌, map, length, Some, None, is_some, refl, subst, sym, ap, ◌∙◌, arith}
 use Rattle.std.proofs.lemmas.List.{length-map, get_or-map}
 use Rattle.std.proofs.lemmas.List.Edits.{length-remove}
-use Rattle.trie_node.specs.Tree.{bucket, entries}
+use Rattle.trie_shape.specs.Tree.{bucket, entries}
 use Rattle.trie_node.specs.Removals.{IsAt}
-use Rattle.trie_node.specs.View.{pair_values}
+use Rattle.trie_shape.specs.View.{pair_values}
 use Rattle.trie_node.specs.Writes.{Writes}
-use Rattle.trie_node.proofs.Standing.{at_err, map_remove}
+use Rattle.trie_node.proofs.Standing.{at_err}
+use Rattle.trie_shape.proofs.Shortened.{map_remove}
 use Rattle.trie_node.proofs.Taken.{removes_pair}
 use Rattle.trie_node.proofs.bucket_in_place.remove_from_pairs.Goals as goal
 
@@ -23,7 +22,6 @@ returns-then-not-holds_of-clause-ok g c level trie =
     let R = g.K.Ord.cmp in
     let k = c.args.key.now in
     let items = c.args.pairs.now.items in
-    let es = map pair_values items in
     let i = c.in-Some.at in
     let at = subst (λ xs. IsAt R k i (map pair_values xs)) c.as_slice.ensures.value c.in-Some.ensures.there in
     let within : i < length items = omega (arith, at.within, length-map items pair_values) in

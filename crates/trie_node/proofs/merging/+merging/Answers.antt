@@ -1,11 +1,11 @@
 use Rattle.std.proofs.Common.{rules, ◌≡◌, ◌+◌, ◌<◌, ◌++◌, [], ◌∷◌, length, map, bit_or, option_map, IfSome, sym, ap, ◌∙◌, subst, arith}
 use Rattle.std.proofs.lemmas.List.{map-append}
 use Rattle.trie_node.specs.Merges.{child_at}
-use Rattle.trie_node.specs.Tree.{entries, entries_of_all, trees, IsTrie}
-use Rattle.trie_node.specs.View.{tree}
-use Rattle.trie_node.proofs.Divides.{trie_fits}
+use Rattle.trie_shape.specs.Tree.{entries, entries_of_all, trees, IsTrie}
+use Rattle.trie_shape.specs.View.{tree}
+use Rattle.trie_shape.proofs.Divides.{trie_fits}
 use Rattle.trie_node.proofs.MergedRows.{IsRow, side, can_same, can_below, merges_same, row_kept, row_more, row_done, length_row, room_row}
-use Rattle.trie_node.proofs.Views.{on_ok}
+use Rattle.trie_shape.proofs.Views.{on_ok}
 use Rattle.trie_node.proofs.merging.+merging.Goals as goal
 use Rattle.trie_node.proofs.merging.+merging.Goals.{merge_branches-in-Some+in_ok-push, merge_branches-in_default}
 

@@ -1,6 +1,6 @@
 use Rattle.std.proofs.Common.{◌≡◌, ◌+◌, ◌-◌, ◌*◌, map, length, bit_or}
-use Rattle.trie_node.specs.Tree.{entries_of_all, trees}
-use Rattle.trie_node.specs.View.{tree}
+use Rattle.trie_shape.specs.Tree.{entries_of_all, trees}
+use Rattle.trie_shape.specs.View.{tree}
 use Rattle.trie_node.proofs.MergedRows.{IsRow}
 use Rattle.trie_node.proofs.merging.+merging.Given as goal
 

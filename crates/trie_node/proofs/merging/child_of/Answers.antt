@@ -1,6 +1,6 @@
 use Rattle.std.proofs.Common.{sym, ap, ◌∙◌, arith, get_or}
-use Rattle.trie_node.specs.Outline.{children}
-use Rattle.trie_node.specs.View.{tree}
+use Rattle.trie_shape.specs.Outline.{children}
+use Rattle.trie_shape.specs.View.{tree}
 use Rattle.trie_node.proofs.ChildAt.{place_in, child_in, child_out}
 use Rattle.trie_node.proofs.merging.child_of.Goals as goal
 

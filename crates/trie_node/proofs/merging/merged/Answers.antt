@@ -1,8 +1,8 @@
 use Rattle.std.proofs.Common.{sym, ap, ◌∙◌}
-use Rattle.trie_node.specs.Roots.{map_of}
-use Rattle.trie_node.specs.View.{tree}
+use Rattle.trie_shape.specs.Roots.{map_of}
+use Rattle.trie_shape.specs.View.{tree}
 use Rattle.trie_node.proofs.MergedRoots.{only_left, only_right, can_merge_roots, merged_root, merged_map, merged_stamps, merged_none_above}
-use Rattle.trie_node.proofs.Views.{on_ok}
+use Rattle.trie_shape.proofs.Views.{on_ok}
 use Rattle.trie_node.proofs.merging.merged.Goals as goal
 
 pub returns-then-size-eq0-clause-map : goal.returns-then-size-eq0-clause-map

@@ -1,7 +1,7 @@
 use Rattle.std.proofs.Common.{rules, ◌≡◌, ◌+◌, ◌*◌, ◌<◌, ◌%◌, ◌^◌, length, map, take, get_or, Some, option_map, sym, ap, ◌∙◌, subst, arith}
 use Rattle.std.proofs.lemmas.List.{length-map, get_or-map}
 use Rattle.trie_node.specs.Merges.{PutsEach}
-use Rattle.trie_node.specs.View.{tree, pair_values}
+use Rattle.trie_shape.specs.View.{tree, pair_values}
 use Rattle.trie_node.specs.Writes.{WritesWhere}
 use Rattle.trie_node.proofs.EachPut.{agree_next, each_written, each_kept}
 use Rattle.trie_node.proofs.merging.put_each.Goals as goal

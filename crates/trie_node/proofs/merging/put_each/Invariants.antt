@@ -1,6 +1,6 @@
 use Rattle.std.proofs.Common.{map, take}
 use Rattle.trie_node.specs.Merges.{PutsEach}
-use Rattle.trie_node.specs.View.{tree, pair_values}
+use Rattle.trie_shape.specs.View.{tree, pair_values}
 use Rattle.trie_node.proofs.merging.put_each.Given as goal
 
 abbrev pub invariant-loop-key : goal.invariant-loop-key

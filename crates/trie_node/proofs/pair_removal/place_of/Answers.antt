@@ -1,6 +1,6 @@
 use Rattle.std.proofs.Common.{◌≡◌, ap, sym, ◌∙◌, get_or}
 use Rattle.std.specs.declared.cmp.Ordering.TheVariants.{Equal}
-use Rattle.trie_node.specs.View.{pair_values}
+use Rattle.trie_shape.specs.View.{pair_values}
 use Rattle.trie_node.proofs.Taken.{at_place, equal_of_index}
 use Rattle.trie_node.proofs.pair_removal.place_of.Goals as goal
 

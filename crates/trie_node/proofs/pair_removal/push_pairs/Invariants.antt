@@ -1,5 +1,5 @@
 use Rattle.std.proofs.Common.{◌≡◌, map, take, ◌++◌}
-use Rattle.trie_node.specs.View.{pair_values}
+use Rattle.trie_shape.specs.View.{pair_values}
 use Rattle.trie_node.proofs.pair_removal.push_pairs.Given as goal
 
 abbrev pub invariant-loop-key : goal.invariant-loop-key

@@ -1,8 +1,8 @@
 use Rattle.std.proofs.Common.{◌+◌, ◌&&◌, map, length, ap, sym, ◌∙◌, subst, arith, is_some}
 use Rattle.std.proofs.lemmas.List.{length-map}
 use Rattle.std.proofs.lemmas.List.Edits.{length-remove}
-use Rattle.trie_node.specs.Tree.{bucket, entries}
-use Rattle.trie_node.specs.View.{pair_values}
+use Rattle.trie_shape.specs.Tree.{bucket, entries}
+use Rattle.trie_shape.specs.View.{pair_values}
 use Rattle.trie_node.specs.Writes.{Writes}
 use Rattle.trie_node.proofs.Taken.{removes_pair, takes_only, value_at_place}
 use Rattle.trie_node.proofs.Standing.{at_err}

@@ -1,7 +1,7 @@
 use Rattle.std.proofs.Common.{◌≡◌, subst, IfOk}
-use Rattle.trie_node.specs.Tree.{bucket}
-use Rattle.trie_node.specs.View.{tree, pair_values}
-use Rattle.trie_node.proofs.Shortened.{appended_remove}
+use Rattle.trie_shape.specs.Tree.{bucket}
+use Rattle.trie_shape.specs.View.{tree, pair_values}
+use Rattle.trie_shape.proofs.Shortened.{appended_remove}
 use Rattle.trie_node.proofs.pair_removal.without_pair.Goals as goal
 
 pub returns : goal.returns

@@ -1,16 +1,17 @@
-use Rattle.std.proofs.Common.{is_some, rules, ◌≡◌, [], ◌∷◌, option_map, ◌+◌, ◌-◌, ◌*◌, ◌<◌, ◌≤◌, ◌^◌, ◌%◌, Some, None, map, sym, ap, ◌∙◌, subst, arith, length, refl, set, bit_or}
+use Rattle.std.proofs.Common.{is_some, rules, ◌≡◌, [], ◌∷◌, option_map, ◌+◌, ◌-◌, ◌*◌, ◌<◌, ◌≤◌, ◌^◌, ◌%◌, Some, map, sym, ap, ◌∙◌, subst, arith, length, set, bit_or}
 use Rattle.std.specs.List.{insert}
 use Rattle.std.specs.Int.RustNames.{count_ones}
 use Rattle.std.specs.FinMap.{find}
 use Rattle.std.proofs.lemmas.Result.{on_err_weaker}
-use Rattle.trie_node.specs.Tree.{branch, bucket, trees, entries, IsTrie}
-use Rattle.trie_node.specs.View.{tree, branch_of}
+use Rattle.trie_shape.specs.Tree.{branch, bucket, trees, entries, IsTrie}
+use Rattle.trie_shape.specs.View.{tree, branch_of}
 use Rattle.trie_node.specs.Writes.{Writes, WritesWhere, KeysAgree}
 use Rattle.trie_node.proofs.Answered.{nothing_raised, written_below, raised, is_some_mapped, some_mapped}
-use Rattle.trie_node.proofs.Divides.{trie_fits}
+use Rattle.trie_shape.proofs.Divides.{trie_fits}
 use Rattle.trie_node.proofs.Standing.{at_err}
-use Rattle.trie_node.proofs.Views.{on_ok, tree-matched}
-use Rattle.trie_node.proofs.Ways.{turn, gap_within, within, absent, way, leaf_added, agree_below, child_put}
+use Rattle.trie_shape.proofs.Views.{on_ok, tree-matched}
+use Rattle.trie_shape.proofs.Ways.{turn, gap_within, within, absent, way}
+use Rattle.trie_node.proofs.PutsBelow.{leaf_added, agree_below, child_put}
 use Rattle.trie_node.proofs.put.+put.Goals as goal
 
 pub put_below-put_beside-requires-clause-place : goal.put_below-put_beside-requires-clause-place

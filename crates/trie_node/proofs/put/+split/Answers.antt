@@ -2,14 +2,14 @@ use Rattle.std.proofs.Common.{rules, ◌≡◌, ◌≢◌, ℕ, ◌+◌, ◌*◌
 use Rattle.std.specs.List.{insert}
 use Rattle.std.specs.Int.RustNames.{count_ones}
 use Rattle.hash_path.specs.Digits.{digit}
-use Rattle.trie_node.specs.Outline.{stamp_of}
-use Rattle.trie_node.specs.Tree.{branch, bucket, trees, entries, IsTrie}
-use Rattle.trie_node.specs.View.{tree}
+use Rattle.trie_shape.specs.Outline.{stamp_of}
+use Rattle.trie_shape.specs.Tree.{branch, bucket, trees, entries, IsTrie}
+use Rattle.trie_shape.specs.View.{tree}
 use Rattle.trie_node.specs.Writes.{Writes}
-use Rattle.trie_node.proofs.Bits.{agree_more}
-use Rattle.trie_node.proofs.Divides.{trie_fits}
+use Rattle.trie_shape.proofs.Bits.{agree_more}
+use Rattle.trie_shape.proofs.Divides.{trie_fits}
 use Rattle.trie_node.proofs.Splits.{one_digit, level_within, place_beside, puts_beside, puts_further}
-use Rattle.trie_node.proofs.Views.{on_ok}
+use Rattle.trie_shape.proofs.Views.{on_ok}
 use Rattle.trie_node.proofs.Words.{word_is_small}
 use Rattle.trie_node.proofs.put.+split.Goals as goal
 
@@ -80,7 +80,6 @@ add_leaf-requires-clause-place g t c =
     let d = c.digit-old_digit in
     let e = c.digit-digit in
     let apart : a.old_path.0 ≢ path k = λ same. c.requires.apart (same ∙ sym c.requires.path) in
-    let here = ap (λ w. digit w a.level) (sym c.requires.path) ∙ sym e.ensures.value in
     let there = sym d.ensures.value in
     let es = entries t0 in
     let ne : e.result ≢ d.result = λ same. c.if-old_digit-digit.false (sym same) in

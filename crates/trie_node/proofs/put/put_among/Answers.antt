@@ -2,11 +2,11 @@ use Rattle.std.proofs.Common.{◌≡◌, ◌<◌, arith, length, get_or, Some, m
 use Rattle.std.specs.FinMap.Entries.{put}
 use Rattle.std.proofs.lemmas.Bool.{eqb-true}
 use Rattle.std.proofs.lemmas.List.{length-map, get_or-map}
-use Rattle.trie_node.specs.Outline.{stamp_of}
-use Rattle.trie_node.specs.Tree.{bucket, KeysHaveWord, IsTrie}
-use Rattle.trie_node.specs.View.{tree, pair_values}
+use Rattle.trie_shape.specs.Outline.{stamp_of}
+use Rattle.trie_shape.specs.Tree.{bucket, KeysHaveWord, IsTrie}
+use Rattle.trie_shape.specs.View.{tree, pair_values}
 use Rattle.trie_node.specs.Writes.{Writes}
-use Rattle.trie_node.proofs.Views.{on_ok}
+use Rattle.trie_shape.proofs.Views.{on_ok}
 use Rattle.trie_node.proofs.Words.{word_of_found, word_of_first, puts_in_word}
 use Rattle.trie_node.proofs.put.put_among.Goals as goal
 

@@ -1,7 +1,7 @@
 use Rattle.std.proofs.Common.{◌≡◌, map, length, sym, ap, ◌∙◌}
 use Rattle.std.proofs.lemmas.List.{length-map}
-use Rattle.trie_node.specs.Tree.{bucket}
-use Rattle.trie_node.specs.View.{pair_values}
+use Rattle.trie_shape.specs.Tree.{bucket}
+use Rattle.trie_shape.specs.View.{pair_values}
 use Rattle.trie_node.proofs.Words.{put_only}
 use Rattle.trie_node.proofs.put.replace_value.Goals as goal
 

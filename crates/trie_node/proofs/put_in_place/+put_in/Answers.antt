@@ -1,22 +1,22 @@
-use Rattle.std.proofs.Common.{rules, ◌≡◌, [], ◌∷◌, option_map, ◌+◌, ◌-◌, ◌*◌, ◌<◌, ◌^◌, ◌%◌, map, refl, sym, ap, ◌∙◌, subst, arith, length, set, bit_or, true≢false}
+use Rattle.std.proofs.Common.{rules, ◌≡◌, [], ◌∷◌, option_map, ◌+◌, ◌-◌, ◌*◌, ◌<◌, ◌^◌, ◌%◌, map, refl, sym, ap, ◌∙◌, subst, arith, length, bit_or, true≢false}
 use mathlib.Core.Bool.{false≢true}
 use Rattle.std.specs.Arc.{arc_value}
 use Rattle.std.specs.List.{insert}
 use Rattle.std.specs.FinMap.{find}
-use Rattle.std.specs.Int.RustNames.{count_ones}
 use Rattle.std.proofs.lemmas.List.{map-set}
 use Rattle.std.proofs.lemmas.Result.{on_err_weaker}
 use Rattle.std.proofs.Math.Seq.{map-set_same}
-use Rattle.trie_node.specs.Tree.{IsTrie, KeysHaveWord, branch, bucket, trees, entries}
+use Rattle.trie_shape.specs.Tree.{IsTrie, KeysHaveWord, branch, bucket, trees, entries}
 use Rattle.trie_node.specs.PutInPlace.{is_refusable}
-use Rattle.trie_node.specs.View.{tree, branch_of, pair_values}
+use Rattle.trie_shape.specs.View.{tree, branch_of, pair_values}
 use Rattle.trie_node.specs.Writes.{KeysAgree}
-use Rattle.trie_node.proofs.Divides.{trie_fits}
+use Rattle.trie_shape.proofs.Divides.{trie_fits}
 use Rattle.trie_node.proofs.Placing.{puts_leaf}
 use Rattle.trie_node.proofs.Standing.{at_err, puts_equal, when_not, when_not_not}
 use Rattle.trie_node.proofs.Taken.{equal_of_index}
-use Rattle.trie_node.proofs.Views.{on_ok, tree-Branch}
-use Rattle.trie_node.proofs.Ways.{turn, gap_within, within, absent, way, leaf_added, agree_below, child_put}
+use Rattle.trie_shape.proofs.Views.{on_ok, tree-Branch}
+use Rattle.trie_shape.proofs.Ways.{turn, gap_within, within, absent, way}
+use Rattle.trie_node.proofs.PutsBelow.{leaf_added, agree_below, child_put}
 use Rattle.trie_node.proofs.put_in_place.+put_in.Goals as goal
 
 pub put_in_branch-returns-then-not-holds_of_absent-clause-ok :
@@ -182,7 +182,6 @@ put_in_at-returns-in-Some-clause-ok g t c =
 pub put_in_at-returns-in-Some-clause-due : goal.put_in_at-returns-in-Some-clause-due
 put_in_at-returns-in-Some-clause-due g t c =
     let R = g.K.Ord.cmp in
-    let path = g.K.PathKey.path_of in
     let a = c.args in
     let m = c.in-Branch in
     let below = c.in-Some.ensures.value ∙ ap arc_value m.below-is in
@@ -191,9 +190,6 @@ put_in_at-returns-in-Some-clause-due g t c =
 
 pub put_in_at-returns-in-Some-clause-err : goal.put_in_at-returns-in-Some-clause-err
 put_in_at-returns-in-Some-clause-err g t c =
-    let R = g.K.Ord.cmp in
-    let path = g.K.PathKey.path_of in
-    let a = c.args in
     let m = c.in-Branch in
     let below = c.in-Some.ensures.value ∙ ap arc_value m.below-is in
     let opened = (λ i. branch_of (m.stamp-is i).0 (below i)) ∙ sym (ap tree m.is ∙ tree-Branch m.stamp m.below) in

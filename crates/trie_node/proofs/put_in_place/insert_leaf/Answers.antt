@@ -1,6 +1,6 @@
 use Rattle.std.proofs.Common.{map, ap, ◌∙◌}
 use Rattle.std.specs.List.{insert}
-use Rattle.trie_node.specs.View.{tree}
+use Rattle.trie_shape.specs.View.{tree}
 use Rattle.trie_node.proofs.Standing.{map_insert}
 use Rattle.trie_node.proofs.put_in_place.insert_leaf.Goals as goal
 

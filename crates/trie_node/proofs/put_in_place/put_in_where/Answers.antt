@@ -1,9 +1,10 @@
 use Rattle.std.proofs.Common.{sym, ap, ◌∙◌, arith}
 use Rattle.std.proofs.lemmas.Result.{on_err_weaker}
 use Rattle.trie_node.specs.PutInPlace.{is_refusable}
-use Rattle.trie_node.specs.View.{tree}
-use Rattle.trie_node.proofs.Roots.{find_entries, root_is_trie, length_map_of, write_puts}
-use Rattle.trie_node.proofs.Views.{on_ok}
+use Rattle.trie_shape.specs.View.{tree}
+use Rattle.trie_shape.proofs.Roots.{find_entries, root_is_trie, length_map_of}
+use Rattle.trie_node.proofs.RootWrites.{write_puts}
+use Rattle.trie_shape.proofs.Views.{on_ok}
 use Rattle.trie_node.proofs.put_in_place.put_in_where.Goals as goal
 
 pub put_in_at-requires : goal.put_in_at-requires

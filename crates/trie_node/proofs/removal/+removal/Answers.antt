@@ -1,13 +1,12 @@
-use Rattle.std.proofs.Common.{◌&&◌, is_some, rules, ◌≡◌, ◌+◌, ◌-◌, ◌*◌, ◌%◌, ◌^◌, arith, ap, sym, ◌∙◌, subst, length, map, set}
-use Rattle.std.specs.FinMap.{find}
+use Rattle.std.proofs.Common.{◌&&◌, is_some, rules, ◌≡◌, ◌+◌, arith, ap, sym, ◌∙◌, subst, map}
 use Rattle.std.proofs.lemmas.Result.{on_err_weaker}
-use Rattle.trie_node.specs.Tree.{IsTrie, branch, bucket, trees, entries}
-use Rattle.trie_node.specs.View.{tree, branch_of, pair_values}
-use Rattle.trie_node.specs.Removals.{Removes, drawn_up, is_removable}
+use Rattle.trie_shape.specs.Tree.{IsTrie, bucket, entries}
+use Rattle.trie_shape.specs.View.{tree, pair_values}
+use Rattle.trie_node.specs.Removals.{Removes, is_removable}
 use Rattle.trie_node.proofs.Removing.{absent_below, nothing_below, size_below, gone_below, left_below}
 use Rattle.trie_node.proofs.Standing.{at_err}
-use Rattle.trie_node.proofs.Views.{on_ok, tree-matched}
-use Rattle.trie_node.proofs.Ways.{turn, within, way}
+use Rattle.trie_shape.proofs.Views.{on_ok, tree-matched}
+use Rattle.trie_shape.proofs.Ways.{turn, within, way}
 use Rattle.trie_node.proofs.removal.+removal.Goals as goal
 
 pub remove_below-returns-then-not-has_digit-clause-ok : goal.remove_below-returns-then-not-has_digit-clause-ok
@@ -140,7 +139,6 @@ remove_at-returns-in-Branch-clause-ok g t c =
 pub remove_at-returns-in-Branch-clause-due : goal.remove_at-returns-in-Branch-clause-due
 remove_at-returns-in-Branch-clause-due g t c =
     let R = g.K.Ord.cmp in
-    let path = g.K.PathKey.path_of in
     let a = c.args in
     let b = c.in-Branch in
     let is = tree-matched a.node.now b.stamp b.below c.deref.result.now b.is c.deref.ensures in

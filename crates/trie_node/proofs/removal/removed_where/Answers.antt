@@ -1,7 +1,8 @@
 use Rattle.std.proofs.Common.{◌&&◌, is_some, sym, ap, ◌∙◌, subst}
-use Rattle.trie_node.specs.View.{tree}
+use Rattle.trie_shape.specs.View.{tree}
 use Rattle.trie_node.specs.Removals.{Removes}
-use Rattle.trie_node.proofs.Roots.{find_entries, root_is_trie, write_removes}
+use Rattle.trie_shape.proofs.Roots.{find_entries, root_is_trie}
+use Rattle.trie_node.proofs.RootWrites.{write_removes}
 use Rattle.trie_node.proofs.Standing.{at_err}
 use Rattle.trie_node.proofs.removal.removed_where.Goals as goal
 

@@ -1,10 +1,10 @@
 use Rattle.std.proofs.Common.{is_some, sym, ap, ◌∙◌}
-use Rattle.trie_node.specs.Map.{value_at}
-use Rattle.trie_node.specs.Tree.{entries}
-use Rattle.trie_node.specs.View.{tree}
-use Rattle.trie_node.specs.Roots.{map_of}
+use Rattle.trie_shape.specs.Map.{value_at}
+use Rattle.trie_shape.specs.Tree.{entries}
+use Rattle.trie_shape.specs.View.{tree}
+use Rattle.trie_shape.specs.Roots.{map_of}
 use Rattle.trie_node.proofs.Taken.{absent_of, without_absent}
-use Rattle.trie_node.proofs.Views.{on_ok}
+use Rattle.trie_shape.proofs.Views.{on_ok}
 use Rattle.trie_node.proofs.removal.with_removed.Goals as goal
 
 pub returns-in-None-clause-map : goal.returns-in-None-clause-map

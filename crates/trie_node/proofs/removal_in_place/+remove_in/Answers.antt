@@ -1,22 +1,18 @@
-use Rattle.std.proofs.Common.{is_some, rules, ◌≡◌, option_map, ◌+◌, ◌-◌, ◌*◌, ◌<◌, ◌^◌, ◌%◌, map, refl, sym, ap, ◌∙◌, subst, arith, set}
+use Rattle.std.proofs.Common.{is_some, rules, option_map, ◌+◌, map, refl, sym, ap, ◌∙◌, subst, arith}
 use Rattle.std.specs.Arc.{arc_value}
-use Rattle.std.specs.List.{remove}
-use Rattle.std.specs.Int.{bit_not, w32}
-use Rattle.std.specs.Int.RustNames.{bit_and}
 use Rattle.std.specs.FinMap.{find}
-use Rattle.std.proofs.lemmas.List.{map-set, length-set}
-use Rattle.std.proofs.lemmas.Result.{on_err_weaker}
+use Rattle.std.proofs.lemmas.List.{length-set}
 use Rattle.std.proofs.Math.Seq.{map-set_same}
-use Rattle.trie_node.specs.Tree.{IsTrie, branch, bucket, trees, entries}
-use Rattle.trie_node.specs.View.{tree, branch_of, pair_values}
-use Rattle.trie_node.specs.Removals.{drawn_up}
+use Rattle.trie_shape.specs.Tree.{IsTrie, branch, bucket, trees, entries}
+use Rattle.trie_shape.specs.View.{tree, branch_of, pair_values}
 use Rattle.trie_node.specs.RemovalInPlace.{TakesOut, TakesInside}
-use Rattle.trie_node.specs.declared.node.Node.TheVariants.{Branch}
+use Rattle.trie_shape.specs.declared.node.Node.TheVariants.{Branch}
 use Rattle.trie_node.specs.declared.removal_in_place.TakenInside.TheVariants.{Done}
 use Rattle.trie_node.proofs.Standing.{at_err, takes_equal}
-use Rattle.trie_node.proofs.Removing.{absent_below, nothing_below, size_below, gone_below, left_below}
-use Rattle.trie_node.proofs.Views.{on_ok, tree-Branch}
-use Rattle.trie_node.proofs.Ways.{turn, within, way}
+use Rattle.trie_node.proofs.Removing.{absent_below, nothing_below}
+use Rattle.trie_node.proofs.RemovingInPlace.{size_where_gone, size_where_left, gone_in_place, left_in_place}
+use Rattle.trie_shape.proofs.Views.{on_ok, tree-Branch}
+use Rattle.trie_shape.proofs.Ways.{turn, within, way}
 use Rattle.trie_node.proofs.removal_in_place.+remove_in.Goals as goal
 
 pub remove_in_branch-returns-then-not-has_digit-clause-ok : goal.remove_in_branch-returns-then-not-has_digit-clause-ok
@@ -60,9 +56,6 @@ remove_in_branch-returns-in_err-found-clause-due g t c =
     let a = c.args in
     let d = c.digit-digit in
     let u = turn g.K.Ord.cmp g.K.PathKey.path_of a.level a.below.now c.requires.trie c.requires.path d.ensures.value d.ensures.small in
-    let at = c.place-at.result in
-    let child = c.index_mut-child.result.now in
-    let node = c.remove_in_at.new.node in
     let w = way u g.met.K.PathKey.exact (sym c.has_digit.ensures ∙ c.if-not-has_digit.false) c.place-at.ensures c.index_mut-child.ensures.value in
     at_err c.from_residual.result (ap is_some w.found ∙ c.in_err-found.ensures.due)
 
@@ -94,92 +87,48 @@ remove_in_branch-lose_child-requires-clause-size g t c =
     let a = c.args in
     let d = c.digit-digit in
     let u = turn g.K.Ord.cmp g.K.PathKey.path_of a.level a.below.now c.requires.trie c.requires.path d.ensures.value d.ensures.small in
-    let at = c.place-at.result in
-    let child = c.index_mut-child.result.now in
-    let node = c.remove_in_at.new.node in
     let w = way u g.met.K.PathKey.exact (sym c.has_digit.ensures ∙ c.if-not-has_digit.false) c.place-at.ensures c.index_mut-child.ensures.value in
-    let s = a.new_stamp.0 in
-    let holds = g.C.Condition.holds a.condition.now in
-    let h = subst (λ r. TakesOut g.K.Ord.cmp g.K.PathKey.path_of (a.level + 1) s a.key.now holds (tree child) r (tree node)) c.in-Gone.is c.in_ok-found.ensures.ok in
-    size_below w g.met.K.Ord.total g.met.K.PathKey.exact a.stamp.now.0 s holds (arc_value c.in-Gone.value) h.0
+    size_where_gone w g.met.K.Ord.total g.met.K.PathKey.exact a.stamp.now.0 a.new_stamp.0 (g.C.Condition.holds a.condition.now) c.remove_in_at.new.node _ c.in_ok-found.ensures.ok c.in-Gone.is
 
 pub remove_in_branch-count_out-requires : goal.remove_in_branch-count_out-requires
 remove_in_branch-count_out-requires g t c =
     let a = c.args in
     let d = c.digit-digit in
     let u = turn g.K.Ord.cmp g.K.PathKey.path_of a.level a.below.now c.requires.trie c.requires.path d.ensures.value d.ensures.small in
-    let at = c.place-at.result in
-    let child = c.index_mut-child.result.now in
-    let node = c.remove_in_at.new.node in
     let w = way u g.met.K.PathKey.exact (sym c.has_digit.ensures ∙ c.if-not-has_digit.false) c.place-at.ensures c.index_mut-child.ensures.value in
-    let s = a.new_stamp.0 in
-    let holds = g.C.Condition.holds a.condition.now in
-    let h = subst (λ r. TakesOut g.K.Ord.cmp g.K.PathKey.path_of (a.level + 1) s a.key.now holds (tree child) r (tree node)) c.in-Left.is c.in_ok-found.ensures.ok in
-    record { size = size_below w g.met.K.Ord.total g.met.K.PathKey.exact a.stamp.now.0 s holds (arc_value c.in-Left.value) h.taken }
+    record { size = size_where_left w g.met.K.Ord.total g.met.K.PathKey.exact a.stamp.now.0 a.new_stamp.0 (g.C.Condition.holds a.condition.now) c.remove_in_at.new.node _ c.in_ok-found.ensures.ok c.in-Left.is }
 
 pub remove_in_branch-returns-in-Some-clause-ok : goal.remove_in_branch-returns-in-Some-clause-ok
 remove_in_branch-returns-in-Some-clause-ok g t c =
     let a = c.args in
     let d = c.digit-digit in
     let u = turn g.K.Ord.cmp g.K.PathKey.path_of a.level a.below.now c.requires.trie c.requires.path d.ensures.value d.ensures.small in
-    let at = c.place-at.result in
-    let child = c.index_mut-child.result.now in
-    let node = c.remove_in_at.new.node in
     let w = way u g.met.K.PathKey.exact (sym c.has_digit.ensures ∙ c.if-not-has_digit.false) c.place-at.ensures c.index_mut-child.ensures.value in
-    let s = a.new_stamp.0 in
-    let holds = g.C.Condition.holds a.condition.now in
-    let b = a.below.now in
-    let h = subst (λ r. TakesOut g.K.Ord.cmp g.K.PathKey.path_of (a.level + 1) s a.key.now holds (tree child) r (tree node)) c.in-Gone.is c.in_ok-found.ensures.ok in
-    gone_below w g.met.K.Ord.total g.met.K.PathKey.exact a.stamp.now.0 s holds (arc_value c.in-Gone.value) h.0 h.1 _
-    (c.in-Some.ensures.gives ∙ ap (λ xs. drawn_up a.level (branch s (b.size - 1) (bit_and b.bitmap (bit_not w32 (1 * 2 ^ d.result % 2 ^ 32))) (trees (remove xs at)))) (map-set_same tree b.children.items at node child (h.3 ∙ ap tree c.index_mut-child.ensures.value)))
+    gone_in_place w g.met.K.Ord.total g.met.K.PathKey.exact a.stamp.now.0 a.new_stamp.0 (g.C.Condition.holds a.condition.now) c.remove_in_at.new.node _ c.in_ok-found.ensures.ok c.in-Gone.is _ c.in-Some.ensures.gives
 
 pub remove_in_branch-returns-in-None-clause-ok : goal.remove_in_branch-returns-in-None-clause-ok
 remove_in_branch-returns-in-None-clause-ok g t c =
     let a = c.args in
     let d = c.digit-digit in
     let u = turn g.K.Ord.cmp g.K.PathKey.path_of a.level a.below.now c.requires.trie c.requires.path d.ensures.value d.ensures.small in
-    let at = c.place-at.result in
-    let child = c.index_mut-child.result.now in
-    let node = c.remove_in_at.new.node in
     let w = way u g.met.K.PathKey.exact (sym c.has_digit.ensures ∙ c.if-not-has_digit.false) c.place-at.ensures c.index_mut-child.ensures.value in
-    let s = a.new_stamp.0 in
-    let holds = g.C.Condition.holds a.condition.now in
-    let b = a.below.now in
-    let h = subst (λ r. TakesOut g.K.Ord.cmp g.K.PathKey.path_of (a.level + 1) s a.key.now holds (tree child) r (tree node)) c.in-Gone.is c.in_ok-found.ensures.ok in
-    gone_below w g.met.K.Ord.total g.met.K.PathKey.exact a.stamp.now.0 s holds (arc_value c.in-Gone.value) h.0 h.1 _
-    (c.in-None.ensures.stays ∙ ap (λ xs. drawn_up a.level (branch s (b.size - 1) (bit_and b.bitmap (bit_not w32 (1 * 2 ^ d.result % 2 ^ 32))) (trees (remove xs at)))) (map-set_same tree b.children.items at node child (h.3 ∙ ap tree c.index_mut-child.ensures.value)))
+    gone_in_place w g.met.K.Ord.total g.met.K.PathKey.exact a.stamp.now.0 a.new_stamp.0 (g.C.Condition.holds a.condition.now) c.remove_in_at.new.node _ c.in_ok-found.ensures.ok c.in-Gone.is _ c.in-None.ensures.stays
 
 pub remove_in_branch-returns-in-Some-count_out-clause-ok : goal.remove_in_branch-returns-in-Some-count_out-clause-ok
 remove_in_branch-returns-in-Some-count_out-clause-ok g t c =
     let a = c.args in
     let d = c.digit-digit in
     let u = turn g.K.Ord.cmp g.K.PathKey.path_of a.level a.below.now c.requires.trie c.requires.path d.ensures.value d.ensures.small in
-    let at = c.place-at.result in
-    let child = c.index_mut-child.result.now in
-    let node = c.remove_in_at.new.node in
     let w = way u g.met.K.PathKey.exact (sym c.has_digit.ensures ∙ c.if-not-has_digit.false) c.place-at.ensures c.index_mut-child.ensures.value in
-    let s = a.new_stamp.0 in
-    let holds = g.C.Condition.holds a.condition.now in
-    let b = a.below.now in
-    let h = subst (λ r. TakesOut g.K.Ord.cmp g.K.PathKey.path_of (a.level + 1) s a.key.now holds (tree child) r (tree node)) c.in-Left.is c.in_ok-found.ensures.ok in
-    left_below w g.met.K.Ord.total g.met.K.PathKey.exact a.stamp.now.0 s holds (arc_value c.in-Left.value) (tree node) h _
-    (c.in-Some-count_out.ensures.gives ∙ ap (λ xs. drawn_up a.level (branch s (b.size - 1) b.bitmap (trees xs))) (map-set tree b.children.items at node))
+    left_in_place w g.met.K.Ord.total g.met.K.PathKey.exact a.stamp.now.0 a.new_stamp.0 (g.C.Condition.holds a.condition.now) c.remove_in_at.new.node _ c.in_ok-found.ensures.ok c.in-Left.is _ c.in-Some-count_out.ensures.gives
 
 pub remove_in_branch-returns-in-None-count_out-clause-ok : goal.remove_in_branch-returns-in-None-count_out-clause-ok
 remove_in_branch-returns-in-None-count_out-clause-ok g t c =
     let a = c.args in
     let d = c.digit-digit in
     let u = turn g.K.Ord.cmp g.K.PathKey.path_of a.level a.below.now c.requires.trie c.requires.path d.ensures.value d.ensures.small in
-    let at = c.place-at.result in
-    let child = c.index_mut-child.result.now in
-    let node = c.remove_in_at.new.node in
     let w = way u g.met.K.PathKey.exact (sym c.has_digit.ensures ∙ c.if-not-has_digit.false) c.place-at.ensures c.index_mut-child.ensures.value in
-    let s = a.new_stamp.0 in
-    let holds = g.C.Condition.holds a.condition.now in
-    let b = a.below.now in
-    let h = subst (λ r. TakesOut g.K.Ord.cmp g.K.PathKey.path_of (a.level + 1) s a.key.now holds (tree child) r (tree node)) c.in-Left.is c.in_ok-found.ensures.ok in
-    left_below w g.met.K.Ord.total g.met.K.PathKey.exact a.stamp.now.0 s holds (arc_value c.in-Left.value) (tree node) h _
-    (c.in-None-count_out.ensures.stays ∙ ap (λ xs. drawn_up a.level (branch s (b.size - 1) b.bitmap (trees xs))) (map-set tree b.children.items at node))
+    left_in_place w g.met.K.Ord.total g.met.K.PathKey.exact a.stamp.now.0 a.new_stamp.0 (g.C.Condition.holds a.condition.now) c.remove_in_at.new.node _ c.in_ok-found.ensures.ok c.in-Left.is _ c.in-None-count_out.ensures.stays
 
 pub remove_in_at-remove_in_branch-requires : goal.remove_in_at-remove_in_branch-requires
 remove_in_at-remove_in_branch-requires g t c κs inside =
@@ -223,11 +172,6 @@ remove_in_at-returns-in-GivesWay-clause-ok g t c =
 
 pub remove_in_at-returns-in_err-removed-in-Branch-clause-err : goal.remove_in_at-returns-in_err-removed-in-Branch-clause-err
 remove_in_at-returns-in_err-removed-in-Branch-clause-err g t c =
-    let R = g.K.Ord.cmp in
-    let path = g.K.PathKey.path_of in
-    let a = c.args in
-    let k = a.key.now in
-    let holds = g.C.Condition.holds a.condition.now in
     let m = c.in-Branch in
     let n = c.remove_in_branch.new in
     let below = c.in-Some.ensures.value ∙ ap arc_value m.below-is in
@@ -238,15 +182,11 @@ remove_in_at-returns-in_err-removed-in-Branch-clause-err g t c =
 pub remove_in_at-returns-in_err-removed-in-Branch-clause-due : goal.remove_in_at-returns-in_err-removed-in-Branch-clause-due
 remove_in_at-returns-in_err-removed-in-Branch-clause-due g t c =
     let R = g.K.Ord.cmp in
-    let path = g.K.PathKey.path_of in
     let a = c.args in
     let k = a.key.now in
-    let holds = g.C.Condition.holds a.condition.now in
     let m = c.in-Branch in
-    let n = c.remove_in_branch.new in
     let below = c.in-Some.ensures.value ∙ ap arc_value m.below-is in
     let opened = (λ i. branch_of (m.old-is i).0 (below i)) ∙ sym (ap tree m.is ∙ tree-Branch m.old m.below) in
-    let made = tree-Branch n.stamp (record m.below { value = n.below }) in
     at_err c.from_residual.result (ap (λ x. is_some (find R k (entries x))) (sym opened) ∙ c.in_err-removed-in-Branch.ensures.due)
 
 pub remove_in_at-returns-in-Some-get_mut-clause-ok : goal.remove_in_at-returns-in-Some-get_mut-clause-ok

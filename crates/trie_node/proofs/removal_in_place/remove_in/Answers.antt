@@ -1,8 +1,8 @@
 use Rattle.std.proofs.Common.{◌&&◌, true, true≢false, sym, ap, ◌∙◌}
-use Rattle.trie_node.specs.Map.{value_at}
-use Rattle.trie_node.specs.Tree.{entries}
-use Rattle.trie_node.specs.View.{tree}
-use Rattle.trie_node.specs.Roots.{map_of}
+use Rattle.trie_shape.specs.Map.{value_at}
+use Rattle.trie_shape.specs.Tree.{entries}
+use Rattle.trie_shape.specs.View.{tree}
+use Rattle.trie_shape.specs.Roots.{map_of}
 use Rattle.trie_node.proofs.Standing.{either}
 use Rattle.trie_node.proofs.Taken.{absent_of, without_absent}
 use Rattle.trie_node.proofs.removal_in_place.remove_in.Goals as goal

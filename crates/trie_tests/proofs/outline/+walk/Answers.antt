@@ -1,6 +1,6 @@
 use Rattle.std.proofs.Common.{◌<◌, length, arith}
-use Rattle.trie_node.specs.Outline.{children}
-use Rattle.trie_node.specs.View.{tree}
+use Rattle.trie_shape.specs.Outline.{children}
+use Rattle.trie_shape.specs.View.{tree}
 use Rattle.trie_tests.proofs.outline.+walk.Goals as goal
 
 pub walk-requires : goal.walk-requires

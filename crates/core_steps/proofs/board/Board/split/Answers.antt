@@ -1,6 +1,5 @@
-use Rattle.std.proofs.Common.{◌≡◌, ◌<◌, length, set, sym, subst}
+use Rattle.std.proofs.Common.{◌<◌, length, set, sym, subst}
 use Rattle.std.specs.Prelude.{All}
-use Rattle.trie_node.specs.Map.{Map}
 use Rattle.splitter.specs.Cuts.{cut_point}
 use Rattle.core_steps.specs.Desks.{HasPieces, Leaves, splitting_turn}
 use Rattle.core_steps.specs.Views.{turn_of}

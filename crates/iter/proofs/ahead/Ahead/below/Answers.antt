@@ -1,5 +1,5 @@
 use Rattle.std.proofs.Common.{◌+◌, ◌-◌, length, arith, ap, sym, subst}
-use Rattle.trie_node.specs.View.{tree}
+use Rattle.trie_shape.specs.View.{tree}
 use Rattle.iter.specs.Stacks.{Descend}
 use Rattle.iter.specs.Subtries.{AllStand}
 use Rattle.iter.proofs.Subtries.{children_stand}

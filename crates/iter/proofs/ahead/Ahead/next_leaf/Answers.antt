@@ -1,8 +1,8 @@
 use Rattle.std.proofs.Common.{◌+◌, ◌-◌, [], ◌∷◌, length, refl, sym, ap, ◌∙◌, subst, arith, length-append}
 use Rattle.std.proofs.lemmas.List.{length-map, take_all}
 use Rattle.std.specs.Int.RustNames.{count_ones}
-use Rattle.trie_node.specs.Outline.{children}
-use Rattle.trie_node.specs.View.{pair_values, tree}
+use Rattle.trie_shape.specs.Outline.{children}
+use Rattle.trie_shape.specs.View.{pair_values, tree}
 use Rattle.iter.specs.Subtries.{AllStand, nodes_of_all, pairs_of_all}
 use Rattle.iter.specs.Stacks.{IsWithin, trees_of}
 use Rattle.iter.specs.declared.ahead.Ahead.{Ahead}

@@ -1,5 +1,5 @@
 use Rattle.std.proofs.Common.{map, ap, ◌∙◌, arith}
-use Rattle.trie_node.specs.View.{pair_values}
+use Rattle.trie_shape.specs.View.{pair_values}
 use Rattle.iter.specs.Subtries.{nodes_of_all, pairs_of_all}
 use Rattle.iter.specs.Stacks.{subtries}
 use Rattle.iter.specs.Walks.{Walk}

@@ -1,8 +1,8 @@
 use Rattle.std.proofs.Common.{rules, ◌≡◌, ◌+◌, ◌*◌, ◌-◌, ◌/◌, ℕ, [], ◌∷◌, Some, length, get_or, sym, ap, ◌∙◌, subst, arith}
 use Rattle.hash_path.specs.Digits.{word_bits, breadth}
-use Rattle.trie_node.specs.Map.{Map, IsMap}
-use Rattle.trie_node.specs.Tree.{digits_of}
-use Rattle.trie_node.specs.View.{tree}
+use Rattle.trie_shape.specs.Map.{Map, IsMap}
+use Rattle.trie_shape.specs.Tree.{digits_of}
+use Rattle.trie_shape.specs.View.{tree}
 use Rattle.iter.specs.Intervals.{part}
 use Rattle.iter.specs.declared.interval.Interval.{Interval}
 use Rattle.splitter.specs.Cuts.{middle_of, words_of}

@@ -1,10 +1,10 @@
 use Rattle.std.proofs.Common.{◌≡◌, ◌+◌, ◌*◌, ◌<◌, [], ◌∷◌, length, get_or, take, drop, sym, ap, ◌∙◌, subst, arith}
 use Rattle.std.specs.Int.RustNames.{count_ones}
 use Rattle.hash_path.specs.Digits.{word_bits, breadth}
-use Rattle.trie_node.specs.Map.{IsMap}
-use Rattle.trie_node.specs.Outline.{children}
-use Rattle.trie_node.specs.Tree.{digits_of, entries}
-use Rattle.trie_node.specs.View.{tree}
+use Rattle.trie_shape.specs.Map.{IsMap}
+use Rattle.trie_shape.specs.Outline.{children}
+use Rattle.trie_shape.specs.Tree.{digits_of, entries}
+use Rattle.trie_shape.specs.View.{tree}
 use Rattle.iter.specs.Intervals.{part}
 use Rattle.iter.specs.Subtries.{pairs_of_all}
 use Rattle.splitter.specs.Places.{IsPlace}

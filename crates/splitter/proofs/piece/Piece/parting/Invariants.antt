@@ -1,5 +1,5 @@
-use Rattle.trie_node.specs.Counts.{node_count}
-use Rattle.trie_node.specs.View.{tree}
+use Rattle.trie_shape.specs.Counts.{node_count}
+use Rattle.trie_shape.specs.View.{tree}
 use Rattle.splitter.specs.Places.{IsPlace}
 use Rattle.splitter.proofs.piece.Piece.parting.Given as goal
 

@@ -1,4 +1,4 @@
-use Rattle.trie_node.specs.View.{tree}
+use Rattle.trie_shape.specs.View.{tree}
 use Rattle.trie_tests.proofs.Bounds.{kept_holds, put_holds}
 use Rattle.trie_tests.proofs.held.Held.put_in.Goals as goal
 

@@ -1,4 +1,4 @@
-use Rattle.trie_node.specs.View.{tree}
+use Rattle.trie_shape.specs.View.{tree}
 use Rattle.trie_tests.proofs.Bounds.{kept_holds, removal_holds}
 use Rattle.trie_tests.proofs.held.Held.remove_in.Goals as goal
 

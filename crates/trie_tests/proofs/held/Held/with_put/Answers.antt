@@ -1,4 +1,4 @@
-use Rattle.trie_node.specs.View.{tree}
+use Rattle.trie_shape.specs.View.{tree}
 use Rattle.trie_tests.proofs.Bounds.{put_holds}
 use Rattle.trie_tests.proofs.held.Held.with_put.Goals as goal
 

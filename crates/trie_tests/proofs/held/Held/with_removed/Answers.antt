@@ -1,4 +1,4 @@
-use Rattle.trie_node.specs.View.{tree}
+use Rattle.trie_shape.specs.View.{tree}
 use Rattle.trie_tests.proofs.Bounds.{removal_holds}
 use Rattle.trie_tests.proofs.held.Held.with_removed.Goals as goal
 

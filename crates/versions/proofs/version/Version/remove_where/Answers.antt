@@ -1,8 +1,8 @@
 use Rattle.std.proofs.Common.{◌≤◌, sym, subst, length}
 use Rattle.trie_node.specs.Changes.{IsRemoval}
-use Rattle.trie_node.specs.Roots.{map_of, word_of}
-use Rattle.trie_node.specs.Shape.{Restamps, nodes}
-use Rattle.trie_node.specs.View.{tree}
+use Rattle.trie_shape.specs.Roots.{map_of, word_of}
+use Rattle.trie_shape.specs.Shape.{Restamps, nodes}
+use Rattle.trie_shape.specs.View.{tree}
 use Rattle.versions.specs.Map.{IsMap}
 use Rattle.versions.proofs.Maps.{without_fits}
 use Rattle.versions.proofs.version.Version.remove_where.Goals as goal

@@ -1,0 +1,156 @@
+-- The open jobs of a core, in a list and as a map from their numbers.
+use Rattle.std.proofs.Common.{◌≡◌, ℕ, zero, suc, ◌<◌, Bool, true, false, not, ◌&&◌, T, cond, List, [], ◌∷◌, ◌++◌, length, filter, get_or, set, Option, Some, is_some, refl, ap, sym, ◌∙◌, arith}
+use Rattle.std.specs.Prelude.{option_map, unwrap_or}
+use Rattle.std.proofs.lemmas.Option.{slice_get_read}
+use Rattle.std.proofs.lemmas.Float.{T_from_true}
+use Rattle.std.specs.declared.cmp.Ordering.{Ordering}
+use Rattle.std.specs.declared.cmp.Ordering.TheVariants.{Less, Equal, Greater}
+use Rattle.std.specs.Ordering.{nat_cmp, eq_by_cmp, is_lt}
+use Rattle.std.specs.Cmp.{nat_cmp_total, eq_by_cmp_equiv, nat_cmp_is}
+use Rattle.std.specs.FinMap.Entries.{by_order, below_all, is_sorted, is_sorted-put, is_sorted-where_key}
+use Rattle.std.proofs.lemmas.Bool.Decides.{nat_tests}
+use Rattle.versions.specs.Map.{Map, IsMap, value_at, with_pair, without, is_other}
+use Rattle.core_steps.specs.Boards.{Board}
+use Rattle.core_steps.specs.Desks.{board}
+use Rattle.core_steps.specs.Posts.{Posted, IsPlaceOf, post_of, posts_of, shown, boards_of}
+use Rattle.core_steps.specs.declared.post.Post.{Post}
+use Rattle.core_steps.proofs.Stations.{map_append}
+
+-- how numbers compare
+pub above : (n m : ℕ) → m < n → nat_cmp n m ≡ Greater
+above n m h = sym (nat_cmp_is n m Greater h)
+
+pub tied : (n m : ℕ) → n ≡ m → nat_cmp n m ≡ Equal
+tied n m h = sym (nat_cmp_is n m Equal h)
+
+pub apart_above : (n m : ℕ) → m < n → eq_by_cmp nat_cmp n m ≡ false
+apart_above n m h = grind (arith, nat_tests, h)
+
+pub same_ties : (n m : ℕ) → n ≡ m → eq_by_cmp nat_cmp n m ≡ true
+same_ties n m h = grind (arith, nat_tests, h)
+
+less_is : (n m : ℕ) → is_lt (nat_cmp n m) ≡ true → n < m
+less_is n m h = grind (arith, nat_tests, h)
+
+both_parts : (a b : Bool) → (a && b) ≡ true → (a ≡ true) × (b ≡ true)
+both_parts true b h = (refl, h)
+both_parts false b h = cc
+
+-- numbered values stay in order where one is put or taken away
+true_of : (b : Bool) → T b → b ≡ true
+true_of true h = refl
+true_of false h = absurd h
+
+pub put_sorted : {X : Type 0} (m : Map ℕ X) (j : ℕ) (x : X) → IsMap nat_cmp m → IsMap nat_cmp (with_pair nat_cmp m j x)
+put_sorted m j x sorted = true_of (is_sorted nat_cmp (with_pair nat_cmp m j x)) (is_sorted-put nat_cmp nat_cmp_total j x m (T_from_true (is_sorted nat_cmp m) sorted))
+
+pub less_sorted : {X : Type 0} (m : Map ℕ X) (j : ℕ) → IsMap nat_cmp m → IsMap nat_cmp (without nat_cmp m j)
+less_sorted m j sorted = true_of (is_sorted nat_cmp (without nat_cmp m j)) (is_sorted-where_key nat_cmp (is_other nat_cmp j) m (T_from_true (is_sorted nat_cmp m) sorted))
+
+module _ {K V Q P : Type 0} where
+  -- 1. The boards of the open jobs.
+  pub shown_put : (m : Map ℕ (Posted K V Q P)) (n : ℕ) (x : Posted K V Q P) → boards_of (with_pair nat_cmp m n x) ≡ with_pair nat_cmp (boards_of m) n (board x.desks)
+  shown_put [] n x = refl
+  shown_put (e ∷ m) n x = step (nat_cmp n e.0) (shown_put m n x)
+    where
+      step : (o : Ordering) → boards_of (with_pair nat_cmp m n x) ≡ with_pair nat_cmp (boards_of m) n (board x.desks) → boards_of (by_order o ((n, x) ∷ e ∷ m) ((e.0, x) ∷ m) (e ∷ with_pair nat_cmp m n x)) ≡ by_order o ((n, board x.desks) ∷ shown e ∷ boards_of m) ((e.0, board x.desks) ∷ boards_of m) (shown e ∷ with_pair nat_cmp (boards_of m) n (board x.desks))
+      step Less rest = refl
+      step Equal rest = refl
+      step Greater rest = ap (λ (r : Map ℕ Board). shown e ∷ r) rest
+
+  pub shown_without : (m : Map ℕ (Posted K V Q P)) (n : ℕ) → boards_of (without nat_cmp m n) ≡ without nat_cmp (boards_of m) n
+  shown_without [] n = refl
+  shown_without (e ∷ m) n = step (is_other nat_cmp n e.0) (shown_without m n)
+    where
+      step : (b : Bool) → boards_of (without nat_cmp m n) ≡ without nat_cmp (boards_of m) n → boards_of (cond b (e ∷ without nat_cmp m n) (without nat_cmp m n)) ≡ cond b (shown e ∷ without nat_cmp (boards_of m) n) (without nat_cmp (boards_of m) n)
+      step true rest = ap (λ (r : Map ℕ Board). shown e ∷ r) rest
+      step false rest = rest
+
+  pub shown_at : (m : Map ℕ (Posted K V Q P)) (n : ℕ) → value_at nat_cmp (boards_of m) n ≡ option_map (λ x. board x.desks) (value_at nat_cmp m n)
+  shown_at [] n = refl
+  shown_at (e ∷ m) n = step (eq_by_cmp nat_cmp n e.0) (shown_at m n)
+    where
+      step : (b : Bool) → value_at nat_cmp (boards_of m) n ≡ option_map (λ x. board x.desks) (value_at nat_cmp m n) → cond b (Some (board e.1.desks)) (value_at nat_cmp (boards_of m) n) ≡ option_map (λ x. board x.desks) (cond b (Some e.1) (value_at nat_cmp m n))
+      step true rest = refl
+      step false rest = rest
+
+  -- 2. The list of the open jobs.
+  -- whether it is another job
+  abbrev pub other_post : ℕ → Post K V Q P → Bool
+  other_post n p = not (eq_by_cmp nat_cmp p.number n)
+
+  -- to keep the other jobs is to remove the number
+  pub posts_without : (ps : List (Post K V Q P)) (n : ℕ) → posts_of (filter (other_post n) ps) ≡ without nat_cmp (posts_of ps) n
+  posts_without [] n = refl
+  posts_without (p ∷ ps) n =
+      both (other_post n p) (posts_without ps n) ∙ ap (λ (b : Bool). cond b (post_of p ∷ without nat_cmp (posts_of ps) n) (without nat_cmp (posts_of ps) n)) (ap not ((eq_by_cmp_equiv nat_cmp_total).symm p.number n))
+    where
+      both : (b : Bool) → posts_of (filter (other_post n) ps) ≡ without nat_cmp (posts_of ps) n → posts_of (cond b (p ∷ filter (other_post n) ps) (filter (other_post n) ps)) ≡ cond b (post_of p ∷ without nat_cmp (posts_of ps) n) (without nat_cmp (posts_of ps) n)
+      both true rest = ap (λ (r : Map ℕ (Posted K V Q P)). post_of p ∷ r) rest
+      both false rest = rest
+
+  below_at : (x : ℕ) (ps : List (Post K V Q P)) (k : ℕ) (d : Post K V Q P) → below_all nat_cmp x (posts_of ps) ≡ true → k < length ps → d ≡ get_or ps k d → x < d.number
+  below_at x [] k d h there read = absurd (omega (arith, there))
+  below_at x (p ∷ ps) zero d h there read = omega (arith, less_is x p.number (both_parts (is_lt (nat_cmp x p.number)) (below_all nat_cmp x (posts_of ps)) h).0, ap (λ (q : Post K V Q P). q.number) read)
+  below_at x (p ∷ ps) (suc k) d h there read = below_at x ps k d (both_parts (is_lt (nat_cmp x p.number)) (below_all nat_cmp x (posts_of ps)) h).1 (omega (arith, there)) read
+
+  -- the job at a place is the one of its number
+  pub value_here : (ps : List (Post K V Q P)) (place n : ℕ) (d : Post K V Q P) → IsMap nat_cmp (posts_of ps) → place < length ps → d ≡ get_or ps place d → d.number ≡ n
+      → value_at nat_cmp (posts_of ps) n ≡ Some (post_of d).1
+  value_here [] place n d sorted there read number = absurd (omega (arith, there))
+  value_here (p ∷ ps) zero n d sorted there read number =
+      ap (λ (b : Bool). cond b (Some (post_of p).1) (value_at nat_cmp (posts_of ps) n)) (same_ties n p.number (sym number ∙ ap (λ (q : Post K V Q P). q.number) read))
+      ∙ ap (λ (q : Post K V Q P). Some (post_of q).1) (sym read)
+  value_here (p ∷ ps) (suc k) n d sorted there read number =
+      let parts = both_parts (below_all nat_cmp p.number (posts_of ps)) (is_sorted nat_cmp (posts_of ps)) sorted in
+      ap (λ (b : Bool). cond b (Some (post_of p).1) (value_at nat_cmp (posts_of ps) n)) (apart_above n p.number (omega (arith, number, below_at p.number ps k d parts.0 (omega (arith, there)) read)))
+      ∙ value_here ps k n d parts.1 (omega (arith, there)) read number
+
+  -- to change the job at a place is to change the one of its number
+  pub set_is_put : (ps : List (Post K V Q P)) (place n : ℕ) (d e : Post K V Q P) → IsMap nat_cmp (posts_of ps) → place < length ps → d ≡ get_or ps place d → d.number ≡ n → e.number ≡ n
+      → posts_of (set ps place e) ≡ with_pair nat_cmp (posts_of ps) n (post_of e).1
+  set_is_put [] place n d e sorted there read number same = absurd (omega (arith, there))
+  set_is_put (p ∷ ps) zero n d e sorted there read number same =
+      let here : n ≡ p.number = sym number ∙ ap (λ (q : Post K V Q P). q.number) read in
+      (λ i. ((same ∙ here) i, (post_of e).1) ∷ posts_of ps)
+      ∙ sym (ap (λ (o : Ordering). by_order o ((n, (post_of e).1) ∷ post_of p ∷ posts_of ps) ((p.number, (post_of e).1) ∷ posts_of ps) (post_of p ∷ with_pair nat_cmp (posts_of ps) n (post_of e).1)) (tied n p.number here))
+  set_is_put (p ∷ ps) (suc k) n d e sorted there read number same =
+      let parts = both_parts (below_all nat_cmp p.number (posts_of ps)) (is_sorted nat_cmp (posts_of ps)) sorted in
+      ap (λ (r : Map ℕ (Posted K V Q P)). post_of p ∷ r) (set_is_put ps k n d e parts.1 (omega (arith, there)) read number same)
+      ∙ sym (ap (λ (o : Ordering). by_order o ((n, (post_of e).1) ∷ post_of p ∷ posts_of ps) ((p.number, (post_of e).1) ∷ posts_of ps) (post_of p ∷ with_pair nat_cmp (posts_of ps) n (post_of e).1)) (above n p.number (omega (arith, number, below_at p.number ps k d parts.0 (omega (arith, there)) read))))
+
+-- 3. A new number.
+module _ {X : Type 0} where
+  -- the numbers are below n
+  abbrev pub AllBelow : ℕ → Map ℕ X → Type 0
+  AllBelow n [] = Unit {0}
+  AllBelow n (x ∷ m) = (x.0 < n) × AllBelow n m
+
+  -- where no number from n on has a value
+  pub below_all_values : (n : ℕ) (m : Map ℕ X) → ((j : ℕ) → is_some (value_at nat_cmp m j) ≡ true → j < n) → AllBelow n m
+  below_all_values n [] h = tt
+  below_all_values n (x ∷ m) h = (
+    h x.0 (ap (λ (b : Bool). is_some (cond b (Some x.1) (value_at nat_cmp m x.0))) (same_ties x.0 x.0 refl)),
+    below_all_values n m (λ j there. h j (later (eq_by_cmp nat_cmp j x.0) (value_at nat_cmp m j) there)),
+  )
+    where
+      later : (b : Bool) (o : Option X) → is_some o ≡ true → is_some (cond b (Some x.1) o) ≡ true
+      later true o e = refl
+      later false o e = e
+
+  -- a number above all comes last
+  pub last_put : (m : Map ℕ X) (n : ℕ) (x : X) → AllBelow n m → m ++ (n, x) ∷ [] ≡ with_pair nat_cmp m n x
+  last_put [] n x below = refl
+  last_put (e ∷ m) n x below =
+      ap (λ (r : Map ℕ X). e ∷ r) (last_put m n x below.1)
+      ∙ sym (ap (λ (o : Ordering). by_order o ((n, x) ∷ e ∷ m) ((e.0, x) ∷ m) (e ∷ with_pair nat_cmp m n x)) (above n e.0 below.0))
+
+-- to put a job behind those of lower numbers is to map its number
+pub push_is_put : {K V Q P : Type 0} (ps : List (Post K V Q P)) (p : Post K V Q P) → AllBelow p.number (posts_of ps) → posts_of (ps ++ p ∷ []) ≡ with_pair nat_cmp (posts_of ps) p.number (post_of p).1
+push_is_put ps p below = map_append post_of ps (p ∷ []) ∙ last_put (posts_of ps) p.number (post_of p).1 below
+
+-- 4. What stands at a place.
+module _ {K V Q P : Type 0} where
+  -- the job that is read at the place of a number has it
+  pub number_here : (ps : List (Post K V Q P)) (n place : ℕ) (d : Post K V Q P) → IsPlaceOf ps n place → d ≡ get_or ps place d → d.number ≡ n
+  number_here ps n place d is read = ap (λ o. unwrap_or o n) (ap (option_map (λ (p : Post K V Q P). p.number)) (sym (slice_get_read ps (length ps) place d refl is.inside read)) ∙ is.number)

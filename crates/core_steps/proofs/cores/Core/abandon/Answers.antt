@@ -1,0 +1,49 @@
+use Rattle.std.proofs.Common.{sym, subst}
+use Rattle.handles.specs.Machine.{abandon}
+use Rattle.handles.specs.Views.{unit_outcome}
+use Rattle.core_steps.specs.Cores.{of_client}
+use Rattle.core_steps.specs.Posts.{IsWhole, posts_of, core_of}
+use Rattle.core_steps.specs.Queries.{asked, divided}
+use Rattle.core_steps.specs.Steps.{IsAnswered, StepsTo}
+use Rattle.core_steps.specs.declared.outcome.Outcome.TheVariants.{Abandoned}
+use Rattle.core_steps.proofs.KeptBoards.{cuts_within}
+use Rattle.core_steps.proofs.WholeSteps.{refusal_whole, abandoned_whole}
+use Rattle.core_steps.proofs.cores.Core.abandon.Goals as goal
+
+pub returns-in-Err : goal.returns-in-Err
+returns-in-Err g c =
+    let R = g.K.Ord.cmp in
+    let path = g.K.PathKey.path_of in
+    let kind = asked R g.V.PartialEq.eq g.Q.Asks.target_of g.Q.Asks.answered in
+    let cuts = cuts_within path c.law_of_cuts.ensures.divide in
+    let t = c.self.inside in
+    let ps = t.posts.items in
+    let division = divided path g.Q.Bulk.decides in
+    let after = core_of c.abandon.new.self (posts_of ps) t.workers t.grain in
+    let answered = (refusal_whole R path g.Q.Bulk.answers g.Q.Bulk.ready kind g.Q.Bulk.decides cuts unit_outcome t.table c.abandon.new.self (posts_of ps) t.workers t.grain (abandon c.args.job) c.in-Err.refusal c.in-Err.ensures.step c.self.invariant).0 in
+    subst (λ s. IsAnswered kind division s (of_client (abandon c.args.job)) c.refused.result after) c.self.view_is
+    (subst (λ r. IsAnswered kind division (core_of t.table (posts_of ps) t.workers t.grain) (of_client (abandon c.args.job)) r after) (sym c.refused.ensures) answered)
+
+pub invariant_of-self-2 : goal.invariant_of-self-2
+invariant_of-self-2 g c =
+    let R = g.K.Ord.cmp in
+    let path = g.K.PathKey.path_of in
+    let kind = asked R g.V.PartialEq.eq g.Q.Asks.target_of g.Q.Asks.answered in
+    let cuts = cuts_within path c.law_of_cuts.ensures.divide in
+    let t = c.self.inside in
+    let ps = t.posts.items in
+    let closed = abandoned_whole R path g.Q.Bulk.answers g.Q.Bulk.ready kind g.Q.Bulk.decides cuts t.table c.abandon.new.self (posts_of ps) t.workers t.grain c.args.job c.in-Ok.ensures.step c.self.invariant in
+    subst (λ posts. IsWhole R path g.Q.Bulk.answers g.Q.Bulk.ready c.abandon.new.self posts t.workers t.grain) (sym c.close.ensures) closed.1
+
+pub returns : goal.returns
+returns g c =
+    let R = g.K.Ord.cmp in
+    let path = g.K.PathKey.path_of in
+    let kind = asked R g.V.PartialEq.eq g.Q.Asks.target_of g.Q.Asks.answered in
+    let cuts = cuts_within path c.law_of_cuts.ensures.divide in
+    let t = c.self.inside in
+    let ps = t.posts.items in
+    let division = divided path g.Q.Bulk.decides in
+    let closed = abandoned_whole R path g.Q.Bulk.answers g.Q.Bulk.ready kind g.Q.Bulk.decides cuts t.table c.abandon.new.self (posts_of ps) t.workers t.grain c.args.job c.in-Ok.ensures.step c.self.invariant in
+    subst (λ s. StepsTo kind division s (of_client (abandon c.args.job)) Abandoned (core_of c.abandon.new.self (posts_of c.close.new.posts.items) t.workers t.grain)) c.self.view_is
+    (subst (λ posts. StepsTo kind division (core_of t.table (posts_of ps) t.workers t.grain) (of_client (abandon c.args.job)) Abandoned (core_of c.abandon.new.self posts t.workers t.grain)) (sym c.close.ensures) closed.0)

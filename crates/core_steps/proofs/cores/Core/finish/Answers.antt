@@ -1,0 +1,95 @@
+use Rattle.std.proofs.Common.{sym, subst}
+use Rattle.handles.specs.Machine.{finish}
+use Rattle.handles.specs.Views.{finished_outcome}
+use Rattle.core_steps.specs.Cores.{of_client}
+use Rattle.core_steps.specs.Desks.{IsJobOn}
+use Rattle.core_steps.specs.Posts.{IsPlaceOf, IsWhole, posts_of, core_of}
+use Rattle.core_steps.specs.Queries.{asked, divided}
+use Rattle.core_steps.specs.Steps.{IsAnswered, StepsTo}
+use Rattle.core_steps.specs.declared.outcome.Outcome.TheVariants.{Answer, Unfinished}
+use Rattle.core_steps.proofs.KeptBoards.{cuts_within}
+use Rattle.core_steps.proofs.WholeSteps.{refusal_whole, finished_whole}
+use Rattle.core_steps.proofs.OpenSteps.{open_here, unfinished_here, collected_here}
+use Rattle.core_steps.proofs.cores.Core.finish.Goals as goal
+
+pub collected-requires : goal.collected-requires
+collected-requires g c =
+    let R = g.K.Ord.cmp in
+    let path = g.K.PathKey.path_of in
+    let kind = asked R g.V.PartialEq.eq g.Q.Asks.target_of g.Q.Asks.answered in
+    let cuts = cuts_within path c.law_of_cuts.ensures.divide in
+    let t = c.self.inside in
+    let ps = t.posts.items in
+    let lies = subst (λ qs. IsPlaceOf qs c.args.job c.in-Some.place) c.deref.ensures.value c.in-Some.ensures.some in
+    let d = c.index-post.result.now in
+    let stands = open_here R path g.Q.Bulk.answers g.Q.Bulk.ready kind g.Q.Bulk.decides cuts t.table ps t.workers t.grain c.self.invariant c.args.job c.in-Some.place lies d c.index-post.ensures in
+    (stands.job.frozen, subst (λ q. IsJobOn R path (g.Q.Bulk.answers q) stands.job.frozen d.board) (sym c.deref-2.ensures) stands.has.desks)
+
+pub returns-in_default-2 : goal.returns-in_default-2
+returns-in_default-2 g c =
+    let R = g.K.Ord.cmp in
+    let path = g.K.PathKey.path_of in
+    let kind = asked R g.V.PartialEq.eq g.Q.Asks.target_of g.Q.Asks.answered in
+    let cuts = cuts_within path c.law_of_cuts.ensures.divide in
+    let t = c.self.inside in
+    let ps = t.posts.items in
+    let lies = subst (λ qs. IsPlaceOf qs c.args.job c.in-Some.place) c.deref.ensures.value c.in-Some.ensures.some in
+    subst (λ s. StepsTo kind (divided path g.Q.Bulk.decides) s (of_client (finish c.args.job)) Unfinished s) c.self.view_is
+    (unfinished_here R path g.Q.Bulk.answers g.Q.Bulk.ready kind g.Q.Bulk.decides cuts t.table ps t.workers t.grain c.self.invariant c.args.job c.in-Some.place lies
+    c.index-post.result.now c.deref-2.result.now c.in_ok-part.field-0 c.index-post.ensures c.deref-2.ensures c.in_default-2.is c.in_ok-part.ensures)
+
+pub finish-requires : goal.finish-requires
+finish-requires g c =
+    let R = g.K.Ord.cmp in
+    let path = g.K.PathKey.path_of in
+    let kind = asked R g.V.PartialEq.eq g.Q.Asks.target_of g.Q.Asks.answered in
+    let cuts = cuts_within path c.law_of_cuts.ensures.divide in
+    let t = c.self.inside in
+    let ps = t.posts.items in
+    let lies = subst (λ qs. IsPlaceOf qs c.args.job c.in-Some.place) c.deref.ensures.value c.in-Some.ensures.some in
+    (collected_here R path g.Q.Bulk.answers g.Q.Bulk.ready kind g.Q.Bulk.decides cuts t.table ps t.workers t.grain c.self.invariant c.args.job c.in-Some.place lies
+    c.parts_follow_intervals.ensures.whole c.index-post.result.now c.deref-2.result.now c.in_ok-part.field-0 c.in-Some-2.part c.index-post.ensures c.deref-2.ensures c.in-Some-2.is c.in_ok-part.ensures).0
+
+pub returns-in-Err : goal.returns-in-Err
+returns-in-Err g c =
+    let R = g.K.Ord.cmp in
+    let path = g.K.PathKey.path_of in
+    let kind = asked R g.V.PartialEq.eq g.Q.Asks.target_of g.Q.Asks.answered in
+    let cuts = cuts_within path c.law_of_cuts.ensures.divide in
+    let t = c.self.inside in
+    let ps = t.posts.items in
+    let division = divided path g.Q.Bulk.decides in
+    let after = core_of c.finish.new.self (posts_of ps) t.workers t.grain in
+    let answered = (refusal_whole R path g.Q.Bulk.answers g.Q.Bulk.ready kind g.Q.Bulk.decides cuts finished_outcome t.table c.finish.new.self (posts_of ps) t.workers t.grain (finish c.args.job) c.in-Err.refusal c.in-Err.ensures.step c.self.invariant).0 in
+    subst (λ s. IsAnswered kind division s (of_client (finish c.args.job)) c.refused.result after) c.self.view_is
+    (subst (λ r. IsAnswered kind division (core_of t.table (posts_of ps) t.workers t.grain) (of_client (finish c.args.job)) r after) (sym c.refused.ensures) answered)
+
+pub invariant_of-self-2 : goal.invariant_of-self-2
+invariant_of-self-2 g c =
+    let R = g.K.Ord.cmp in
+    let path = g.K.PathKey.path_of in
+    let kind = asked R g.V.PartialEq.eq g.Q.Asks.target_of g.Q.Asks.answered in
+    let cuts = cuts_within path c.law_of_cuts.ensures.divide in
+    let t = c.self.inside in
+    let ps = t.posts.items in
+    let lies = subst (λ qs. IsPlaceOf qs c.args.job c.in-Some.place) c.deref.ensures.value c.in-Some.ensures.some in
+    let exact = (collected_here R path g.Q.Bulk.answers g.Q.Bulk.ready kind g.Q.Bulk.decides cuts t.table ps t.workers t.grain c.self.invariant c.args.job c.in-Some.place lies
+    c.parts_follow_intervals.ensures.whole c.index-post.result.now c.deref-2.result.now c.in_ok-part.field-0 c.in-Some-2.part c.index-post.ensures c.deref-2.ensures c.in-Some-2.is c.in_ok-part.ensures).1 in
+    let closed = finished_whole R path g.Q.Bulk.answers g.Q.Bulk.ready kind g.Q.Bulk.decides cuts t.table c.finish.new.self (posts_of ps) t.workers t.grain c.args.job c.in-Ok.answer c.in-Ok.ensures.step exact c.self.invariant in
+    subst (λ posts. IsWhole R path g.Q.Bulk.answers g.Q.Bulk.ready c.finish.new.self posts t.workers t.grain) (sym c.close.ensures) closed.1
+
+pub returns : goal.returns
+returns g c =
+    let R = g.K.Ord.cmp in
+    let path = g.K.PathKey.path_of in
+    let kind = asked R g.V.PartialEq.eq g.Q.Asks.target_of g.Q.Asks.answered in
+    let cuts = cuts_within path c.law_of_cuts.ensures.divide in
+    let t = c.self.inside in
+    let ps = t.posts.items in
+    let lies = subst (λ qs. IsPlaceOf qs c.args.job c.in-Some.place) c.deref.ensures.value c.in-Some.ensures.some in
+    let division = divided path g.Q.Bulk.decides in
+    let exact = (collected_here R path g.Q.Bulk.answers g.Q.Bulk.ready kind g.Q.Bulk.decides cuts t.table ps t.workers t.grain c.self.invariant c.args.job c.in-Some.place lies
+    c.parts_follow_intervals.ensures.whole c.index-post.result.now c.deref-2.result.now c.in_ok-part.field-0 c.in-Some-2.part c.index-post.ensures c.deref-2.ensures c.in-Some-2.is c.in_ok-part.ensures).1 in
+    let closed = finished_whole R path g.Q.Bulk.answers g.Q.Bulk.ready kind g.Q.Bulk.decides cuts t.table c.finish.new.self (posts_of ps) t.workers t.grain c.args.job c.in-Ok.answer c.in-Ok.ensures.step exact c.self.invariant in
+    subst (λ s. StepsTo kind division s (of_client (finish c.args.job)) (Answer c.in-Ok.answer) (core_of c.finish.new.self (posts_of c.close.new.posts.items) t.workers t.grain)) c.self.view_is
+    (subst (λ posts. StepsTo kind division (core_of t.table (posts_of ps) t.workers t.grain) (of_client (finish c.args.job)) (Answer c.in-Ok.answer) (core_of c.finish.new.self posts t.workers t.grain)) (sym c.close.ensures) closed.0)

@@ -1,0 +1,102 @@
+use Rattle.std.proofs.Common.{◌∙◌, set, sym, subst}
+use Rattle.core_steps.specs.Cores.{of_worker}
+use Rattle.core_steps.specs.Desks.{IsJobOn}
+use Rattle.core_steps.specs.Moves.{move_of}
+use Rattle.core_steps.specs.Posts.{IsPlaceOf, posts_of, core_of, post_of}
+use Rattle.core_steps.specs.Queries.{asked, divided}
+use Rattle.core_steps.specs.Steps.{StepsTo}
+use Rattle.versions.specs.declared.refusal.Refusal.TheVariants.{NoWorker}
+use Rattle.core_steps.specs.declared.outcome.Outcome.TheVariants.{Turn, Refused}
+use Rattle.core_steps.proofs.KeptBoards.{cuts_within}
+use Rattle.core_steps.proofs.WholeSteps.{names_desks}
+use Rattle.core_steps.proofs.OpenSteps.{open_here, other_here, moved_here, unmoved_here}
+use Rattle.core_steps.proofs.cores.Core.turn.Goals as goal
+
+pub returns-then-names_other : goal.returns-then-names_other
+returns-then-names_other g c =
+    let R = g.K.Ord.cmp in
+    let path = g.K.PathKey.path_of in
+    let kind = asked R g.V.PartialEq.eq g.Q.Asks.target_of g.Q.Asks.answered in
+    let cuts = cuts_within path c.law_of_cuts.ensures.divide in
+    let t = c.self.inside in
+    let ps = t.posts.items in
+    let lies = subst (λ qs. IsPlaceOf qs c.args.job c.in-Some.place) c.deref.ensures.value c.in-Some.ensures.some in
+    subst (λ s. StepsTo kind (divided path g.Q.Bulk.decides) s (of_worker c.args.job (move_of c.args.chosen)) (Refused NoWorker) s) c.self.view_is
+    (other_here R path g.Q.Bulk.answers g.Q.Bulk.ready kind g.Q.Bulk.decides cuts t.table ps t.workers t.grain c.self.invariant c.args.job c.in-Some.place lies
+    (move_of c.args.chosen) (sym c.names_other.ensures ∙ c.if-names_other.true))
+
+pub make_move-requires-clause-ready : goal.make_move-requires-clause-ready
+make_move-requires-clause-ready g c =
+    let R = g.K.Ord.cmp in
+    let path = g.K.PathKey.path_of in
+    let kind = asked R g.V.PartialEq.eq g.Q.Asks.target_of g.Q.Asks.answered in
+    let cuts = cuts_within path c.law_of_cuts.ensures.divide in
+    let t = c.self.inside in
+    let ps = t.posts.items in
+    let lies = subst (λ qs. IsPlaceOf qs c.args.job c.in-Some.place) c.deref.ensures.value c.in-Some.ensures.some in
+    let stands = open_here R path g.Q.Bulk.answers g.Q.Bulk.ready kind g.Q.Bulk.decides cuts t.table ps t.workers t.grain c.self.invariant c.args.job c.in-Some.place lies c.index_mut-post.result.now c.index_mut-post.ensures.value in
+    subst g.Q.Bulk.ready (sym c.deref-2.ensures) stands.has.can
+
+pub make_move-requires-clause-named : goal.make_move-requires-clause-named
+make_move-requires-clause-named g c =
+    let R = g.K.Ord.cmp in
+    let path = g.K.PathKey.path_of in
+    let kind = asked R g.V.PartialEq.eq g.Q.Asks.target_of g.Q.Asks.answered in
+    let cuts = cuts_within path c.law_of_cuts.ensures.divide in
+    let t = c.self.inside in
+    let ps = t.posts.items in
+    let lies = subst (λ qs. IsPlaceOf qs c.args.job c.in-Some.place) c.deref.ensures.value c.in-Some.ensures.some in
+    let d = c.index_mut-post.result.now in
+    let stands = open_here R path g.Q.Bulk.answers g.Q.Bulk.ready kind g.Q.Bulk.decides cuts t.table ps t.workers t.grain c.self.invariant c.args.job c.in-Some.place lies d c.index_mut-post.ensures.value in
+    names_desks R path g.Q.Bulk.answers g.Q.Bulk.ready kind g.Q.Bulk.decides cuts t.table (posts_of ps) t.workers t.grain c.args.job (move_of c.args.chosen) (post_of d).1 stands (sym c.names_other.ensures ∙ c.if-names_other.false) c.self.invariant
+
+pub make_move-requires-clause-job : goal.make_move-requires-clause-job
+make_move-requires-clause-job g c =
+    let R = g.K.Ord.cmp in
+    let path = g.K.PathKey.path_of in
+    let kind = asked R g.V.PartialEq.eq g.Q.Asks.target_of g.Q.Asks.answered in
+    let cuts = cuts_within path c.law_of_cuts.ensures.divide in
+    let t = c.self.inside in
+    let ps = t.posts.items in
+    let lies = subst (λ qs. IsPlaceOf qs c.args.job c.in-Some.place) c.deref.ensures.value c.in-Some.ensures.some in
+    let d = c.index_mut-post.result.now in
+    let stands = open_here R path g.Q.Bulk.answers g.Q.Bulk.ready kind g.Q.Bulk.decides cuts t.table ps t.workers t.grain c.self.invariant c.args.job c.in-Some.place lies d c.index_mut-post.ensures.value in
+    (stands.job.frozen, subst (λ q. IsJobOn R path (g.Q.Bulk.answers q) stands.job.frozen d.board) (sym c.deref-2.ensures) stands.has.desks)
+
+pub invariant_of-self : goal.invariant_of-self
+invariant_of-self g c =
+    let R = g.K.Ord.cmp in
+    let path = g.K.PathKey.path_of in
+    let kind = asked R g.V.PartialEq.eq g.Q.Asks.target_of g.Q.Asks.answered in
+    let cuts = cuts_within path c.law_of_cuts.ensures.divide in
+    let t = c.self.inside in
+    let ps = t.posts.items in
+    let lies = subst (λ qs. IsPlaceOf qs c.args.job c.in-Some.place) c.deref.ensures.value c.in-Some.ensures.some in
+    unmoved_here R path g.Q.Bulk.answers g.Q.Bulk.ready kind g.Q.Bulk.decides cuts t.table ps t.workers t.grain c.self.invariant c.args.job c.in-Some.place lies
+    c.index_mut-post.result.now c.make_move.new.board c.index_mut-post.ensures.value c.in_err-progress.ensures.err
+
+pub invariant_of-self-2 : goal.invariant_of-self-2
+invariant_of-self-2 g c =
+    let R = g.K.Ord.cmp in
+    let path = g.K.PathKey.path_of in
+    let kind = asked R g.V.PartialEq.eq g.Q.Asks.target_of g.Q.Asks.answered in
+    let cuts = cuts_within path c.law_of_cuts.ensures.divide in
+    let t = c.self.inside in
+    let ps = t.posts.items in
+    let lies = subst (λ qs. IsPlaceOf qs c.args.job c.in-Some.place) c.deref.ensures.value c.in-Some.ensures.some in
+    (moved_here R path g.Q.Bulk.answers g.Q.Bulk.ready kind g.Q.Bulk.decides cuts t.table ps t.workers t.grain c.self.invariant c.args.job c.in-Some.place lies
+    c.index_mut-post.result.now (move_of c.args.chosen) c.in_ok-progress.progress c.deref-2.result.now c.make_move.new.board c.index_mut-post.ensures.value c.deref-2.ensures (sym c.names_other.ensures ∙ c.if-names_other.false) c.in_ok-progress.ensures.ok).1
+
+pub returns : goal.returns
+returns g c =
+    let R = g.K.Ord.cmp in
+    let path = g.K.PathKey.path_of in
+    let kind = asked R g.V.PartialEq.eq g.Q.Asks.target_of g.Q.Asks.answered in
+    let cuts = cuts_within path c.law_of_cuts.ensures.divide in
+    let t = c.self.inside in
+    let ps = t.posts.items in
+    let lies = subst (λ qs. IsPlaceOf qs c.args.job c.in-Some.place) c.deref.ensures.value c.in-Some.ensures.some in
+    let d = c.index_mut-post.result.now in
+    let moved = moved_here R path g.Q.Bulk.answers g.Q.Bulk.ready kind g.Q.Bulk.decides cuts t.table ps t.workers t.grain c.self.invariant c.args.job c.in-Some.place lies
+    d (move_of c.args.chosen) c.in_ok-progress.progress c.deref-2.result.now c.make_move.new.board c.index_mut-post.ensures.value c.deref-2.ensures (sym c.names_other.ensures ∙ c.if-names_other.false) c.in_ok-progress.ensures.ok in
+    subst (λ s. StepsTo kind (divided path g.Q.Bulk.decides) s (of_worker c.args.job (move_of c.args.chosen)) (Turn c.in_ok-progress.progress) (core_of t.table (posts_of (set ps c.in-Some.place (record d { board = c.make_move.new.board }))) t.workers t.grain)) c.self.view_is moved.0

@@ -1,0 +1,101 @@
+-- How the steps of a core and their outcomes appear to its definitions.
+use Rattle.std.specs.Prelude.{◌≡◌, List, [], ◌∷◌, Result, Ok, Err}
+use Rattle.std.specs.Arc.{arc_value}
+use Rattle.versions.specs.Map.{Map}
+use Rattle.versions.specs.declared.refusal.Refusal.{Refusal}
+use Rattle.versions.specs.declared.refusal.Refusal.TheVariants as refusals
+use Rattle.trie_shape.specs.declared.no_memory.NoMemory.{NoMemory}
+use Rattle.bulk_ops.specs.Answers as plain
+use Rattle.bulk_ops.specs.Told.{told_of}
+use Rattle.handles.specs.declared.call_reply.CallReply.{CallReply}
+use Rattle.handles.specs.Machine.{Kind, Request, view, freeze, finish, abandon, made, viewed, frozen, finished, unfinished, Run}
+use Rattle.handles.specs.Machine as machine
+use Rattle.handles.specs.Views.{request_of, call_outcome}
+use Rattle.core_steps.specs.Boards.{taking, stealing, splitting, working}
+use Rattle.core_steps.specs.Cores.{CoreState, Asked, of_client, of_worker, Told, to_client, to_worker, no_turn, Division, CoreStep}
+use Rattle.core_steps.specs.Traces.{client_requests, client_outcomes, CoreRun}
+use Rattle.core_steps.specs.Views.{turn_of}
+use Rattle.core_steps.specs.declared.step.Step.{Step}
+use Rattle.core_steps.specs.declared.step.Step.TheVariants.{Call, View, Freeze, Finish, Abandon, Take, Steal, Split, Work}
+use Rattle.core_steps.specs.declared.outcome.Outcome.{Outcome}
+use Rattle.core_steps.specs.declared.outcome.Outcome.TheVariants as outcomes
+
+-- what a step asks of the core
+abbrev pub asked_by : {K V Q : Type 0} → Step K V Q → Asked K V Q
+asked_by (Call c) = of_client (request_of c)
+asked_by (View h) = of_client (view h)
+asked_by (Freeze h q) = of_client (freeze h (arc_value q))
+asked_by (Finish j) = of_client (finish j)
+asked_by (Abandon j) = of_client (abandon j)
+asked_by (Take j w) = of_worker j (taking w)
+asked_by (Steal j w from) = of_worker j (stealing w from)
+asked_by (Split j w) = of_worker j (splitting w)
+asked_by (Work j w) = of_worker j (working w)
+
+-- a query that is frozen is ready
+abbrev pub CanAsk : {K V Q : Type 0} → (Q → Type 0) → Asked K V Q → Type 0
+CanAsk ready (of_client (freeze h q)) = ready q
+CanAsk ready x = Unit {0}
+
+-- what is told of a refusal
+abbrev pub refusal_told : {K V Q B : Type 0} → Asked K V Q → Refusal → Told K V B
+refusal_told (of_client r) e = to_client (machine.refused e)
+refusal_told (of_worker j x) e = no_turn e
+
+module _ {K V Q I : Type 0} where
+  -- an outcome shows what is told: of a freeze it shows the number of the job, whose map the core keeps
+  abbrev pub Shows : Asked K V Q → Outcome K V I → Told K V (plain.Told K V I) → Type 0
+  Shows x (outcomes.Reply y) t = t ≡ to_client (call_outcome y)
+  Shows x (outcomes.View m) t = t ≡ to_client (viewed m)
+  Shows x (outcomes.Frozen j) t = (m : Map K V) × (t ≡ to_client (frozen j m))
+  Shows x (outcomes.Answer a) t = t ≡ to_client (finished (told_of a))
+  Shows x outcomes.Unfinished t = t ≡ to_client unfinished
+  Shows x outcomes.Abandoned t = t ≡ to_client made
+  Shows x (outcomes.Turn p) t = t ≡ to_worker (turn_of p)
+  Shows x (outcomes.Refused e) t = t ≡ refusal_told x e
+
+-- what is answered where a step is refused: want of memory is no outcome
+abbrev pub refused_outcome : {K V I : Type 0} → Refusal → Result (Outcome K V I) NoMemory
+refused_outcome refusals.NoMemory = Err (record {})
+refused_outcome e = Ok (outcomes.Refused e)
+
+-- what a call is answered
+abbrev pub call_told : {K V I : Type 0} → Result (CallReply V) Refusal → Result (Outcome K V I) NoMemory
+call_told (Ok y) = Ok (outcomes.Reply y)
+call_told (Err e) = refused_outcome e
+
+-- what a view is answered
+abbrev pub view_told : {K V I : Type 0} → Result (Map K V) Refusal → Result (Outcome K V I) NoMemory
+view_told (Ok m) = Ok (outcomes.View m)
+view_told (Err e) = refused_outcome e
+
+module _ {K V Q I A : Type 0} (kind : Kind K V Q A (plain.Told K V I)) (division : Division K V Q) where
+  -- one step of the core, of which the outcome shows what is told
+  pub record StepsTo (s : CoreState K V Q) (x : Asked K V Q) (o : Outcome K V I) (t : CoreState K V Q) : Type 0 where
+    pub told : Told K V (plain.Told K V I)
+    pub shown : Shows x o told
+    pub step : CoreStep kind division s x told t
+
+  -- the same of a step that may want memory, which changes nothing then
+  abbrev pub IsAnswered : CoreState K V Q → Asked K V Q → Result (Outcome K V I) NoMemory → CoreState K V Q → Type 0
+  IsAnswered s x (Ok o) t = StepsTo s x o t
+  IsAnswered s x (Err e) t = t ≡ s
+
+module _ {K V Q I : Type 0} where
+  -- each outcome shows what is told
+  abbrev pub AllShow : List (Asked K V Q) → List (Outcome K V I) → List (Told K V (plain.Told K V I)) → Type 0
+  AllShow [] [] [] = Unit {0}
+  AllShow (x ∷ xs) (o ∷ os) (y ∷ ys) = Shows x o y × AllShow xs os ys
+  AllShow _ _ _ = ⊥
+
+module _ {K V Q I A : Type 0} (kind : Kind K V Q A (plain.Told K V I)) (division : Division K V Q) where
+  -- steps of the core, one after another, of which the outcomes show what is told: one outcome for each step
+  pub record HasRun (s : CoreState K V Q) (xs : List (Asked K V Q)) (os : List (Outcome K V I)) (t : CoreState K V Q) : Type 0 where
+    pub told : List (Told K V (plain.Told K V I))
+    pub shown : AllShow xs os told
+    pub run : CoreRun kind division s xs told t
+
+  -- the same, and what clients see of it is a run of the machine
+  pub record Ran (s : CoreState K V Q) (xs : List (Asked K V Q)) (os : List (Outcome K V I)) (t : CoreState K V Q) : Type 0 where
+    pub steps : HasRun s xs os t
+    pub machine : Run kind s.machine (client_requests xs) (client_outcomes steps.told) t.machine

@@ -1,0 +1,285 @@
+//! The core: a table of handles, with a board for each open job.
+ghost use Rattle.std.specs.Prelude.{◌≡◌, ◌≤◌, ◌<◌, ◌&&◌, ◌++◌, ◌∷◌, [], All, IfErr, IfOk, IfSome, OnErr, OnOk, Some, is_none, is_some, not, nat_lt, map, take, length};
+ghost use Rattle.handles.specs.Machine.{Job, abandon, finish, freeze, job_at, view};
+ghost use Rattle.handles.specs.Views.{request_of};
+ghost use Rattle.core_steps.specs.Cores.{new_core, of_client, of_worker, worked_part};
+ghost use Rattle.core_steps.specs.Invariants.{IsCore};
+ghost use Rattle.core_steps.specs.Moves.{move_of};
+ghost use Rattle.core_steps.specs.Queries.{asked, divided};
+ghost use Rattle.core_steps.specs.Steps.{CanAsk, IsAnswered, Ran, StepsTo, asked_by};
+ghost use Rattle.core_steps.specs.declared.outcome.Outcome.{Outcome};
+
+use crate::board::{begin_whole, vacant};
+use crate::collecting::collected;
+use crate::moves::{Move, make_move};
+use crate::outcome::{Outcome, Trace, call_outcome, refused, view_outcome};
+use crate::post::{Post, close, place_of};
+use crate::step::Step;
+use bulk_ops::Asks;
+use handles::{Call, Limits, MOST_ENTRIES, Table, law_of_freezes, law_of_open_jobs};
+use hash_path::PathKey;
+use iter::parts_follow_intervals;
+use splitter::law_of_cuts;
+use std::alloc::Global;
+use std::collections::VecDeque;
+use std::marker::Model;
+use std::sync::Arc;
+use trie_node::NoMemory;
+use versions::{MOST_PAIRS, Refusal};
+
+/// Clients and workers over one table of handles, stepped by the caller.
+///
+/// Each open job has a board: what waits for each worker, what it holds, and what it has worked. A client's step is one
+/// step of the machine of handles; a worker's step is one move on the board of a job, and leaves the machine as it is.
+/// After any refusal, and after `NoMemory`, all handles, jobs and parts are as before.
+#[derive(Drop)]
+pub struct Core<K: PathKey, V, Q: Asks<K, V>> {
+    table: Table<K, V, Q>,
+    posts: Vec<Post<K, V, Q, Q::Part>>,
+    workers: u32,
+    grain: u64,
+}
+
+impl<K: PathKey, V, Q: Asks<K, V>> Model for Core<K, V, Q> {
+    ghost use Rattle.core_steps.specs.Cores.{CoreState};
+    ghost use Rattle.core_steps.specs.Posts.{IsWhole, core_of, posts_of};
+
+    ghost Value = { CoreState K V Q };
+
+    ghost view = { λ c. core_of c.table (posts_of c.posts.items) c.workers c.grain };
+
+    ghost invariant = { λ c. IsWhole K.cmp K.path_of Q.answers Q.ready c.table (posts_of c.posts.items) c.workers c.grain };
+}
+
+impl<K: PathKey + Drop, V: Eq + Drop, Q: Asks<K, V> + Drop> Core<K, V, Q> {
+    /// A core with no handles and no jobs, for so many workers of each job. A piece of at most `grain` pairs is not cut.
+    pub fn new(
+        alloc: Global,
+        limits: Limits,
+        workers: u32,
+        grain: u64,
+    ) -> Result<Core<K, V, Q>, NoMemory>
+        requires least_pairs { 1 ≤ limits.pairs }
+        requires most_pairs { limits.pairs ≤ MOST_PAIRS }
+        requires least_entries { 2 ≤ limits.entries }
+        requires most_entries { limits.entries ≤ MOST_ENTRIES }
+        requires least_workers { 1 ≤ workers }
+        requires most_workers { workers ≤ 16 }
+        requires least_grain { 1 ≤ grain }
+        requires most_grain { grain ≤ 65536 }
+        ensures { IfOk result (λ core. core ≡ new_core limits workers grain) }
+    {
+        let table = Table::new(alloc, limits)?;
+        Ok(Core {
+            table,
+            posts: Vec::new(alloc),
+            workers,
+            grain,
+        })
+    }
+
+    /// The part of what a worker of an open job has worked: none where the job is not open or the worker not there.
+    pub fn part(&self, job: u64, worker: u32) -> Option<&Q::Part>
+        ensures none { is_none result ≡ not (is_some (job_at self.now.machine job) && nat_lt worker self.now.workers) }
+        ensures some { IfSome result (λ part. (asking : Job K V Q) → job_at self.now.machine job ≡ Some asking → Q.answers asking.query (worked_part (divided K.path_of Q.decides) self.now job worker) part.now) }
+    {
+        law_of_cuts::<K, V>();
+        match place_of(&self.posts, job) {
+            Some(place) => self.posts[place].board.part(worker),
+            None => None,
+        }
+    }
+
+    /// Makes one step of a client or of a worker.
+    ///
+    /// A query that is frozen may be called on every pair. After `NoMemory` all is as before.
+    pub fn step(
+        &mut self,
+        alloc: Global,
+        step: Step<K, V, Q>,
+    ) -> Result<Outcome<K, V, Q::Item>, NoMemory>
+        requires { CanAsk Q.ready (asked_by step) }
+        ensures step { IsAnswered (asked K.cmp V.eq Q.target_of Q.answered) (divided K.path_of Q.decides) self.old (asked_by step) result self.new }
+        ensures core { IsCore self.new }
+    {
+        let answer = self.made(alloc, step);
+        self.workers();
+        answer
+    }
+
+    /// Makes the steps in order, and gives their outcomes. What clients see of them is a run of the machine of handles.
+    ///
+    /// Where memory is wanting, the outcomes are those of the steps before, and the core is as after those.
+    pub fn run(
+        &mut self,
+        alloc: Global,
+        steps: &[Step<K, V, Q>],
+    ) -> Result<Trace<K, V, Q::Item>, (Trace<K, V, Q::Item>, NoMemory)>
+        requires { All (λ step. CanAsk Q.ready (asked_by step)) steps.now }
+        ensures run { IfOk result (λ trace. Ran (asked K.cmp V.eq Q.target_of Q.answered) (divided K.path_of Q.decides) self.old (map asked_by steps.now) trace.outcomes.items self.new) }
+        ensures short { IfErr result (λ e. length e.0.outcomes.items < length steps.now) }
+        ensures err { IfErr result (λ e. Ran (asked K.cmp V.eq Q.target_of Q.answered) (divided K.path_of Q.decides) self.old (map asked_by (take (length e.0.outcomes.items) steps.now)) e.0.outcomes.items self.new) }
+        ensures core { IsCore self.new }
+    {
+        let mut outcomes = Vec::new(alloc);
+        for step in steps {
+            if self.one_more(alloc, step, &mut outcomes).is_err() {
+                self.workers();
+                return Err((Trace { outcomes }, NoMemory));
+            }
+        }
+        self.workers();
+        Ok(Trace { outcomes })
+    }
+
+    // One step more, whose outcome comes last.
+    fn one_more(
+        &mut self,
+        alloc: Global,
+        step: &Step<K, V, Q>,
+        outcomes: &mut Vec<Outcome<K, V, Q::Item>>,
+    ) -> Result<(), NoMemory>
+        requires { CanAsk Q.ready (asked_by step.now) }
+        ensures ok { OnOk result ((o : Outcome K V Q.Item) × (outcomes.new.items ≡ outcomes.old.items ++ o ∷ []) × StepsTo (asked K.cmp V.eq Q.target_of Q.answered) (divided K.path_of Q.decides) self.old (asked_by step.now) o self.new) }
+        ensures outcomes { OnErr result (outcomes.new.items ≡ outcomes.old.items) }
+        ensures err { OnErr result (self.new ≡ self.old) }
+    {
+        outcomes.reserve(1)?;
+        let outcome = self.made(alloc, step.try_clone()?)?;
+        outcomes.push_reserved(outcome);
+        Ok(())
+    }
+
+    /// How many workers each job has.
+    pub fn workers(&self) -> u32
+        ensures count { result ≡ self.now.workers }
+        ensures core { IsCore self.now }
+    {
+        self.workers
+    }
+
+    // One step, of whatever kind.
+    fn made(
+        &mut self,
+        alloc: Global,
+        step: Step<K, V, Q>,
+    ) -> Result<Outcome<K, V, Q::Item>, NoMemory>
+        requires { CanAsk Q.ready (asked_by step) }
+        ensures { IsAnswered (asked K.cmp V.eq Q.target_of Q.answered) (divided K.path_of Q.decides) self.old (asked_by step) result self.new }
+    {
+        match step {
+            Step::Call(call) => self.call(alloc, call),
+            Step::View(handle) => self.view(handle),
+            Step::Freeze(handle, query) => self.freeze(alloc, handle, query),
+            Step::Finish(job) => self.finish(alloc, job),
+            Step::Abandon(job) => self.abandon(job),
+            Step::Take(job, worker) => self.turn(alloc, job, Move::Take(worker)),
+            Step::Steal(job, worker, from) => self.turn(alloc, job, Move::Steal(worker, from)),
+            Step::Split(job, worker) => self.turn(alloc, job, Move::Split(worker)),
+            Step::Work(job, worker) => self.turn(alloc, job, Move::Work(worker)),
+        }
+    }
+
+    // A client makes a call.
+    fn call(&mut self, alloc: Global, call: Call<K, V>) -> Result<Outcome<K, V, Q::Item>, NoMemory>
+        ensures { IsAnswered (asked K.cmp V.eq Q.target_of Q.answered) (divided K.path_of Q.decides) self.old (of_client (request_of call)) result self.new }
+    {
+        law_of_cuts::<K, V>();
+        law_of_open_jobs::<K, V, Q>();
+        call_outcome(self.table.serve(alloc, call))
+    }
+
+    // A client views a map.
+    fn view(&mut self, handle: u32) -> Result<Outcome<K, V, Q::Item>, NoMemory>
+        ensures { IsAnswered (asked K.cmp V.eq Q.target_of Q.answered) (divided K.path_of Q.decides) self.old (of_client (view handle)) result self.new }
+    {
+        law_of_cuts::<K, V>();
+        law_of_open_jobs::<K, V, Q>();
+        view_outcome(self.table.view(handle))
+    }
+
+    // A client freezes a map. All places are made before the table is called, so that nothing is refused after it.
+    fn freeze(
+        &mut self,
+        alloc: Global,
+        handle: u32,
+        query: Arc<Q>,
+    ) -> Result<Outcome<K, V, Q::Item>, NoMemory>
+        requires { Q.ready query.value }
+        ensures { IsAnswered (asked K.cmp V.eq Q.target_of Q.answered) (divided K.path_of Q.decides) self.old (of_client (freeze handle query.value)) result self.new }
+    {
+        law_of_cuts::<K, V>();
+        law_of_freezes::<K, V, Q>();
+        let kept = Arc::try_clone(&query)?;
+        let mut board = vacant(alloc, &*kept, self.workers)?;
+        let queue = VecDeque::with_capacity(alloc, 1)?;
+        self.posts.reserve(1)?;
+        let opened = match self.table.freeze(handle, query) {
+            Ok(opened) => opened,
+            Err(refusal) => return refused(refusal),
+        };
+        let (number, view) = opened;
+        begin_whole(alloc, &*kept, &mut board, queue, view);
+        self.posts.push_reserved(Post {
+            number,
+            query: kept,
+            board,
+        });
+        Ok(Outcome::Frozen(number))
+    }
+
+    // A client collects the answer of a job.
+    fn finish(&mut self, alloc: Global, job: u64) -> Result<Outcome<K, V, Q::Item>, NoMemory>
+        ensures { IsAnswered (asked K.cmp V.eq Q.target_of Q.answered) (divided K.path_of Q.decides) self.old (of_client (finish job)) result self.new }
+    {
+        law_of_cuts::<K, V>();
+        parts_follow_intervals::<K, V>();
+        let Some(place) = place_of(&self.posts, job) else {
+            return Ok(Outcome::Refused(Refusal::NoJob));
+        };
+        let post = &self.posts[place];
+        let Some(part) = collected(alloc, &*post.query, &post.board)? else {
+            return Ok(Outcome::Unfinished);
+        };
+        let answer = match self.table.finish(job, part) {
+            Ok(answer) => answer,
+            Err(refusal) => return refused(refusal),
+        };
+        close(&mut self.posts, job);
+        Ok(Outcome::Answer(answer))
+    }
+
+    // A client closes a job without an answer.
+    fn abandon(&mut self, job: u64) -> Result<Outcome<K, V, Q::Item>, NoMemory>
+        ensures { IsAnswered (asked K.cmp V.eq Q.target_of Q.answered) (divided K.path_of Q.decides) self.old (of_client (abandon job)) result self.new }
+    {
+        law_of_cuts::<K, V>();
+        match self.table.abandon(job) {
+            Ok(()) => (),
+            Err(refusal) => return refused(refusal),
+        }
+        close(&mut self.posts, job);
+        Ok(Outcome::Abandoned)
+    }
+
+    // A worker moves.
+    fn turn(
+        &mut self,
+        alloc: Global,
+        job: u64,
+        chosen: Move,
+    ) -> Result<Outcome<K, V, Q::Item>, NoMemory>
+        ensures { IsAnswered (asked K.cmp V.eq Q.target_of Q.answered) (divided K.path_of Q.decides) self.old (of_worker job (move_of chosen)) result self.new }
+    {
+        law_of_cuts::<K, V>();
+        let Some(place) = place_of(&self.posts, job) else {
+            return Ok(Outcome::Refused(Refusal::NoJob));
+        };
+        if chosen.names_other(self.workers) {
+            return Ok(Outcome::Refused(Refusal::NoWorker));
+        }
+        let post = &mut self.posts[place];
+        let progress = make_move(alloc, &*post.query, &mut post.board, self.grain, chosen)?;
+        Ok(Outcome::Turn(progress))
+    }
+}

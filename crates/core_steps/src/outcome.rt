@@ -1,0 +1,71 @@
+//! What a core answers.
+ghost use Rattle.std.specs.Prelude.{◌≡◌};
+ghost use Rattle.core_steps.specs.Steps.{call_told, refused_outcome, view_told};
+
+use crate::progress::Progress;
+use bulk_ops::Answer;
+use handles::CallReply;
+use hash_path::PathKey;
+use trie_node::NoMemory;
+use versions::{Refusal, View};
+
+/// What a step is answered.
+#[derive(Drop)]
+pub enum Outcome<K: PathKey, V, I> {
+    /// The call was made, and this is its reply.
+    Reply(CallReply<V>),
+    /// The map that was viewed.
+    View(View<K, V>),
+    /// A job of this number was opened.
+    Frozen(u64),
+    /// The job was closed, and this is its answer.
+    Answer(Answer<K, V, I>),
+    /// The job can't be closed by an answer yet: not all positions were worked, and no worker's part is settled.
+    Unfinished,
+    /// The job was closed without an answer.
+    Abandoned,
+    /// What the worker's move was answered.
+    Turn(Progress),
+    /// The step is refused.
+    Refused(Refusal),
+}
+
+/// The outcomes of steps, in the order of the steps.
+#[derive(Drop)]
+pub struct Trace<K: PathKey, V, I> {
+    pub outcomes: Vec<Outcome<K, V, I>>,
+}
+
+/// What is answered where a step is refused: want of memory is no outcome.
+pub(crate) fn refused<K: PathKey, V, I>(refusal: Refusal) -> Result<Outcome<K, V, I>, NoMemory>
+    ensures { result ≡ refused_outcome refusal }
+{
+    match refusal {
+        Refusal::NoMemory => Err(NoMemory),
+        refusal => Ok(Outcome::Refused(refusal)),
+    }
+}
+
+/// What a call is answered.
+pub(crate) fn call_outcome<K: PathKey, V, I>(
+    answer: Result<CallReply<V>, Refusal>,
+) -> Result<Outcome<K, V, I>, NoMemory>
+    ensures { result ≡ call_told answer }
+{
+    match answer {
+        Ok(reply) => Ok(Outcome::Reply(reply)),
+        Err(refusal) => refused(refusal),
+    }
+}
+
+/// What a view is answered.
+pub(crate) fn view_outcome<K: PathKey, V, I>(
+    answer: Result<View<K, V>, Refusal>,
+) -> Result<Outcome<K, V, I>, NoMemory>
+    ensures { result ≡ view_told answer }
+{
+    match answer {
+        Ok(view) => Ok(Outcome::View(view)),
+        Err(refusal) => refused(refusal),
+    }
+}

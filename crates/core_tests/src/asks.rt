@@ -1,0 +1,160 @@
+//! What the tests ask of whole maps: each question as a plain value, as a query over closures, and its plain answers.
+
+ghost use Rattle.std.specs.Prelude.{◌≡◌, pos};
+ghost use Rattle.bulk_ops.specs.Queries.{IsReady};
+
+use crate::maps::Row;
+use bulk_ops::{PairFn, Query, Stored, StoredTest};
+use combiner::Sum;
+use std::alloc::{AllocError, Global};
+use test_keys::ChosenKey;
+
+/// A value from the least to the most passes.
+#[derive(Clone, Copy, Debug, PartialEq, Eq)]
+pub struct Within {
+    pub least: u64,
+    pub most: u64,
+}
+
+impl Within {
+    /// Every value passes.
+    pub const ALL: Within = Within {
+        least: 0,
+        most: u64::MAX,
+    };
+
+    /// Whether the value passes.
+    pub fn passes(self, value: u64) -> bool {
+        self.least <= value && value <= self.most
+    }
+}
+
+impl PairFn<ChosenKey, u64, bool> for Within {
+    ghost use Rattle.std.specs.Prelude.{◌≡◌, ◌&&◌, nat_le};
+
+    ghost can = { λ t. Unit {0} };
+
+    ghost gives = { λ t k v r. r ≡ (nat_le t.least v && nat_le v t.most) };
+
+    fn answer(&self, _key: &ChosenKey, value: &u64) -> bool {
+        self.least <= *value && *value <= self.most
+    }
+}
+
+/// Each pair's new value is zero.
+#[derive(Drop)]
+pub struct Zero;
+
+impl PairFn<ChosenKey, u64, u64> for Zero {
+    ghost use Rattle.std.specs.Prelude.{◌≡◌};
+
+    ghost can = { λ t. Unit {0} };
+
+    ghost gives = { λ t k v r. r ≡ 0 };
+
+    fn answer(&self, _key: &ChosenKey, _value: &u64) -> u64 {
+        0
+    }
+}
+
+/// Each pair's item is its value.
+#[derive(Drop)]
+pub struct Values;
+
+impl PairFn<ChosenKey, u64, i128> for Values {
+    ghost use Rattle.std.specs.Prelude.{◌≡◌, pos};
+
+    ghost can = { λ t. Unit {0} };
+
+    ghost gives = { λ t k v r. r ≡ pos v };
+
+    fn answer(&self, _key: &ChosenKey, value: &u64) -> i128 {
+        item_of(*value)
+    }
+}
+
+// The range of a number is known where it is passed by value.
+fn item_of(value: u64) -> i128
+    ensures { result ≡ pos value }
+{
+    value as i128
+}
+
+/// A query of the tests.
+pub type Asked = Query<ChosenKey, u64, Within, Zero, Sum, Values>;
+
+/// A question as a plain value.
+#[derive(Clone, Copy, Debug, PartialEq, Eq)]
+pub enum Ask {
+    Count(Within),
+    Exists(Within),
+    ForAll(Within),
+    Find(Within),
+    Filter(Within, u32),
+    Zeros(u32),
+    Total,
+}
+
+// The test, as queries keep it.
+fn stored(test: Within) -> StoredTest<ChosenKey, u64, Within> {
+    Stored::new(test)
+}
+
+/// The query of a question.
+pub fn query_of(ask: Ask) -> Asked
+    ensures { IsReady result }
+{
+    match ask {
+        Ask::Count(test) => Query::Count(stored(test)),
+        Ask::Exists(test) => Query::Exists(stored(test)),
+        Ask::ForAll(test) => Query::ForAll(stored(test)),
+        Ask::Find(test) => Query::Find(stored(test)),
+        Ask::Filter(test, to) => Query::Filter(stored(test), to),
+        Ask::Zeros(to) => Query::MapValues(Stored::new(Zero), to),
+        Ask::Total => Query::Fold(Sum, Stored::new(Values)),
+    }
+}
+
+impl Ask {
+    /// The number of the handle that is to have the map that is made.
+    pub fn target(self) -> Option<u32> {
+        match self {
+            Ask::Filter(_, to) | Ask::Zeros(to) => Some(to),
+            _ => None,
+        }
+    }
+
+    /// The rows that the answer is about: those that pass, and those of a map that is made.
+    pub fn chosen(self, alloc: Global, rows: &[Row]) -> Result<Vec<Row>, AllocError> {
+        let mut chosen = Vec::new(alloc);
+        for row in rows {
+            match self {
+                Ask::Count(test) | Ask::Exists(test) | Ask::ForAll(test) | Ask::Find(test) => {
+                    if test.passes(row.value) {
+                        chosen.push(*row)?;
+                    }
+                }
+                Ask::Filter(test, _) => {
+                    if test.passes(row.value) {
+                        chosen.push(*row)?;
+                    }
+                }
+                Ask::Zeros(_) => chosen.push(Row {
+                    place: row.place,
+                    value: 0,
+                })?,
+                Ask::Total => chosen.push(*row)?,
+            }
+        }
+        Ok(chosen)
+    }
+
+    /// Whether so many rows, of which so many pass, have the answer whatever other rows there are.
+    pub fn is_decided(self, chosen: usize, all: usize) -> bool {
+        match self {
+            Ask::Exists(_) | Ask::Find(_) => chosen > 0,
+            Ask::ForAll(_) => chosen < all,
+            _ => false,
+        }
+    }
+}

@@ -1,0 +1,26 @@
+//! Cores and boards beside what they should tell.
+
+mod boards;
+mod calls;
+mod kinds;
+mod memory;
+mod random;
+mod rows;
+
+use crate::plans::{Plan, TestCore, step_of};
+use crate::told::{Told, told_of};
+use handles::Limits;
+use std::alloc::Global;
+use std::test::Fail;
+
+// The largest limits.
+const LARGEST: Limits = Limits {
+    pairs: 1 << 24,
+    entries: 1 << 20,
+};
+
+// What the core tells of a step.
+fn take_step(alloc: Global, core: &mut TestCore, plan: Plan) -> Result<Told, Fail> {
+    let step = step_of(alloc, plan)?;
+    Ok(told_of(&core.step(alloc, step)?))
+}

@@ -1,0 +1,72 @@
+//! The worked steps of one board, by hand: two keys, at the positions 0 and 3, two workers, a count of all pairs, and
+//! pieces of one pair.
+
+use crate::asks::{Ask, Asked, Within, query_of};
+use bulk_ops::Part;
+use core_steps::{Board, Progress, first_board, law_of_jobs, work_on};
+use std::alloc::Global;
+use std::sync::Arc;
+use std::test::Fail;
+use test_keys::ChosenKey;
+use trie_node::Stamp;
+use versions::{Version, View};
+
+// Two pairs, at the positions 0 and 3.
+pub(super) fn two_pairs(alloc: Global) -> Result<View<ChosenKey, u64>, Fail> {
+    let mut version = Version::empty(alloc, 100, Stamp(1))?;
+    for (path, value) in [(0, 1), (0xc000_0000, 2)] {
+        let key = Arc::new(alloc, ChosenKey { path, id: 0 })?;
+        version.put(alloc, key, Arc::new(alloc, value)?)?;
+    }
+    Ok(version.view()?)
+}
+
+// The board of a job that counts the two pairs with two workers.
+fn begun(
+    alloc: Global,
+    query: &Asked,
+) -> Result<Board<ChosenKey, u64, Part<ChosenKey, u64, i128>>, Fail> {
+    Ok(first_board(alloc, query, 2, two_pairs(alloc)?)?)
+}
+
+#[test]
+fn pieces_are_taken_cut_and_stolen(rt: HostRuntime) -> Result<(), Fail> {
+    let query = query_of(Ask::Count(Within::ALL));
+    let mut board = begun(rt.alloc(), &query)?;
+    assert_eq!(rt; board.workers(), 2);
+    assert_eq!(rt; board.take(1), Progress::Idle);
+    assert_eq!(rt; board.workers(), 2);
+    assert_eq!(rt; board.take(0), Progress::Took(0, 0x1_0000_0000));
+    assert_eq!(rt; board.workers(), 2);
+    assert_eq!(rt; board.split(0, 1)?, Progress::Cut(0, 3, 0x1_0000_0000));
+    assert_eq!(rt; board.workers(), 2);
+    assert_eq!(rt; board.split(0, 1)?, Progress::Whole);
+    assert_eq!(rt; board.workers(), 2);
+    assert_eq!(rt; board.take(0), Progress::Idle);
+    assert_eq!(rt; board.workers(), 2);
+    assert_eq!(rt; board.steal(1, 0), Progress::Took(3, 0x1_0000_0000));
+    assert_eq!(rt; board.workers(), 2);
+    assert_eq!(rt; board.steal(1, 0), Progress::Idle);
+    assert!(rt; board.part(0).is_some());
+    assert!(rt; board.part(2).is_none());
+    Ok(())
+}
+
+#[test]
+fn pieces_are_worked(rt: HostRuntime) -> Result<(), Fail> {
+    let alloc = rt.alloc();
+    let query = query_of(Ask::Count(Within::ALL));
+    let mut board = first_board(alloc, &query, 2, two_pairs(alloc)?)?;
+    law_of_jobs::<ChosenKey, u64, Asked>(&query);
+    assert_eq!(rt; board.workers(), 2);
+    let took = board.take(0);
+    assert_eq!(rt; took, Progress::Took(0, 0x1_0000_0000));
+    assert_eq!(rt; board.workers(), 2);
+    let worked = work_on(alloc, &query, &mut board, 0)?;
+    assert_eq!(rt; worked, Progress::Worked(0, 0x1_0000_0000, 2, false));
+    match board.part(0) {
+        Some(Part::Number(number)) => assert_eq!(rt; *number, 2),
+        _ => assert!(rt; false, "a count has a number"),
+    }
+    Ok(())
+}

@@ -1,0 +1,114 @@
+//! Each public call once, as far as the other tests do not make it.
+
+use super::LARGEST;
+use super::boards::two_pairs;
+use crate::asks::{Ask, Asked, Within, query_of};
+use crate::maps::END;
+use crate::plans::{Do, Plan, step_of};
+use crate::told::{Told, part_told, told_of};
+use core_steps::{
+    Core, Move, Progress, collected, first_board, law_of_boards, law_of_cores, law_of_coverings,
+    law_of_jobs, law_of_runs, law_of_tilings, make_move,
+};
+use std::test::Fail;
+use test_keys::ChosenKey;
+
+const KEY: ChosenKey = ChosenKey { path: 0, id: 7 };
+
+// Each kind of step, and what it is told.
+const STEPS: [(Plan, Told); 21] = [
+    (Plan::Open(1), Told::Unit),
+    (Plan::On(1, Do::PutIfAbsent(KEY, 1)), Told::Old(None)),
+    (Plan::On(1, Do::Put(KEY, 2)), Told::Old(Some(1))),
+    (Plan::On(1, Do::Replace(KEY, 3)), Told::Old(Some(2))),
+    (Plan::On(1, Do::ReplaceIf(KEY, 3, 4)), Told::Done(true)),
+    (Plan::On(1, Do::RemoveIf(KEY, 3)), Told::Done(false)),
+    (Plan::On(1, Do::Get(KEY)), Told::Old(Some(4))),
+    (Plan::Snapshot(1, 2), Told::Unit),
+    (Plan::On(1, Do::Remove(KEY)), Told::Old(Some(4))),
+    (Plan::Freeze(2, Ask::Total), Told::Job(0)),
+    (Plan::On(2, Do::Size), Told::Size(1)),
+    (Plan::On(2, Do::Clear), Told::Cleared),
+    (Plan::View(2), Told::Viewed),
+    (Plan::Drop(2), Told::Unit),
+    (
+        Plan::Turn(0, Move::Take(0)),
+        Told::Turn(Progress::Took(0, END)),
+    ),
+    (Plan::Turn(0, Move::Split(0)), Told::Turn(Progress::Whole)),
+    (Plan::Turn(0, Move::Steal(1, 0)), Told::Turn(Progress::Idle)),
+    (
+        Plan::Turn(0, Move::Work(0)),
+        Told::Turn(Progress::Worked(0, END, 1, false)),
+    ),
+    (Plan::Finish(0), Told::Total(4)),
+    (Plan::Freeze(1, Ask::Zeros(3)), Told::Job(1)),
+    (Plan::Abandon(1), Told::Abandoned),
+];
+
+#[test]
+fn a_copy_of_a_step_is_told_the_same(rt: HostRuntime) -> Result<(), Fail> {
+    let alloc = rt.alloc();
+    let mut core = Core::new(alloc, LARGEST, 2, 1)?;
+    assert_eq!(rt; core.workers(), 2);
+    for (plan, told) in STEPS {
+        let step = step_of(alloc, plan)?;
+        let copy = step.try_clone()?;
+        drop(step);
+        assert_eq!(rt; told_of(&core.step(alloc, copy)?), told);
+    }
+    Ok(())
+}
+
+#[test]
+fn a_move_names_workers(rt: HostRuntime) {
+    for chosen in [
+        Move::Take(2),
+        Move::Steal(2, 1),
+        Move::Steal(1, 2),
+        Move::Split(2),
+    ] {
+        assert!(rt; chosen.names_other(2));
+        assert!(rt; !chosen.names_other(3));
+    }
+    assert!(rt; Move::Work(2).names_other(2));
+    assert!(rt; !Move::Work(2).names_other(3));
+}
+
+#[test]
+fn what_waits_is_not_collected(rt: HostRuntime) -> Result<(), Fail> {
+    let alloc = rt.alloc();
+    let query = query_of(Ask::Count(Within::ALL));
+    let board = first_board(alloc, &query, 1, two_pairs(alloc)?)?;
+    assert!(rt; collected(alloc, &query, &board)?.is_none());
+    Ok(())
+}
+
+#[test]
+fn all_that_was_worked_is_collected(rt: HostRuntime) -> Result<(), Fail> {
+    let alloc = rt.alloc();
+    let query = query_of(Ask::Count(Within::ALL));
+    let mut board = first_board(alloc, &query, 1, two_pairs(alloc)?)?;
+    law_of_jobs::<ChosenKey, u64, Asked>(&query);
+    assert_eq!(rt; board.workers(), 1);
+    let took = make_move(alloc, &query, &mut board, 1, Move::Take(0))?;
+    assert_eq!(rt; took, Progress::Took(0, END));
+    assert_eq!(rt; board.workers(), 1);
+    let worked = make_move(alloc, &query, &mut board, 1, Move::Work(0))?;
+    assert_eq!(rt; worked, Progress::Worked(0, END, 2, false));
+    match collected(alloc, &query, &board)? {
+        Some(part) => assert_eq!(rt; part_told(&part), Told::Count(2)),
+        None => assert!(rt; false, "all is worked"),
+    }
+    Ok(())
+}
+
+#[test]
+fn laws_are_called() {
+    law_of_runs::<ChosenKey, u64, Asked>();
+    law_of_cores::<ChosenKey, u64, Asked>();
+    law_of_coverings::<ChosenKey, u64, Asked>();
+    law_of_tilings::<ChosenKey, u64, Asked>();
+    law_of_boards::<ChosenKey, u64>();
+    law_of_jobs::<ChosenKey, u64, Asked>(&query_of(Ask::Total));
+}

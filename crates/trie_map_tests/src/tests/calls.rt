@@ -1,0 +1,246 @@
+//! Calls by one thread.
+use super::{Map, Seen, key, plain};
+use combiner::Sum;
+use std::alloc::Global;
+use std::sync::Wait;
+use std::test::Fail;
+use test_keys::ChosenKey;
+use trie_map::{Answer, ByteText, NoMemory, PairFn, Query, Refusal, Stored, TrieMap};
+
+// What writes of one key answer, from no pairs on.
+fn written<R: Wait>(rt: &R, map: &Map) -> Result<[Option<u64>; 6], Refusal> {
+    let one = key(3, 0);
+    Ok([
+        plain(map.get(rt, &one)?),
+        plain(map.put(rt, one, 5)?),
+        plain(map.put(rt, one, 6)?),
+        plain(map.put_if_absent(rt, one, 7)?),
+        plain(map.replace(rt, one, 8)?),
+        plain(map.get(rt, &one)?),
+    ])
+}
+
+// Whether a key whose value is 8 is written where its value is to be equal to another.
+fn exchanged<R: Wait>(rt: &R, map: &Map) -> Result<[bool; 3], Refusal> {
+    let one = key(3, 0);
+    Ok([
+        map.replace_if(rt, one, &6, 9)?,
+        map.replace_if(rt, one, &8, 9)?,
+        map.contains_key(rt, &one),
+    ])
+}
+
+// Whether a key whose value is 9 is removed where its value is to be equal to another.
+fn removed<R: Wait>(rt: &R, map: &Map) -> Result<[bool; 3], NoMemory> {
+    let one = key(3, 0);
+    Ok([
+        map.remove_if(rt, &one, &8)?,
+        map.remove_if(rt, &one, &9)?,
+        map.contains_key(rt, &one),
+    ])
+}
+
+// What writes of a key that is not there answer.
+fn written_anew<R: Wait>(rt: &R, map: &Map) -> Result<[Option<u64>; 4], Refusal> {
+    let one = key(3, 0);
+    Ok([
+        plain(map.replace(rt, one, 1)?),
+        plain(map.put_if_absent(rt, one, 2)?),
+        plain(map.remove(rt, &one)?),
+        plain(map.remove(rt, &one)?),
+    ])
+}
+
+#[test]
+fn writes_of_one_key(rt: HostRuntime) -> Result<(), Fail> {
+    let map: Map = TrieMap::new(&rt)?;
+    let answers = written(&rt, &map)?;
+    assert_eq!(rt; answers, [None, None, Some(5), Some(6), Some(6), Some(8)]);
+    assert_eq!(rt; exchanged(&rt, &map)?, [false, true, true]);
+    assert_eq!(rt; plain(map.get(&rt, &key(3, 0))?), Some(9));
+    assert_eq!(rt; removed(&rt, &map)?, [false, true, false]);
+    assert_eq!(rt; written_anew(&rt, &map)?, [None, None, Some(2), None]);
+    assert!(rt; map.is_empty(&rt));
+    Ok(())
+}
+
+// Puts two keys of each first digit, with the values 1 and 2.
+fn fill<R: Wait>(rt: &R, alloc: Global, map: &Map) -> Result<(), Refusal> {
+    let mut pairs = Vec::new(alloc);
+    for digit in 0..32 {
+        pairs.push((key(digit, 0), 1))?;
+        pairs.push((key(digit, 1), 2))?;
+    }
+    map.extend(rt, pairs)
+}
+
+// The value that the view has.
+fn seen(view: &Seen, key: ChosenKey) -> Option<u64> {
+    view.get(&key).map(|value| **value)
+}
+
+#[test]
+fn keys_of_every_first_digit(rt: HostRuntime) -> Result<(), Fail> {
+    let map: Map = TrieMap::new(&rt)?;
+    fill(&rt, rt.alloc(), &map)?;
+    let view = map.view(&rt)?;
+    let snapshot = map.snapshot(&rt)?;
+    assert_eq!(rt; map.len(&rt), 64);
+    map.clear(&rt)?;
+    assert_eq!(rt; (map.len(&rt), view.len(), snapshot.len(&rt)), (0, 64, 64));
+    for digit in 0..32 {
+        let there = map.contains_key(&rt, &key(digit, 0));
+        let kept = plain(snapshot.get(&rt, &key(digit, 1))?);
+        assert_eq!(rt;
+            (there, seen(&view, key(digit, 0)), kept),
+            (false, Some(1), Some(2))
+        );
+    }
+    Ok(())
+}
+
+#[test]
+fn a_snapshot_and_its_map_go_separate_ways(rt: HostRuntime) -> Result<(), Fail> {
+    let map: Map = TrieMap::new(&rt)?;
+    map.put(&rt, key(0, 0), 1)?;
+    map.put(&rt, key(31, 0), 2)?;
+    let snapshot = map.snapshot(&rt)?;
+    let again = snapshot.snapshot(&rt)?;
+    map.put(&rt, key(0, 0), 10)?;
+    snapshot.put(&rt, key(31, 0), 20)?;
+    again.remove(&rt, &key(0, 0))?;
+    assert_eq!(rt; plain(map.get(&rt, &key(0, 0))?), Some(10));
+    assert_eq!(rt; plain(map.get(&rt, &key(31, 0))?), Some(2));
+    assert_eq!(rt; plain(snapshot.get(&rt, &key(0, 0))?), Some(1));
+    assert_eq!(rt; plain(snapshot.get(&rt, &key(31, 0))?), Some(20));
+    assert_eq!(rt; plain(again.get(&rt, &key(0, 0))?), None);
+    assert_eq!(rt; plain(again.get(&rt, &key(31, 0))?), Some(2));
+    Ok(())
+}
+
+// Writes after a view was taken.
+fn write_after<R: Wait>(rt: &R, map: &Map) -> Result<(), Refusal> {
+    map.put(rt, key(7, 0), 2)?;
+    map.put(rt, key(8, 0), 3)?;
+    Ok(())
+}
+
+// The sum of the values that a walk over the view meets.
+fn walked_sum(view: &Seen) -> Result<u64, NoMemory> {
+    let mut sum = 0u64;
+    for (_, value) in view.pairs()? {
+        sum = sum.wrapping_add(**value);
+    }
+    Ok(sum)
+}
+
+#[test]
+fn a_view_stays_as_it_was(rt: HostRuntime) -> Result<(), Fail> {
+    let map: Map = TrieMap::new(&rt)?;
+    assert!(rt; map.view(&rt)?.is_empty());
+    map.put(&rt, key(7, 0), 1)?;
+    let view = map.view(&rt)?;
+    write_after(&rt, &map)?;
+    assert_eq!(rt;
+        (seen(&view, key(7, 0)), view.contains_key(&key(8, 0))),
+        (Some(1), false)
+    );
+    let same = view.try_clone()?;
+    assert_eq!(rt;
+        (same.len(), same.plain().len(), same.is_empty()),
+        (1, 1, false)
+    );
+    assert_eq!(rt; walked_sum(&map.view(&rt)?)?, 5);
+    Ok(())
+}
+
+#[test]
+fn the_closure_runs_where_the_key_is_absent_alone(rt: HostRuntime) -> Result<(), Fail> {
+    let map: TrieMap<ByteText, u64> = TrieMap::new(&rt)?;
+    let mut runs = 0u32;
+    let made = map.get_or_else_update(&rt, ByteText::from_text(rt.alloc(), "a")?, || {
+        runs = runs.wrapping_add(1);
+        4
+    })?;
+    assert_eq!(rt; (*made, runs), (4, 1));
+    let mut more = 0u32;
+    let found = map.get_or_else_update(&rt, ByteText::from_text(rt.alloc(), "a")?, || {
+        more = more.wrapping_add(1);
+        6
+    })?;
+    assert_eq!(rt; (*found, more), (4, 0));
+    Ok(())
+}
+
+// A closure may use the map that it makes a value for: no lock is held meanwhile.
+#[test]
+fn the_closure_may_put_the_key(rt: HostRuntime) -> Result<(), Fail> {
+    let map: Map = TrieMap::new(&rt)?;
+    let own = &map;
+    let handle = &rt;
+    let found = map.get_or_else_update(&rt, key(1, 0), || {
+        let _ = own.put(handle, key(1, 0), 7);
+        8
+    })?;
+    assert_eq!(rt; *found, 7);
+    Ok(())
+}
+
+// Whether the value is even.
+#[derive(Drop)]
+struct IsEven;
+
+impl PairFn<ChosenKey, u64, bool> for IsEven {
+    ghost use Rattle.std.specs.Prelude.{◌≡◌, ◌%◌, ◌==◌};
+
+    ghost can = { λ test. Unit {0} };
+
+    ghost gives = { λ test key value passes. passes ≡ (value % 2 == 0) };
+
+    fn answer(&self, _key: &ChosenKey, value: &u64) -> bool {
+        *value % 2 == 0
+    }
+}
+
+// A type for the closures that the question does not have.
+#[derive(Drop)]
+struct Value;
+
+impl PairFn<ChosenKey, u64, u64> for Value {
+    ghost use Rattle.std.specs.Prelude.{◌≡◌};
+
+    ghost can = { λ same. Unit {0} };
+
+    ghost gives = { λ same key value given. given ≡ value };
+
+    fn answer(&self, _key: &ChosenKey, value: &u64) -> u64 {
+        *value
+    }
+}
+
+impl PairFn<ChosenKey, u64, i128> for Value {
+    ghost use Rattle.std.specs.Prelude.{◌≡◌, pos};
+
+    ghost can = { λ item. Unit {0} };
+
+    ghost gives = { λ item key value given. given ≡ pos value };
+
+    fn answer(&self, _key: &ChosenKey, value: &u64) -> i128 {
+        i128::from(*value)
+    }
+}
+
+type Question = Query<ChosenKey, u64, IsEven, Value, Sum, Value>;
+
+#[test]
+fn a_question_about_the_whole_map(rt: HostRuntime) -> Result<(), Fail> {
+    let map: Map = TrieMap::new(&rt)?;
+    for id in 0..10 {
+        map.put(&rt, key(id % 3, id), u64::from(id))?;
+    }
+    let question: Question = Query::Count(Stored::new(IsEven));
+    let (answer, made) = map.query(&rt, &question)?;
+    assert!(rt; matches!(&answer, Answer::Count(5)));
+    assert!(rt; made.is_none());
+    Ok(())
+}

@@ -1,0 +1,12 @@
+pub mod Map
+pub mod Tree
+pub mod Shape
+pub mod View
+pub mod Roots
+pub mod Outline
+pub mod Looks
+pub mod Conditions
+pub mod Drawn
+pub mod Order
+pub mod Counts
+pub mod Listings

@@ -1,0 +1,48 @@
+//! What a hash trie is: its nodes, the tree and the map that they stand for, and reading them.
+//!
+//! A root is a finite map: `find` reads it. `look`, `child`, `size` and `stamp` show a node from
+//! outside. Which nodes a root has is a function of its pairs, and the laws say what follows from
+//! that. The calls that make nodes are for one crate, `trie_node`, which writes roots.
+#![tactic(auto)]
+
+mod bitmap;
+mod bound_laws;
+mod branch_in_place;
+mod condition;
+mod contraction;
+mod copies;
+mod laws;
+mod looks;
+mod no_memory;
+mod node;
+mod pairs;
+mod reading;
+mod search;
+mod stamps;
+mod union_laws;
+mod walk_laws;
+
+pub use bound_laws::root_has_bounded_nodes;
+pub use condition::{Always, Condition, IfAbsent, IfEqual, IfPresent};
+pub use laws::{
+    bitmap_counts_children, map_determines_root, map_names_nodes, root_has_few_nodes, root_is_map,
+    root_walks_in_order, writes_keep_stamps_below,
+};
+pub use looks::Look;
+pub use no_memory::NoMemory;
+pub use node::{Node, empty_root};
+pub use reading::{child, look, size, stamp};
+pub use search::find;
+pub use stamps::Stamp;
+pub use union_laws::{union_of_maps, unions_of_maps};
+pub use walk_laws::{
+    branch_is_its_children, leaf_is_its_pairs, trie_follows_digits, walk_lists_map,
+};
+
+// For `trie_node` alone, which writes nodes and hands none of these on.
+pub use bitmap::{has_digit, place};
+pub use branch_in_place::{count_out, lose_child};
+pub use contraction::{with_rest, without_rest};
+pub use copies::{with_child, with_more};
+pub use node::{Branch, make_branch, make_bucket, make_leaf};
+pub use pairs::{find_pair, put_pair};

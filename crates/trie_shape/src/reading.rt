@@ -1,0 +1,58 @@
+//! A node seen from outside: its size, its stamp, its children and its pairs.
+
+ghost use Rattle.std.specs.Prelude.{◌≡◌, ◌<◌, length, get_or};
+ghost use Rattle.trie_shape.specs.Tree.{entries};
+ghost use Rattle.trie_shape.specs.View.{tree};
+ghost use Rattle.trie_shape.specs.Shape.{Fits};
+ghost use Rattle.trie_shape.specs.Outline.{stamp_of, children};
+ghost use Rattle.trie_shape.specs.Looks.{Shows};
+
+use crate::looks::Look;
+use crate::node::Node;
+use crate::stamps::Stamp;
+use std::slice;
+
+/// The number of pairs below a node. It takes no walk: each branch keeps its number.
+pub fn size<K, V>(node: &Node<K, V>) -> u64
+    ensures { Fits (tree node.now) → result ≡ length (entries (tree node.now)) }
+{
+    match node {
+        Node::Branch { below, .. } => below.size,
+        Node::Leaf { .. } => 1,
+        Node::Bucket { pairs, .. } => pairs.len() as u64,
+    }
+}
+
+/// The stamp of a node.
+pub fn stamp<K, V>(node: &Node<K, V>) -> Stamp
+    ensures { result.0 ≡ stamp_of (tree node.now) }
+{
+    match node {
+        Node::Branch { stamp, .. } => *stamp,
+        Node::Leaf { stamp, .. } => *stamp,
+        Node::Bucket { stamp, .. } => *stamp,
+    }
+}
+
+/// The bitmap of a branch, or the pairs of a leaf or bucket.
+pub fn look<K, V>(node: &Node<K, V>) -> Look<'_, K, V>
+    ensures { Shows result (tree node.now) }
+{
+    match node {
+        Node::Branch { below, .. } => Look::Branch(below.bitmap),
+        Node::Leaf { pair, .. } => Look::Pairs(slice::from_ref(pair)),
+        Node::Bucket { pairs, .. } => Look::Pairs(pairs.as_slice()),
+    }
+}
+
+/// The child of a branch by its number, counted from 0 in order of the digits.
+pub fn child<K, V>(node: &Node<K, V>, n: u32) -> &Node<K, V>
+    requires { n < length (children (tree node.now)) }
+    ensures { tree result.now ≡ get_or (children (tree node.now)) n (tree result.now) }
+{
+    match node {
+        Node::Branch { below, .. } => &below.children[n as usize],
+        Node::Leaf { .. } => unreachable!(),
+        Node::Bucket { .. } => unreachable!(),
+    }
+}

@@ -1,0 +1,5 @@
+//! Tests of `versions`: what maps of a few pairs answer, by hand, and many calls beside plain sorted lists.
+#![tactic(auto)]
+
+#[cfg(test)]
+mod tests;

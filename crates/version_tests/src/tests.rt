@@ -1,0 +1,345 @@
+//! What maps of a few pairs answer, by hand, and many calls beside plain sorted lists.
+mod beside_list;
+mod laws;
+mod memory;
+mod nodes;
+mod plain;
+mod shape;
+mod views;
+
+use generation::Source;
+use hash_path::PathKey;
+use keys::ByteText;
+use std::alloc::Global;
+use std::fmt::Debug;
+use std::process::Abort;
+use std::sync::Arc;
+use std::test::Fail;
+use test_keys::ChosenKey;
+use trie_node::{Condition, IfAbsent, IfEqual, IfPresent, Stamp};
+use versions::{NoMemory, Refusal, Version};
+
+// A map from texts.
+type Texts = Version<ByteText, i64>;
+
+// A map from keys whose path words are chosen.
+type Chosen = Version<ChosenKey, i64>;
+
+// A key of the bytes of a text.
+fn text(alloc: Global, text: &str) -> Result<Arc<ByteText>, NoMemory> {
+    Ok(Arc::new(alloc, ByteText::from_text(alloc, text)?)?)
+}
+
+// A key with this path word.
+fn chosen(path: u32, id: u32) -> ChosenKey {
+    ChosenKey { path, id }
+}
+
+// The value of the key, or none.
+fn value_of<K: PathKey + Drop>(version: &Version<K, i64>, key: &K) -> Option<i64> {
+    match version.get(key) {
+        Some(value) => Some(**value),
+        None => None,
+    }
+}
+
+// The value of the text, or none.
+fn at_text(alloc: Global, version: &Texts, at: &str) -> Result<Option<i64>, NoMemory> {
+    Ok(value_of(version, &*text(alloc, at)?))
+}
+
+// What a shared value is.
+fn plainly(value: Option<Arc<i64>>) -> Option<i64> {
+    match value {
+        Some(value) => Some(*value),
+        None => None,
+    }
+}
+
+// Maps the key to the value, and answers the value before, or none.
+fn put<K: PathKey + Drop>(
+    alloc: Global,
+    version: &mut Version<K, i64>,
+    key: K,
+    value: i64,
+) -> Result<Option<i64>, Refusal> {
+    let key = Arc::new(alloc, key)?;
+    let value = Arc::new(alloc, value)?;
+    Ok(plainly(version.put(alloc, key, value)?))
+}
+
+// Maps the text to the value, and answers the value before, or none.
+fn put_text(
+    alloc: Global,
+    version: &mut Texts,
+    at: &str,
+    value: i64,
+) -> Result<Option<i64>, Refusal> {
+    put(alloc, version, ByteText::from_text(alloc, at)?, value)
+}
+
+// Removes the key, and answers the value before, or none.
+fn remove<K: PathKey + Drop>(
+    alloc: Global,
+    version: &mut Version<K, i64>,
+    key: &K,
+) -> Result<Option<i64>, NoMemory> {
+    Ok(plainly(version.remove(alloc, key)?))
+}
+
+// Removes the text, and answers the value before, or none.
+fn remove_text(alloc: Global, version: &mut Texts, at: &str) -> Result<Option<i64>, NoMemory> {
+    remove(alloc, version, &*text(alloc, at)?)
+}
+
+// Maps the text to the value where the condition holds. It answers the value before and whether it was done.
+fn put_text_where<C: Condition<i64>>(
+    alloc: Global,
+    version: &mut Texts,
+    at: &str,
+    value: i64,
+    condition: &C,
+) -> Result<(Option<i64>, bool), Refusal> {
+    let value = Arc::new(alloc, value)?;
+    let change = version.put_where(alloc, text(alloc, at)?, value, condition)?;
+    Ok((plainly(change.previous), change.done))
+}
+
+// Removes the text where the condition holds. It answers the value before and whether it was done.
+fn remove_text_where<C: Condition<i64>>(
+    alloc: Global,
+    version: &mut Texts,
+    at: &str,
+    condition: &C,
+) -> Result<(Option<i64>, bool), NoMemory> {
+    let change = version.remove_where(alloc, &*text(alloc, at)?, condition)?;
+    Ok((plainly(change.previous), change.done))
+}
+
+// Removes all pairs.
+fn clear(alloc: Global, version: &mut Texts) -> Result<(), NoMemory> {
+    version.clear(alloc)
+}
+
+// A fork of the version.
+fn fork<K: PathKey + Drop>(
+    rt: &impl Abort,
+    version: &mut Version<K, i64>,
+    source: &mut Source,
+) -> Result<Version<K, i64>, NoMemory> {
+    assert!(rt; version.stamp().0 <= source.issued());
+    assert!(rt; source.issued() < 1_000_000);
+    version.fork(source)
+}
+
+// A version that maps a to 1, b to 2 and c to 3.
+fn of_three(alloc: Global, stamp: Stamp) -> Result<Texts, Refusal> {
+    let mut version = Version::empty(alloc, 10, stamp)?;
+    for (at, value) in [("a", 1), ("b", 2), ("c", 3)] {
+        put_text(alloc, &mut version, at, value)?;
+    }
+    Ok(version)
+}
+
+// The version of three pairs, and the source of its stamp.
+fn started(alloc: Global) -> Result<(Texts, Source), Refusal> {
+    let mut source = Source::new();
+    let version = of_three(alloc, source.next())?;
+    Ok((version, source))
+}
+
+// A version with no pairs, the stamp 1 and this limit.
+fn empty<K: PathKey + Drop>(
+    rt: &impl Abort,
+    alloc: Global,
+    limit: u64,
+) -> Result<Version<K, i64>, NoMemory> {
+    assert!(rt; 1 <= limit && limit <= 1000);
+    Version::empty(alloc, limit, Stamp(1))
+}
+
+// Whether the key is there.
+fn has<K: PathKey + Drop>(version: &Version<K, i64>, key: &K) -> bool {
+    version.contains_key(key)
+}
+
+// How many pairs there are.
+fn len<K: PathKey + Drop>(version: &Version<K, i64>) -> u64 {
+    version.len()
+}
+
+// How many nodes have the version's stamp.
+fn own<K: PathKey + Drop>(version: &Version<K, i64>) -> u64 {
+    version.own_nodes()
+}
+
+// How many pairs there are, and how many nodes have the version's stamp.
+fn sizes<K: PathKey + Drop>(version: &Version<K, i64>) -> (u64, u64) {
+    (version.len(), version.own_nodes())
+}
+
+// What is seen is what is wanted. An assertion is proved wherever it is written out, so it stands here once, and below
+// for the types that most tests compare.
+fn assert_is<T: PartialEq + Debug + Drop>(rt: &impl Abort, seen: T, want: T) {
+    assert_eq!(rt; seen, want);
+}
+
+// How many pairs there are, and how many nodes have the version's stamp.
+fn assert_sizes<K: PathKey + Drop>(rt: &impl Abort, version: &Version<K, i64>, want: (u64, u64)) {
+    assert_is(rt, (version.len(), version.own_nodes()), want);
+}
+
+// How many nodes have the version's stamp.
+fn assert_own<K: PathKey + Drop>(rt: &impl Abort, version: &Version<K, i64>, want: u64) {
+    assert_is(rt, version.own_nodes(), want);
+}
+
+// The value of the key, or none.
+fn assert_value(rt: &impl Abort, version: &Chosen, key: ChosenKey, want: Option<i64>) {
+    assert_is(rt, value_of(version, &key), want);
+}
+
+// The value of the text, or none.
+fn assert_text(
+    rt: &impl Abort,
+    alloc: Global,
+    version: &Texts,
+    at: &str,
+    want: Option<i64>,
+) -> Result<(), NoMemory> {
+    assert_is(rt, at_text(alloc, version, at)?, want);
+    Ok(())
+}
+
+// What a put of the text is answered.
+fn assert_put(
+    rt: &impl Abort,
+    alloc: Global,
+    version: &mut Texts,
+    (at, value): (&str, i64),
+    want: Result<Option<i64>, Refusal>,
+) {
+    assert_is(rt, put_text(alloc, version, at, value), want);
+}
+
+// What a removal of the text is answered.
+fn assert_removal(
+    rt: &impl Abort,
+    alloc: Global,
+    version: &mut Texts,
+    at: &str,
+    want: Option<i64>,
+) -> Result<(), NoMemory> {
+    assert_is(rt, remove_text(alloc, version, at)?, want);
+    Ok(())
+}
+
+// The value before, and whether the write was done.
+fn assert_change(rt: &impl Abort, seen: (Option<i64>, bool), want: (Option<i64>, bool)) {
+    assert_is(rt, seen, want);
+}
+
+#[test]
+fn a_new_map_is_empty(rt: HostRuntime) -> Result<(), Fail> {
+    let alloc = rt.alloc();
+    let version: Texts = Version::empty(alloc, 2, Stamp(7))?;
+    assert_is(&rt, (version.is_empty(), version.len()), (true, 0));
+    assert_is(&rt, (version.limit(), version.stamp()), (2, Stamp(7)));
+    assert_is(&rt, version.own_nodes(), 1);
+    assert_is(&rt, trie_node::size(version.root()), 0);
+    assert_text(&rt, alloc, &version, "a", None)?;
+    Ok(())
+}
+
+#[test]
+fn a_put_answers_the_value_before(rt: HostRuntime) -> Result<(), Fail> {
+    let alloc = rt.alloc();
+    let mut version = empty(&rt, alloc, 10)?;
+    for (path, value, before) in [
+        (5, 50, None),
+        (3, 30, None),
+        (9, 90, None),
+        (3, 31, Some(30)),
+    ] {
+        let answer = put(alloc, &mut version, chosen(path, 0), value);
+        assert_is(&rt, (path, answer), (path, Ok(before)));
+    }
+    assert_is(&rt, len(&version), 3);
+    for (path, value) in [(3, Some(31)), (4, None), (5, Some(50)), (9, Some(90))] {
+        let key = chosen(path, 0);
+        assert_is(&rt, (path, value_of(&version, &key)), (path, value));
+        assert_is(&rt, (path, has(&version, &key)), (path, value.is_some()));
+    }
+    Ok(())
+}
+
+#[test]
+fn a_third_key_is_full_and_a_key_that_is_there_never_is(rt: HostRuntime) -> Result<(), Fail> {
+    let alloc = rt.alloc();
+    let mut version = empty(&rt, alloc, 2)?;
+    for (at, value, answer) in [
+        ("a", 10, Ok(None)),
+        ("b", 20, Ok(None)),
+        ("c", 30, Err(Refusal::Full)),
+        ("a", 11, Ok(Some(10))),
+    ] {
+        let given = put_text(alloc, &mut version, at, value);
+        assert_is(&rt, (value, given), (value, answer));
+    }
+    assert_is(&rt, len(&version), 2);
+    assert_text(&rt, alloc, &version, "c", None)?;
+    assert_removal(&rt, alloc, &mut version, "b", Some(20))?;
+    assert_put(&rt, alloc, &mut version, ("c", 30), Ok(None));
+    Ok(())
+}
+
+// A version that maps a to 1, and the source of its stamp.
+fn with_one(alloc: Global) -> Result<(Texts, Source), Refusal> {
+    let mut source = Source::new();
+    let mut version = Version::empty(alloc, 10, source.next())?;
+    put_text(alloc, &mut version, "a", 1)?;
+    Ok((version, source))
+}
+
+#[test]
+fn a_put_shows_in_no_fork(rt: HostRuntime) -> Result<(), Fail> {
+    let alloc = rt.alloc();
+    let (mut first, mut source) = with_one(alloc)?;
+    let mut second = fork(&rt, &mut first, &mut source)?;
+    assert_put(&rt, alloc, &mut first, ("a", 9), Ok(Some(1)));
+    assert_text(&rt, alloc, &second, "a", Some(1))?;
+    let third = fork(&rt, &mut second, &mut source)?;
+    assert_put(&rt, alloc, &mut second, ("b", 2), Ok(None));
+    assert_text(&rt, alloc, &third, "a", Some(1))?;
+    assert_text(&rt, alloc, &third, "b", None)?;
+    assert_text(&rt, alloc, &first, "a", Some(9))?;
+    assert_is(&rt, (third.limit(), source.issued()), (10, 5));
+    Ok(())
+}
+
+#[test]
+fn a_write_under_a_condition_tells_whether_it_was_done(rt: HostRuntime) -> Result<(), Fail> {
+    let alloc = rt.alloc();
+    let mut map = empty(&rt, alloc, 1)?;
+    let told = put_text_where(alloc, &mut map, "a", 5, &IfPresent)?;
+    assert_change(&rt, told, (None, false));
+    let told = put_text_where(alloc, &mut map, "a", 5, &IfAbsent)?;
+    assert_change(&rt, told, (None, true));
+    let told = put_text_where(alloc, &mut map, "a", 6, &IfAbsent)?;
+    assert_change(&rt, told, (Some(5), false));
+    let told = put_text_where(alloc, &mut map, "a", 6, &IfEqual(&6))?;
+    assert_change(&rt, told, (Some(5), false));
+    let told = put_text_where(alloc, &mut map, "a", 6, &IfEqual(&5))?;
+    assert_change(&rt, told, (Some(5), true));
+    let told = put_text_where(alloc, &mut map, "b", 6, &IfAbsent);
+    assert_is(&rt, told, Err(Refusal::Full));
+    let told = put_text_where(alloc, &mut map, "b", 6, &IfPresent)?;
+    assert_change(&rt, told, (None, false));
+    let told = remove_text_where(alloc, &mut map, "a", &IfEqual(&5))?;
+    assert_change(&rt, told, (Some(6), false));
+    let told = remove_text_where(alloc, &mut map, "a", &IfEqual(&6))?;
+    assert_change(&rt, told, (Some(6), true));
+    let told = remove_text_where(alloc, &mut map, "a", &IfPresent)?;
+    assert_change(&rt, told, (None, false));
+    Ok(())
+}

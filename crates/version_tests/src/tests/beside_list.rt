@@ -1,0 +1,211 @@
+//! Many calls on versions that fork from one another, and on a plain sorted list beside each, which answer alike.
+use super::plain::{Pair, find_pair, put_pair, without_pair};
+use super::shape::{Shown, walk};
+use super::{Chosen, assert_is, chosen, fork, plainly, value_of};
+use generation::Source;
+use std::alloc::{AllocError, Global};
+use std::process::Abort;
+use std::sync::Arc;
+use std::test::Fail;
+use test_keys::ChosenKey;
+use trie_node::Stamp;
+use versions::{NoMemory, Refusal, Version};
+
+// Few words, which part at different levels.
+const WORDS: [u32; 8] = [
+    0,
+    0xc000_0000,
+    0x4000_0000,
+    1,
+    33,
+    0x0010_0000,
+    0x0010_0001,
+    0xffff_ffff,
+];
+
+// Keys of each word.
+const KEYS: u32 = 5;
+
+// How many versions there are, and how many calls are made on all of them.
+const VERSIONS: usize = 8;
+
+const CALLS: u32 = 100_000;
+
+// A number after another, in no order that a reader sees: Marsaglia's shifts of 32 bits.
+fn shuffled(number: u32) -> u32 {
+    let first = number ^ (number & 0x7ffff) << 13;
+    let second = first ^ (first >> 17);
+    second ^ (second & 0x7ff_ffff) << 5
+}
+
+// The key that a number picks.
+fn key_of(number: u32) -> ChosenKey {
+    chosen(WORDS[(number % 8) as usize], number / 8 % KEYS)
+}
+
+// A list and the version that is to be like it.
+#[derive(Drop)]
+struct Both {
+    list: Vec<Pair<ChosenKey, i64>>,
+    version: Chosen,
+}
+
+// The value of the key in the list.
+fn listed(list: &[Pair<ChosenKey, i64>], key: &ChosenKey) -> Option<i64> {
+    match find_pair(list, key) {
+        Some(value) => Some(**value),
+        None => None,
+    }
+}
+
+// Another handle on each pair.
+fn copied(
+    alloc: Global,
+    list: &[Pair<ChosenKey, i64>],
+) -> Result<Vec<Pair<ChosenKey, i64>>, NoMemory> {
+    let mut all = Vec::new(alloc);
+    for (key, value) in list {
+        all.push((Arc::try_clone(key)?, Arc::try_clone(value)?))?;
+    }
+    Ok(all)
+}
+
+impl Both {
+    // An empty list and an empty version.
+    fn new(alloc: Global) -> Result<Both, NoMemory> {
+        Ok(Both {
+            list: Vec::new(alloc),
+            version: Version::empty(alloc, 100, Stamp::LOOSE)?,
+        })
+    }
+
+    // Puts the value at the key in both, and answers what each answers.
+    fn put(
+        &mut self,
+        alloc: Global,
+        key: ChosenKey,
+        value: i64,
+    ) -> Result<(Option<i64>, Option<i64>), Fail> {
+        let before = listed(&self.list, &key);
+        let key = Arc::new(alloc, key)?;
+        let value = Arc::new(alloc, value)?;
+        self.list = put_pair(alloc, &self.list, &key, &value)?;
+        Ok((before, plainly(self.version.put(alloc, key, value)?)))
+    }
+
+    // Removes the key from both, and answers what each answers.
+    fn remove(
+        &mut self,
+        alloc: Global,
+        key: &ChosenKey,
+    ) -> Result<(Option<i64>, Option<i64>), Fail> {
+        let before = listed(&self.list, key);
+        self.list = without_pair(alloc, &self.list, key)?;
+        Ok((before, plainly(self.version.remove(alloc, key)?)))
+    }
+
+    // A copy of the list and a fork of the version.
+    fn fork(
+        &mut self,
+        rt: &impl Abort,
+        alloc: Global,
+        source: &mut Source,
+    ) -> Result<Both, NoMemory> {
+        Ok(Both {
+            list: copied(alloc, &self.list)?,
+            version: fork(rt, &mut self.version, source)?,
+        })
+    }
+
+    // A put, or else a removal, which a number picks. It answers what each answers.
+    fn write(&mut self, alloc: Global, number: u32) -> Result<(Option<i64>, Option<i64>), Fail> {
+        let key = key_of(number / 2);
+        if number % 2 == 0 {
+            self.put(alloc, key, i64::from(number))
+        } else {
+            self.remove(alloc, &key)
+        }
+    }
+
+    // Whether both have the same value at each key, and the same length.
+    fn is_alike(&self) -> bool {
+        for number in 0..8 * KEYS {
+            let key = key_of(number);
+            if listed(&self.list, &key) != value_of(&self.version, &key) {
+                return false;
+            }
+        }
+        self.list.len() as u64 == self.version.len()
+    }
+
+    // Whether the version has the nodes of a version into which the pairs of the list were put.
+    fn has_shape(&self, alloc: Global) -> Result<bool, Fail> {
+        let made = of_pairs(alloc, &self.list)?;
+        let (nodes, made_nodes) = (nodes_of(alloc, &self.version)?, nodes_of(alloc, &made)?);
+        Ok(nodes.as_slice() == made_nodes.as_slice())
+    }
+}
+
+// The nodes of the version's trie, as a walk meets them.
+fn nodes_of(alloc: Global, version: &Chosen) -> Result<Vec<Shown>, AllocError> {
+    let mut nodes = Vec::new(alloc);
+    walk(version.root(), 0, &mut nodes)?;
+    Ok(nodes)
+}
+
+// A version into which the pairs are put.
+fn of_pairs(alloc: Global, list: &[Pair<ChosenKey, i64>]) -> Result<Chosen, Refusal> {
+    let mut made = Version::empty(alloc, 100, Stamp::LOOSE)?;
+    for (key, value) in list {
+        made.put(alloc, Arc::try_clone(key)?, Arc::try_clone(value)?)?;
+    }
+    Ok(made)
+}
+
+// Empty lists with their versions.
+fn all_empty(alloc: Global) -> Result<Vec<Both>, Fail> {
+    let mut all = Vec::new(alloc);
+    for _ in 0..VERSIONS {
+        all.push(Both::new(alloc)?)?;
+    }
+    Ok(all)
+}
+
+// Makes the call that the number picks: one in 16 forks a version in place of another, the others write. It tells what
+// the list and the version answer.
+fn call(
+    rt: &impl Abort,
+    alloc: Global,
+    all: &mut Vec<Both>,
+    source: &mut Source,
+    number: u32,
+) -> Result<(Option<i64>, Option<i64>), Fail> {
+    let Some(both) = all.get_mut(number as usize % VERSIONS) else {
+        return Err(Fail::new("there are eight versions"));
+    };
+    if number / 8 % 16 != 0 {
+        return both.write(alloc, number / 128);
+    }
+    let copy = both.fork(rt, alloc, source)?;
+    if let Some(place) = all.get_mut(number as usize / 128 % VERSIONS) {
+        *place = copy;
+    }
+    Ok((None, None))
+}
+
+#[test]
+fn many_calls_are_answered_as_by_sorted_lists(rt: HostRuntime) -> Result<(), Fail> {
+    let alloc = rt.alloc();
+    let mut source = Source::new();
+    let mut all = all_empty(alloc)?;
+    let mut number = 2463534242;
+    for turn in 0..CALLS {
+        number = shuffled(number);
+        let (listed, found) = call(&rt, alloc, &mut all, &mut source, number)?;
+        assert_is(&rt, (turn, listed), (turn, found));
+    }
+    for both in &all {
+        assert_is(&rt, (both.is_alike(), both.has_shape(alloc)?), (true, true));
+    }
+    Ok(())
+}

@@ -1,0 +1,74 @@
+//! Calls with requests for memory refused.
+use super::{
+    Chosen, assert_is, assert_own, assert_sizes, chosen, empty, fork, len, of_three, plainly, put,
+    sizes, started, text, value_of,
+};
+use std::sync::Arc;
+use std::test::Fail;
+use test_keys::take_all;
+use trie_node::Stamp;
+use versions::{NoMemory, Refusal};
+
+#[test]
+fn forks_and_views_make_no_request(rt: HostRuntime) -> Result<(), Fail> {
+    let alloc = rt.alloc();
+    let (mut version, mut source) = started(alloc)?;
+    let a = text(alloc, "a")?;
+    let nine = Arc::new(alloc, 9)?;
+
+    let taken = take_all(alloc)?;
+    let viewed = version.view().is_ok();
+    let forked = fork(&rt, &mut version, &mut source);
+    let put = version.put(alloc, Arc::try_clone(&a)?, nine);
+    let removed = version.remove(alloc, &*a);
+    let cleared = version.clear(alloc);
+    let left = sizes(&version);
+    drop(taken);
+
+    assert_is(&rt, viewed, true);
+    assert_is(&rt, put, Err(Refusal::NoMemory));
+    assert_is(&rt, removed, Err(NoMemory));
+    assert_is(&rt, cleared, Err(NoMemory));
+    assert_is(&rt, left, (3, 0));
+    assert_is(&rt, source.issued(), 3);
+    let copy = forked?;
+    assert_sizes(&rt, &copy, (3, 0));
+    Ok(())
+}
+
+// A body that copies the path fails here: nobody shares the nodes.
+#[test]
+fn writes_of_keys_that_are_there_make_no_request(rt: HostRuntime) -> Result<(), Fail> {
+    let alloc = rt.alloc();
+    let mut version = of_three(alloc, Stamp(1))?;
+    let a = text(alloc, "a")?;
+    let c = text(alloc, "c")?;
+    let again = text(alloc, "a")?;
+    let nine = Arc::new(alloc, 9)?;
+
+    let taken = take_all(alloc)?;
+    let put = version.put(alloc, again, nine);
+    let removed = version.remove(alloc, &*c);
+    drop(taken);
+
+    assert_is(&rt, plainly(put?), Some(1));
+    assert_is(&rt, plainly(removed?), Some(3));
+    assert_is(&rt, (value_of(&version, &*a), len(&version)), (Some(9), 2));
+    assert_own(&rt, &version, 3);
+    Ok(())
+}
+
+// A map that is full says so with every request refused, and no other refusal hides it.
+#[test]
+fn a_full_map_says_so_without_memory(rt: HostRuntime) -> Result<(), Fail> {
+    let alloc = rt.alloc();
+    let mut version: Chosen = empty(&rt, alloc, 1)?;
+    put(alloc, &mut version, chosen(0, 0), 1)?;
+    let key = Arc::new(alloc, chosen(1, 0))?;
+    let value = Arc::new(alloc, 2)?;
+    let taken = take_all(alloc)?;
+    let answer = version.put(alloc, key, value);
+    drop(taken);
+    assert_is(&rt, answer, Err(Refusal::Full));
+    Ok(())
+}

@@ -1,0 +1,139 @@
+//! How many nodes versions own.
+use super::{
+    Chosen, Texts, assert_is, assert_own, assert_put, assert_removal, assert_sizes, assert_text,
+    assert_value, chosen, clear, empty, fork, len, own, put, remove, started,
+};
+use generation::Source;
+use std::process::Abort;
+use std::test::Fail;
+use trie_node::Stamp;
+
+#[test]
+fn a_fork_owns_no_node_until_it_is_written(rt: HostRuntime) -> Result<(), Fail> {
+    let alloc = rt.alloc();
+    let (mut version, mut source) = started(alloc)?;
+    assert_own(&rt, &version, 4);
+    let mut copy = fork(&rt, &mut version, &mut source)?;
+    assert_own(&rt, &version, 0);
+    assert_own(&rt, &copy, 0);
+    assert_put(&rt, alloc, &mut copy, ("a", 9), Ok(Some(1)));
+    assert_own(&rt, &version, 0);
+    assert_own(&rt, &copy, 2);
+    assert_text(&rt, alloc, &version, "a", Some(1))?;
+    Ok(())
+}
+
+#[test]
+fn each_of_four_versions_owns_what_it_wrote(rt: HostRuntime) -> Result<(), Fail> {
+    let alloc = rt.alloc();
+    let (mut first, mut source) = started(alloc)?;
+    assert_own(&rt, &first, 4);
+    let mut second = fork(&rt, &mut first, &mut source)?;
+    let mut third = fork(&rt, &mut second, &mut source)?;
+    assert_put(&rt, alloc, &mut second, ("b", 9), Ok(Some(2)));
+    assert_own(&rt, &first, 0);
+    assert_own(&rt, &second, 2);
+    assert_own(&rt, &third, 0);
+    assert_removal(&rt, alloc, &mut third, "a", Some(1))?;
+    assert_own(&rt, &third, 1);
+    assert_removal(&rt, alloc, &mut third, "a", None)?;
+    assert_own(&rt, &third, 1);
+    let fourth = fork(&rt, &mut third, &mut source)?;
+    assert_own(&rt, &third, 0);
+    assert_own(&rt, &fourth, 0);
+    assert_is(&rt, (len(&first), len(&second)), (3, 3));
+    assert_is(&rt, (len(&third), len(&fourth)), (2, 2));
+    Ok(())
+}
+
+#[test]
+fn keys_of_one_word_share_a_bucket(rt: HostRuntime) -> Result<(), Fail> {
+    let alloc = rt.alloc();
+    let mut version: Chosen = empty(&rt, alloc, 10)?;
+    for id in [0, 1, 2] {
+        put(alloc, &mut version, chosen(0, id), i64::from(id))?;
+    }
+    assert_sizes(&rt, &version, (3, 2));
+    remove(alloc, &mut version, &chosen(0, 1))?;
+    assert_sizes(&rt, &version, (2, 2));
+    assert_value(&rt, &version, chosen(0, 0), Some(0));
+    assert_value(&rt, &version, chosen(0, 2), Some(2));
+    Ok(())
+}
+
+// Words that part at the last digit have seven branches above their two leaves. Without one of them the other's leaf
+// stands below the root, beside a third.
+#[test]
+fn words_that_part_late_have_seven_branches(rt: HostRuntime) -> Result<(), Fail> {
+    let alloc = rt.alloc();
+    let mut version: Chosen = empty(&rt, alloc, 10)?;
+    for (path, nodes) in [(0, 2), (0xc000_0000, 9), (0xffff_ffff, 10)] {
+        put(alloc, &mut version, chosen(path, 0), i64::from(path))?;
+        assert_own(&rt, &version, nodes);
+    }
+    remove(alloc, &mut version, &chosen(0xc000_0000, 0))?;
+    assert_sizes(&rt, &version, (2, 3));
+    assert_value(&rt, &version, chosen(0, 0), Some(0));
+    assert_value(&rt, &version, chosen(0xffff_ffff, 0), Some(0xffff_ffff));
+    Ok(())
+}
+
+#[test]
+fn many_keys_of_one_word_and_many_of_one_branch(rt: HostRuntime) -> Result<(), Fail> {
+    let alloc = rt.alloc();
+    let mut version: Chosen = empty(&rt, alloc, 200)?;
+    for id in 0..100 {
+        assert_is(
+            &rt,
+            put(alloc, &mut version, chosen(7, id), i64::from(id)),
+            Ok(None),
+        );
+    }
+    assert_own(&rt, &version, 2);
+    for digit in 0..32 {
+        let answer = put(alloc, &mut version, chosen(digit, 0), -1);
+        assert_is(&rt, answer.is_ok(), true);
+    }
+    assert_sizes(&rt, &version, (131, 33));
+    for id in 1..100 {
+        assert_value(&rt, &version, chosen(7, id), Some(i64::from(id)));
+        let answer = remove(alloc, &mut version, &chosen(7, id));
+        assert_is(&rt, answer.is_ok(), true);
+    }
+    for digit in 0..32 {
+        assert_value(&rt, &version, chosen(digit, 0), Some(-1));
+        let answer = remove(alloc, &mut version, &chosen(digit, 0));
+        assert_is(&rt, answer.is_ok(), true);
+    }
+    assert_sizes(&rt, &version, (0, 1));
+    Ok(())
+}
+
+#[test]
+fn a_cleared_fork_of_a_fork_has_one_node(rt: HostRuntime) -> Result<(), Fail> {
+    let alloc = rt.alloc();
+    let (mut version, mut source) = started(alloc)?;
+    let mut copy = fork(&rt, &mut version, &mut source)?;
+    let mut again = fork(&rt, &mut copy, &mut source)?;
+    assert_is(&rt, clear(alloc, &mut again), Ok(()));
+    assert_sizes(&rt, &again, (0, 1));
+    assert_is(&rt, (len(&version), len(&copy)), (3, 3));
+    Ok(())
+}
+
+// Gives the version the next stamp of the source.
+fn restamp(rt: &impl Abort, version: &mut Texts, source: &mut Source) {
+    assert!(rt; version.stamp().0 <= source.issued());
+    assert!(rt; source.issued() < 1000);
+    version.restamp(source);
+}
+
+#[test]
+fn a_restamped_version_owns_no_node(rt: HostRuntime) -> Result<(), Fail> {
+    let alloc = rt.alloc();
+    let (mut version, mut source) = started(alloc)?;
+    restamp(&rt, &mut version, &mut source);
+    assert_is(&rt, (version.stamp(), own(&version)), (Stamp(2), 0));
+    assert_is(&rt, len(&version), 3);
+    Ok(())
+}
