@@ -7,6 +7,7 @@
 mod both;
 mod bulk;
 mod extremes;
+mod laws;
 mod merging;
 mod monoid;
 mod sum;
@@ -14,6 +15,7 @@ mod sum;
 pub use both::Both;
 pub use bulk::Bulk;
 pub use extremes::{Greatest, Least};
+pub use laws::{law_of_sums, law_of_sums_within};
 pub use merging::merge;
 pub use monoid::Monoid;
 pub use sum::Sum;

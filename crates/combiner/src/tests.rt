@@ -1,3 +1,5 @@
+mod laws;
+
 use crate::{Both, Greatest, Least, Monoid, Sum, merge};
 use std::alloc::Global;
 use std::sync::Arc;
