@@ -1,5 +1,5 @@
 -- What a call keeps, whatever it is answered, and which parts answer an open job.
-use Rattle.std.proofs.Common.{◌≡◌, ◌≢◌, ℕ, false, refl, sym, subst, Option, Some, None}
+use Rattle.std.proofs.Common.{◌≡◌, ◌≢◌, ℕ, true, false, refl, sym, subst, Option, Some, None}
 use Rattle.std.specs.Prelude.{Result, Ok, Err, IfOk, OnErr}
 use Rattle.versions.specs.Commands.{Command}
 use Rattle.versions.specs.Map.{Map}
@@ -8,9 +8,9 @@ use Rattle.versions.specs.declared.refusal.Refusal.TheVariants.{NoHandle, Taken,
 use Rattle.handles.specs.declared.call.Call.{Call}
 use Rattle.handles.specs.declared.call.Call.TheVariants.{Open, Snapshot, Drop, On}
 use Rattle.handles.specs.declared.call_reply.CallReply.{CallReply}
-use Rattle.handles.specs.Laws.{AnswersAreSteps, CommandsKeepOtherHandles, FreezesOpenJobs, OthersKeepJobs, RefusalsKeepAll}
+use Rattle.handles.specs.Laws.{AnswersAreSteps, CommandsKeepOtherHandles, ForeseenIsStep, FreezesOpenJobs, OthersKeepJobs, RefusalsKeepAll, is_settled_by_state}
 use Rattle.handles.specs.Machine.{Job, Kind, State, Request, on, freeze, Step, is_freeze, job_at, job_of, map_at}
-use Rattle.handles.specs.Views.{IsStep, call_outcome, frozen_outcome, outcome_of, request_of}
+use Rattle.handles.specs.Views.{Foresees, IsStep, call_outcome, frozen_outcome, lacks_memory, outcome_of, request_of}
 
 module _ {K V : Type 0} (Q : Type 0) where
   -- a call as a value opens no job
@@ -42,6 +42,12 @@ module _ {K V Q A B : Type 0} (kind : Kind K V Q A B) (steps : AnswersAreSteps k
   kept_by_call P s t r (Err TooManyJobs) step before after = after (steps s t r (Err TooManyJobs) refl step)
   kept_by_call P s t r (Err JournalFull) step before after = after (steps s t r (Err JournalFull) refl step)
   kept_by_call P s t r (Err BadNumber) step before after = after (steps s t r (Err BadNumber) refl step)
+
+  -- the step that a call makes has the reply that was foreseen, whatever the call was answered
+  pub made_as_foreseen : ForeseenIsStep kind → (s t : State K V Q) (r : Request K V Q) (wanted answer : Result (CallReply V) Refusal) → is_settled_by_state r ≡ true
+      → Foresees kind s r call_outcome wanted → lacks_memory answer ≡ false → IsStep kind s r call_outcome answer t → IfOk wanted (λ y. Step kind s r (call_outcome y) t)
+  made_as_foreseen law s t r (Ok y) answer settled could had step = law s t could.0 r (call_outcome y) (outcome_of answer) settled could.1 (steps s t r answer had step)
+  made_as_foreseen law s t r (Err e) answer settled could had step = tt
 
   -- the open jobs are kept by each call that is a value
   pub jobs_kept_by_call : OthersKeepJobs kind → (s t : State K V Q) (call : Call K V) (answer : Result (CallReply V) Refusal)

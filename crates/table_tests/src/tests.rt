@@ -1,5 +1,6 @@
 //! What calls of a table answer, by hand.
 mod asking;
+mod foresight;
 mod jobs;
 mod laws;
 mod memory;

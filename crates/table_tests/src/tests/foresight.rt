@@ -1,0 +1,234 @@
+//! What the twins of calls foresee, beside what the calls then answer.
+ghost use Rattle.std.specs.Prelude.{IfOk};
+ghost use Rattle.handles.specs.Machine.{Step, drop_handle};
+ghost use Rattle.handles.specs.Views.{call_outcome, machine};
+
+use super::asking::{Asked, Asking, count_of, filter_of, with_handle};
+use super::{assert_is, entries, of_path};
+use bulk_ops::Asks;
+use handles::{Call, CallReply, Command, Limits, Table, law_of_answers, law_of_foresight};
+use hash_path::PathKey;
+use std::alloc::Global;
+use std::process::Abort;
+use std::sync::Arc;
+use std::test::Fail;
+use test_keys::ChosenKey;
+use versions::{Refusal, View};
+
+// Limits that a random run meets.
+const SMALL: Limits = Limits {
+    pairs: 2,
+    entries: 1_000,
+};
+
+// How many calls a random run makes.
+const CALLS: u32 = 1_400;
+
+// A linear congruential generator.
+#[derive(Drop)]
+struct Random(u64);
+
+impl Random {
+    // A number below a bound.
+    fn next(&mut self, below: u32) -> u32 {
+        let state = self
+            .0
+            .wrapping_mul(6_364_136_223_846_793_005)
+            .wrapping_add(1_442_695_040_888_963_407);
+        self.0 = state;
+        ((state >> 33) as u32).checked_rem(below).unwrap_or(0)
+    }
+
+    // One of four handles, or, seldom, a number that is none.
+    fn handle(&mut self) -> u32 {
+        if self.next(16) == 0 {
+            return 1024;
+        }
+        self.next(4)
+    }
+}
+
+// A call that has a twin.
+#[derive(Drop)]
+enum Drawn {
+    Serve(Call<ChosenKey, i64>),
+    View(u32),
+    Freeze(u32, Arc<Asked>),
+    Abandon(u64),
+}
+
+// What a call is answered, as a value that tests compare: of a view its number of pairs and the value of the key 1.
+#[derive(Debug, PartialEq, Drop)]
+enum Seen {
+    Reply(CallReply<i64>),
+    Viewed(u64, Option<i64>),
+    Frozen(u64, u64, Option<i64>),
+    Closed,
+}
+
+// How many pairs a view has, and the value of the key 1.
+fn outline_of(view: &View<ChosenKey, i64>) -> (u64, Option<i64>) {
+    let key = ChosenKey { path: 1, id: 0 };
+    (view.len(), view.get(&key).map(|value| **value))
+}
+
+fn viewed(view: View<ChosenKey, i64>) -> Seen {
+    let (pairs, value) = outline_of(&view);
+    Seen::Viewed(pairs, value)
+}
+
+fn frozen(shown: (u64, View<ChosenKey, i64>)) -> Seen {
+    let (pairs, value) = outline_of(&shown.1);
+    Seen::Frozen(shown.0, pairs, value)
+}
+
+// What the call's twin answers.
+fn foreseen(table: &Asking, drawn: &Drawn) -> Result<Seen, Refusal> {
+    match drawn {
+        Drawn::Serve(call) => Ok(Seen::Reply(table.foresee_serve(call)?)),
+        Drawn::View(handle) => Ok(viewed(table.foresee_view(*handle)?)),
+        Drawn::Freeze(handle, query) => Ok(frozen(table.foresee_freeze(*handle, &**query)?)),
+        Drawn::Abandon(job) => {
+            table.foresee_abandon(*job)?;
+            Ok(Seen::Closed)
+        }
+    }
+}
+
+// Makes the call.
+fn made(alloc: Global, table: &mut Asking, drawn: Drawn) -> Result<Seen, Refusal> {
+    match drawn {
+        Drawn::Serve(call) => Ok(Seen::Reply(table.serve(alloc, call)?)),
+        Drawn::View(handle) => Ok(viewed(table.view(handle)?)),
+        Drawn::Freeze(handle, query) => Ok(frozen(table.freeze(handle, query)?)),
+        Drawn::Abandon(job) => {
+            table.abandon(job)?;
+            Ok(Seen::Closed)
+        }
+    }
+}
+
+// The entries, and of the live handles' versions how many there are, their pairs and the sum of their stamps.
+fn state_of(table: &Asking) -> (u32, u64, u64, u64) {
+    let (mut live, mut pairs, mut stamps) = (0u64, 0u64, 0u64);
+    for version in table.places().iter().flatten() {
+        live = live.wrapping_add(1);
+        pairs = pairs.wrapping_add(version.len());
+        stamps = stamps.wrapping_add(version.stamp().0);
+    }
+    (entries(table), live, pairs, stamps)
+}
+
+// The twin leaves the table and foresees what the call then answers. Which refusal that is, is told.
+fn assert_foreseen(
+    rt: &impl Abort,
+    alloc: Global,
+    table: &mut Asking,
+    drawn: Drawn,
+) -> Option<Refusal> {
+    let before = state_of(table);
+    let wanted = foreseen(table, &drawn);
+    assert_is(rt, state_of(table), before);
+    let answer = made(alloc, table, drawn);
+    let refusal = match &answer {
+        Ok(_) => None,
+        Err(refusal) => Some(*refusal),
+    };
+    assert_is(rt, wanted, answer);
+    refusal
+}
+
+// A command on one of three keys, with one of two values.
+fn drawn_command(alloc: Global, random: &mut Random) -> Result<Command<ChosenKey, i64>, Refusal> {
+    let key = of_path(alloc, random.next(3))?;
+    let value = Arc::new(alloc, i64::from(random.next(2)))?;
+    let other = Arc::new(alloc, i64::from(random.next(2)))?;
+    Ok(match random.next(12) {
+        0 => Command::Get(key),
+        1 => Command::PutIfAbsent(key, value),
+        2 => Command::Replace(key, value),
+        3 => Command::ReplaceIf(key, value, other),
+        4 => Command::Remove(key),
+        5 => Command::RemoveIf(key, value),
+        6 => Command::Size,
+        7 => Command::Clear,
+        _ => Command::Put(key, value),
+    })
+}
+
+// A count of the pairs with the value 1, or the map of them for the handle of a number.
+fn drawn_query(alloc: Global, random: &mut Random) -> Result<Arc<Asked>, Refusal> {
+    if random.next(8) == 0 {
+        return filter_of(alloc, 1, random.handle());
+    }
+    count_of(alloc, 1)
+}
+
+fn drawn_call(alloc: Global, random: &mut Random) -> Result<Drawn, Refusal> {
+    let handle = random.handle();
+    Ok(match random.next(16) {
+        0 => Drawn::Serve(Call::Open(handle)),
+        1 => Drawn::Serve(Call::Snapshot(handle, random.handle())),
+        2 => Drawn::Serve(Call::Drop(handle)),
+        3 => Drawn::View(handle),
+        4 => Drawn::Abandon(u64::from(random.next(128))),
+        5 | 6 | 7 | 8 | 9 => Drawn::Freeze(handle, drawn_query(alloc, random)?),
+        _ => Drawn::Serve(Call::On(handle, drawn_command(alloc, random)?)),
+    })
+}
+
+// Each kind of answer as a bit of its own.
+fn bit_of(refusal: Option<Refusal>) -> u32 {
+    match refusal {
+        None => 1,
+        Some(Refusal::JournalFull) => 2,
+        Some(Refusal::BadNumber) => 4,
+        Some(Refusal::NoHandle) => 8,
+        Some(Refusal::NoJob) => 16,
+        Some(Refusal::Taken) => 32,
+        Some(Refusal::TooManyJobs) => 64,
+        Some(Refusal::Full) => 128,
+        Some(_) => 256,
+    }
+}
+
+#[test]
+fn each_call_is_foreseen(rt: HostRuntime) -> Result<(), Fail> {
+    let alloc = rt.alloc();
+    let mut table = Asking::new(alloc, SMALL)?;
+    let mut random = Random(2026);
+    let mut kinds = 0;
+    for _ in 0..CALLS {
+        let drawn = drawn_call(alloc, &mut random)?;
+        kinds |= bit_of(assert_foreseen(&rt, alloc, &mut table, drawn));
+    }
+    assert_is(&rt, kinds, 255);
+    Ok(())
+}
+
+// Closes the handle. What was foreseen is the outcome of the step that the call makes, whatever the call answers.
+fn dropped_as_foreseen<K: PathKey + Drop, V: Eq + Drop, Q: Asks<K, V> + Drop>(
+    alloc: Global,
+    table: &mut Table<K, V, Q>,
+    handle: u32,
+) -> Result<CallReply<V>, Refusal>
+    ensures { IfOk result (λ reply. Step (machine K.cmp V.eq Q.target_of Q.answered) table.old (drop_handle handle) (call_outcome reply) table.new) }
+{
+    law_of_answers::<K, V, Q>();
+    law_of_foresight::<K, V, Q>();
+    let foreseen = table.foresee_serve(&Call::Drop(handle));
+    let _answer = table.serve(alloc, Call::Drop(handle));
+    foreseen
+}
+
+#[test]
+fn what_was_foreseen_is_an_outcome_of_the_step(rt: HostRuntime) -> Result<(), Fail> {
+    let alloc = rt.alloc();
+    let mut table = with_handle(alloc)?;
+    let dropped = dropped_as_foreseen(alloc, &mut table, 1);
+    assert_is(&rt, dropped, Ok(CallReply::Unit));
+    let again = dropped_as_foreseen(alloc, &mut table, 1);
+    assert_is(&rt, again, Err(Refusal::NoHandle));
+    assert_is(&rt, entries(&table), 3);
+    Ok(())
+}
