@@ -19,3 +19,4 @@ pub mod WholeSteps
 pub mod OpenSteps
 pub mod Collections
 pub mod RunSteps
+pub mod DueSteps

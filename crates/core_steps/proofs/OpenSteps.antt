@@ -13,7 +13,7 @@ use Rattle.std.proofs.lemmas.Option.{slice_get_read, slice_get_within, get_or_fr
 use Rattle.versions.specs.Map.{Map, value_at}
 use Rattle.versions.specs.declared.refusal.Refusal.TheVariants.{NoWorker}
 use Rattle.bulk_ops.specs.Answers as plain
-use Rattle.handles.specs.Machine.{Kind, State, Job, freeze, finish, frozen, Step, job_at}
+use Rattle.handles.specs.Machine.{Kind, State, Job, freeze, finish, frozen, Step, job_at, refusal}
 use Rattle.iter.specs.declared.interval.Interval.{Interval}
 use Rattle.iter.specs.Intervals.{whole, Tile, parts}
 use Rattle.splitter.specs.Cuts.{cut_point}
@@ -21,7 +21,7 @@ use Rattle.core_steps.specs.Boards.{Worker, worker, first_board, Move, named_by}
 use Rattle.core_steps.specs.Views.{turn_of}
 use Rattle.core_steps.specs.declared.progress.Progress.{Progress}
 use Rattle.core_steps.specs.declared.post.Post.{Post}
-use Rattle.core_steps.specs.Cores.{of_client, of_worker, IsUnfinished, worked_part}
+use Rattle.core_steps.specs.Cores.{of_client, of_worker, IsUnfinished, worked_part, refusal_of}
 use Rattle.core_steps.specs.Desks.{Station, board, result_of, results, HasPart, IsJobOn}
 use Rattle.core_steps.specs.Collected.{IsCollected}
 use Rattle.core_steps.specs.Moves.{MovesTo}
@@ -32,7 +32,7 @@ use Rattle.core_steps.specs.Steps.{StepsTo}
 use Rattle.core_steps.proofs.KeptBoards.{CutsWithin}
 use Rattle.core_steps.proofs.Postings.{AllBelow, below_all_values, push_is_put, set_is_put, value_here, number_here}
 use Rattle.core_steps.proofs.Stations.{worker_is}
-use Rattle.core_steps.proofs.WholeSteps.{IsOpen, is_open, long_desks, frozen_whole, unfinished_whole, collected_whole, no_worker, moved_whole}
+use Rattle.core_steps.proofs.WholeSteps.{IsOpen, is_open, long_desks, frozen_whole, not_refused, unfinished_whole, collected_whole, refusal_is, no_worker, moved_whole}
 use Rattle.core_steps.proofs.Workings.{result_at}
 
 -- what stands at a place
@@ -133,6 +133,18 @@ module _ {K V Q P A I : Type 0} (R : K → K → Ordering) (path : K → ℕ) (a
               let its : stands.job ≡ asking = ap (λ (r : Option (Job K V Q)). unwrap_or r asking) (sym stands.named ∙ named) in
               subst (λ (q : Q). answers q (worked_part (divided path Decides) (core_of s (posts_of ps) w g) j k) (f x)) (stands.has.query ∙ ap (λ (y : Job K V Q). y.query) its)
               (subst (λ (n : Map K V). answers (arc_value d.query) n (f x)) (λ i. parts path (sym stands.map_is i) (worker (sym stands.board_is i) k).worked) h)
+
+      -- a finish of it is not refused, nor a move of its workers
+      pub finish_unrefused : refusal kind s (finish j) ≡ None
+      finish_unrefused =
+          let found = there_is ps place lies.inside in
+          let stands = open_here found.0 found.1 in
+          not_refused R path answers ready kind Decides cuts s j stands.job stands.named
+
+      pub move_unrefused : (x : Move) → list_any (λ v. nat_le w v) (named_by x) ≡ false → refusal_of (core_of s (posts_of ps) w g) j x ≡ None
+      move_unrefused x e =
+          let found = there_is ps place lies.inside in
+          refusal_is R path answers ready kind Decides cuts s (posts_of ps) w g j x (post_of found.0).1 false (open_here found.0 found.1) e
 
       -- 3. It is collected.
       pub unfinished_here : (d : Post K V Q P) (q : Q) (o : Option P) → d ≡ get_or ps place d → q ≡ arc_value d.query → o ≡ None

@@ -210,7 +210,7 @@ module _ {K V Q P A I : Type 0} (R : K → K → Ordering) (path : K → ℕ) (a
         its_job None p fits = absurd fits
 
     -- it is not refused
-    not_refused : (s : State K V Q) (j : ℕ) (job : Job K V Q) → job_at s j ≡ Some job → refusal kind s (finish j) ≡ None
+    pub not_refused : (s : State K V Q) (j : ℕ) (job : Job K V Q) → job_at s j ≡ Some job → refusal kind s (finish j) ≡ None
     not_refused s j job named = ap (λ (o : Option (Job K V Q)). first_of ((not (is_some o), NoJob) ∷ (false, Taken) ∷ (false, TooManyJobs) ∷ (false, Full) ∷ [])) named
 
     -- what a worker's pairs decide, in the words of the core and in those of the job
@@ -287,7 +287,7 @@ module _ {K V Q P A I : Type 0} (R : K → K → Ordering) (path : K → ℕ) (a
     tells_of (done lo hi n true) D E to from is_so = to is_so
     tells_of (done lo hi n false) D E to from is_so = λ e. is_so (from e)
 
-    refusal_is : (s : State K V Q) (posts : Map ℕ (Posted K V Q P)) (w g j : ℕ) (x : Move) (post : Posted K V Q P) (b : Bool) → IsOpen s posts w g j post → list_any (λ v. nat_le w v) (named_by x) ≡ b
+    pub refusal_is : (s : State K V Q) (posts : Map ℕ (Posted K V Q P)) (w g j : ℕ) (x : Move) (post : Posted K V Q P) (b : Bool) → IsOpen s posts w g j post → list_any (λ v. nat_le w v) (named_by x) ≡ b
         → refusal_of (core_of s posts w g) j x ≡ first_of ((b, NoWorker) ∷ [])
     refusal_is s posts w g j x post b stands e =
         ap (λ (o : Option (Job K V Q)). first_of ((not (is_some o), NoJob) ∷ (list_any (λ v. nat_le w v) (named_by x), NoWorker) ∷ [])) stands.named

@@ -1,5 +1,5 @@
 -- How the steps of a core and their outcomes appear to its definitions.
-use Rattle.std.specs.Prelude.{◌≡◌, List, [], ◌∷◌, Result, Ok, Err}
+use Rattle.std.specs.Prelude.{◌≡◌, List, [], ◌∷◌, Option, Result, Ok, Err}
 use Rattle.std.specs.Arc.{arc_value}
 use Rattle.versions.specs.Map.{Map}
 use Rattle.versions.specs.declared.refusal.Refusal.{Refusal}
@@ -12,7 +12,7 @@ use Rattle.handles.specs.Machine.{Kind, Request, view, freeze, finish, abandon, 
 use Rattle.handles.specs.Machine as machine
 use Rattle.handles.specs.Views.{request_of, call_outcome}
 use Rattle.core_steps.specs.Boards.{taking, stealing, splitting, working}
-use Rattle.core_steps.specs.Cores.{CoreState, Asked, of_client, of_worker, Told, to_client, to_worker, no_turn, Division, CoreStep}
+use Rattle.core_steps.specs.Cores.{CoreState, Asked, of_client, of_worker, Told, to_client, to_worker, no_turn, Division, CoreStep, refusal_of}
 use Rattle.core_steps.specs.Traces.{client_requests, client_outcomes, CoreRun}
 use Rattle.core_steps.specs.Views.{turn_of}
 use Rattle.core_steps.specs.declared.step.Step.{Step}
@@ -68,6 +68,11 @@ call_told (Err e) = refused_outcome e
 abbrev pub view_told : {K V I : Type 0} → Result (Map K V) Refusal → Result (Outcome K V I) NoMemory
 view_told (Ok m) = Ok (outcomes.View m)
 view_told (Err e) = refused_outcome e
+
+-- the refusal that is due to what is asked, if one is: a client's is the machine's, a worker's the core's
+abbrev pub refusal_due : {K V Q A B : Type 0} → Kind K V Q A B → CoreState K V Q → Asked K V Q → Option Refusal
+refusal_due kind s (of_client r) = machine.refusal kind s.machine r
+refusal_due kind s (of_worker j x) = refusal_of s j x
 
 module _ {K V Q I A : Type 0} (kind : Kind K V Q A (plain.Told K V I)) (division : Division K V Q) where
   -- one step of the core, of which the outcome shows what is told

@@ -1,12 +1,12 @@
 //! The core: a table of handles, with a board for each open job.
-ghost use Rattle.std.specs.Prelude.{◌≡◌, ◌≤◌, ◌<◌, ◌&&◌, ◌++◌, ◌∷◌, [], All, IfErr, IfOk, IfSome, OnErr, OnOk, Some, is_none, is_some, not, nat_lt, map, take, length};
-ghost use Rattle.handles.specs.Machine.{Job, abandon, finish, freeze, job_at, view};
+ghost use Rattle.std.specs.Prelude.{◌≡◌, ◌≤◌, ◌<◌, ◌&&◌, ◌++◌, ◌∷◌, [], All, IfErr, IfOk, IfSome, OnErr, OnOk, None, Some, is_none, is_some, not, nat_lt, map, take, length, true};
+ghost use Rattle.handles.specs.Machine.{Job, abandon, finish, freeze, job_at, refusal, view};
 ghost use Rattle.handles.specs.Views.{request_of};
 ghost use Rattle.core_steps.specs.Cores.{new_core, of_client, of_worker, worked_part};
 ghost use Rattle.core_steps.specs.Invariants.{IsCore};
 ghost use Rattle.core_steps.specs.Moves.{move_of};
 ghost use Rattle.core_steps.specs.Queries.{asked, divided};
-ghost use Rattle.core_steps.specs.Steps.{CanAsk, IsAnswered, Ran, StepsTo, asked_by};
+ghost use Rattle.core_steps.specs.Steps.{CanAsk, IsAnswered, Ran, StepsTo, asked_by, refusal_due};
 ghost use Rattle.core_steps.specs.declared.outcome.Outcome.{Outcome};
 
 use crate::board::{begin_whole, vacant};
@@ -92,7 +92,8 @@ impl<K: PathKey + Drop, V: Eq + Drop, Q: Asks<K, V> + Drop> Core<K, V, Q> {
 
     /// Makes one step of a client or of a worker.
     ///
-    /// A query that is frozen may be called on every pair. After `NoMemory` all is as before.
+    /// A query that is frozen may be called on every pair. A refusal that is due is told whatever the memory. After
+    /// `NoMemory` all is as before.
     pub fn step(
         &mut self,
         alloc: Global,
@@ -100,6 +101,7 @@ impl<K: PathKey + Drop, V: Eq + Drop, Q: Asks<K, V> + Drop> Core<K, V, Q> {
     ) -> Result<Outcome<K, V, Q::Item>, NoMemory>
         requires { CanAsk Q.ready (asked_by step) }
         ensures step { IsAnswered (asked K.cmp V.eq Q.target_of Q.answered) (divided K.path_of Q.decides) self.old (asked_by step) result self.new }
+        ensures due { OnErr result (refusal_due (asked K.cmp V.eq Q.target_of Q.answered) self.old (asked_by step) ≡ None) }
         ensures core { IsCore self.new }
     {
         let answer = self.made(alloc, step);
@@ -165,7 +167,8 @@ impl<K: PathKey + Drop, V: Eq + Drop, Q: Asks<K, V> + Drop> Core<K, V, Q> {
         step: Step<K, V, Q>,
     ) -> Result<Outcome<K, V, Q::Item>, NoMemory>
         requires { CanAsk Q.ready (asked_by step) }
-        ensures { IsAnswered (asked K.cmp V.eq Q.target_of Q.answered) (divided K.path_of Q.decides) self.old (asked_by step) result self.new }
+        ensures step { IsAnswered (asked K.cmp V.eq Q.target_of Q.answered) (divided K.path_of Q.decides) self.old (asked_by step) result self.new }
+        ensures due { OnErr result (refusal_due (asked K.cmp V.eq Q.target_of Q.answered) self.old (asked_by step) ≡ None) }
     {
         match step {
             Step::Call(call) => self.call(alloc, call),
@@ -182,7 +185,8 @@ impl<K: PathKey + Drop, V: Eq + Drop, Q: Asks<K, V> + Drop> Core<K, V, Q> {
 
     // A client makes a call.
     fn call(&mut self, alloc: Global, call: Call<K, V>) -> Result<Outcome<K, V, Q::Item>, NoMemory>
-        ensures { IsAnswered (asked K.cmp V.eq Q.target_of Q.answered) (divided K.path_of Q.decides) self.old (of_client (request_of call)) result self.new }
+        ensures step { IsAnswered (asked K.cmp V.eq Q.target_of Q.answered) (divided K.path_of Q.decides) self.old (of_client (request_of call)) result self.new }
+        ensures due { OnErr result (refusal_due (asked K.cmp V.eq Q.target_of Q.answered) self.old (of_client (request_of call)) ≡ None) }
     {
         law_of_cuts::<K, V>();
         law_of_open_jobs::<K, V, Q>();
@@ -191,14 +195,16 @@ impl<K: PathKey + Drop, V: Eq + Drop, Q: Asks<K, V> + Drop> Core<K, V, Q> {
 
     // A client views a map.
     fn view(&mut self, handle: u32) -> Result<Outcome<K, V, Q::Item>, NoMemory>
-        ensures { IsAnswered (asked K.cmp V.eq Q.target_of Q.answered) (divided K.path_of Q.decides) self.old (of_client (view handle)) result self.new }
+        ensures step { IsAnswered (asked K.cmp V.eq Q.target_of Q.answered) (divided K.path_of Q.decides) self.old (of_client (view handle)) result self.new }
+        ensures due { OnErr result (refusal_due (asked K.cmp V.eq Q.target_of Q.answered) self.old (of_client (view handle)) ≡ None) }
     {
         law_of_cuts::<K, V>();
         law_of_open_jobs::<K, V, Q>();
         view_outcome(self.table.view(handle))
     }
 
-    // A client freezes a map. All places are made before the table is called, so that nothing is refused after it.
+    // A client freezes a map. A refusal that is due comes before any place is made; and all places are made before the
+    // table is called, so that nothing is refused after it.
     fn freeze(
         &mut self,
         alloc: Global,
@@ -206,10 +212,14 @@ impl<K: PathKey + Drop, V: Eq + Drop, Q: Asks<K, V> + Drop> Core<K, V, Q> {
         query: Arc<Q>,
     ) -> Result<Outcome<K, V, Q::Item>, NoMemory>
         requires { Q.ready query.value }
-        ensures { IsAnswered (asked K.cmp V.eq Q.target_of Q.answered) (divided K.path_of Q.decides) self.old (of_client (freeze handle query.value)) result self.new }
+        ensures step { IsAnswered (asked K.cmp V.eq Q.target_of Q.answered) (divided K.path_of Q.decides) self.old (of_client (freeze handle query.value)) result self.new }
+        ensures due { OnErr result (refusal_due (asked K.cmp V.eq Q.target_of Q.answered) self.old (of_client (freeze handle query.value)) ≡ None) }
     {
         law_of_cuts::<K, V>();
         law_of_freezes::<K, V, Q>();
+        if refuses_freeze(&self.table, handle, &query) {
+            return self.refused_freeze(handle, query);
+        }
         let kept = Arc::try_clone(&query)?;
         let mut board = vacant(alloc, &*kept, self.workers)?;
         let queue = VecDeque::with_capacity(alloc, 1)?;
@@ -228,9 +238,27 @@ impl<K: PathKey + Drop, V: Eq + Drop, Q: Asks<K, V> + Drop> Core<K, V, Q> {
         Ok(Outcome::Frozen(number))
     }
 
+    // A client's freeze that the table refuses.
+    fn refused_freeze(
+        &mut self,
+        handle: u32,
+        query: Arc<Q>,
+    ) -> Result<Outcome<K, V, Q::Item>, NoMemory>
+        requires { is_some (refusal_due (asked K.cmp V.eq Q.target_of Q.answered) self.old (of_client (freeze handle query.value))) ≡ true }
+        ensures step { IsAnswered (asked K.cmp V.eq Q.target_of Q.answered) (divided K.path_of Q.decides) self.old (of_client (freeze handle query.value)) result self.new }
+        ensures due { OnErr result (refusal_due (asked K.cmp V.eq Q.target_of Q.answered) self.old (of_client (freeze handle query.value)) ≡ None) }
+    {
+        law_of_cuts::<K, V>();
+        match self.table.freeze(handle, query) {
+            Ok(_) => unreachable!(),
+            Err(refusal) => refused(refusal),
+        }
+    }
+
     // A client collects the answer of a job.
     fn finish(&mut self, alloc: Global, job: u64) -> Result<Outcome<K, V, Q::Item>, NoMemory>
-        ensures { IsAnswered (asked K.cmp V.eq Q.target_of Q.answered) (divided K.path_of Q.decides) self.old (of_client (finish job)) result self.new }
+        ensures step { IsAnswered (asked K.cmp V.eq Q.target_of Q.answered) (divided K.path_of Q.decides) self.old (of_client (finish job)) result self.new }
+        ensures due { OnErr result (refusal_due (asked K.cmp V.eq Q.target_of Q.answered) self.old (of_client (finish job)) ≡ None) }
     {
         law_of_cuts::<K, V>();
         parts_follow_intervals::<K, V>();
@@ -251,7 +279,8 @@ impl<K: PathKey + Drop, V: Eq + Drop, Q: Asks<K, V> + Drop> Core<K, V, Q> {
 
     // A client closes a job without an answer.
     fn abandon(&mut self, job: u64) -> Result<Outcome<K, V, Q::Item>, NoMemory>
-        ensures { IsAnswered (asked K.cmp V.eq Q.target_of Q.answered) (divided K.path_of Q.decides) self.old (of_client (abandon job)) result self.new }
+        ensures step { IsAnswered (asked K.cmp V.eq Q.target_of Q.answered) (divided K.path_of Q.decides) self.old (of_client (abandon job)) result self.new }
+        ensures due { OnErr result (refusal_due (asked K.cmp V.eq Q.target_of Q.answered) self.old (of_client (abandon job)) ≡ None) }
     {
         law_of_cuts::<K, V>();
         match self.table.abandon(job) {
@@ -269,7 +298,8 @@ impl<K: PathKey + Drop, V: Eq + Drop, Q: Asks<K, V> + Drop> Core<K, V, Q> {
         job: u64,
         chosen: Move,
     ) -> Result<Outcome<K, V, Q::Item>, NoMemory>
-        ensures { IsAnswered (asked K.cmp V.eq Q.target_of Q.answered) (divided K.path_of Q.decides) self.old (of_worker job (move_of chosen)) result self.new }
+        ensures step { IsAnswered (asked K.cmp V.eq Q.target_of Q.answered) (divided K.path_of Q.decides) self.old (of_worker job (move_of chosen)) result self.new }
+        ensures due { OnErr result (refusal_due (asked K.cmp V.eq Q.target_of Q.answered) self.old (of_worker job (move_of chosen)) ≡ None) }
     {
         law_of_cuts::<K, V>();
         let Some(place) = place_of(&self.posts, job) else {
@@ -281,5 +311,19 @@ impl<K: PathKey + Drop, V: Eq + Drop, Q: Asks<K, V> + Drop> Core<K, V, Q> {
         let post = &mut self.posts[place];
         let progress = make_move(alloc, &*post.query, &mut post.board, self.grain, chosen)?;
         Ok(Outcome::Turn(progress))
+    }
+}
+
+// Whether a refusal of a freeze is due.
+fn refuses_freeze<K: PathKey + Drop, V: Eq + Drop, Q: Asks<K, V> + Drop>(
+    table: &Table<K, V, Q>,
+    handle: u32,
+    query: &Q,
+) -> bool
+    ensures { result ≡ is_some (refusal (asked K.cmp V.eq Q.target_of Q.answered) table.now (freeze handle query.now)) }
+{
+    match table.foresee_freeze(handle, query) {
+        Ok(_) => false,
+        Err(refusal) => !matches!(refusal, Refusal::NoMemory),
     }
 }

@@ -5,6 +5,7 @@ mod calls;
 mod kinds;
 mod memory;
 mod random;
+mod refusals;
 mod rows;
 
 use crate::plans::{Plan, TestCore, step_of};

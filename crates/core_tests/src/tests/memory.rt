@@ -16,12 +16,12 @@ use test_keys::take_all;
 // branch, and of room for one child.
 const SIZES: [usize; 10] = [544, 120, 160, 768, 384, 192, 128, 64, 48, 32];
 
-// How many blocks are given back at most.
-const MOST_GIVEN: usize = 120;
+/// How many blocks are given back at most.
+pub(super) const MOST_GIVEN: usize = 120;
 
-// Blocks of each size in turn, the first size last or first. The last one is given back first: it is room for one
-// request of its size.
-fn spare(alloc: Global, first_is_last: bool) -> Result<Vec<Vec<u8>>, AllocError> {
+/// Blocks of each size in turn, the first size last or first. The last one is given back first: it is room for one
+/// request of its size.
+pub(super) fn spare(alloc: Global, first_is_last: bool) -> Result<Vec<Vec<u8>>, AllocError> {
     let mut blocks = Vec::with_capacity(alloc, MOST_GIVEN)?;
     for number in 0..MOST_GIVEN {
         let at = if first_is_last {
@@ -34,8 +34,8 @@ fn spare(alloc: Global, first_is_last: bool) -> Result<Vec<Vec<u8>>, AllocError>
     Ok(blocks)
 }
 
-// Drops so many blocks.
-fn give(blocks: &mut Vec<Vec<u8>>, count: usize) {
+/// Drops so many blocks.
+pub(super) fn give(blocks: &mut Vec<Vec<u8>>, count: usize) {
     for _ in 0..count {
         let _ = blocks.pop();
     }

@@ -1,5 +1,5 @@
-use Rattle.std.proofs.Common.{sym, subst}
-use Rattle.handles.specs.Machine.{abandon}
+use Rattle.std.proofs.Common.{◌≡◌, None, sym, subst}
+use Rattle.handles.specs.Machine.{abandon, refusal}
 use Rattle.handles.specs.Views.{unit_outcome}
 use Rattle.core_steps.specs.Cores.{of_client}
 use Rattle.core_steps.specs.Posts.{IsWhole, posts_of, core_of}
@@ -8,10 +8,11 @@ use Rattle.core_steps.specs.Steps.{IsAnswered, StepsTo}
 use Rattle.core_steps.specs.declared.outcome.Outcome.TheVariants.{Abandoned}
 use Rattle.core_steps.proofs.KeptBoards.{cuts_within}
 use Rattle.core_steps.proofs.WholeSteps.{refusal_whole, abandoned_whole}
+use Rattle.core_steps.proofs.DueSteps.{never_wanting}
 use Rattle.core_steps.proofs.cores.Core.abandon.Goals as goal
 
-pub returns-in-Err : goal.returns-in-Err
-returns-in-Err g c =
+pub returns-in-Err-clause-step : goal.returns-in-Err-clause-step
+returns-in-Err-clause-step g c =
     let R = g.K.Ord.cmp in
     let path = g.K.PathKey.path_of in
     let kind = asked R g.V.PartialEq.eq g.Q.Asks.target_of g.Q.Asks.answered in
@@ -35,8 +36,8 @@ invariant_of-self-2 g c =
     let closed = abandoned_whole R path g.Q.Bulk.answers g.Q.Bulk.ready kind g.Q.Bulk.decides cuts t.table c.abandon.new.self (posts_of ps) t.workers t.grain c.args.job c.in-Ok.ensures.step c.self.invariant in
     subst (λ posts. IsWhole R path g.Q.Bulk.answers g.Q.Bulk.ready c.abandon.new.self posts t.workers t.grain) (sym c.close.ensures) closed.1
 
-pub returns : goal.returns
-returns g c =
+pub returns-clause-step : goal.returns-clause-step
+returns-clause-step g c =
     let R = g.K.Ord.cmp in
     let path = g.K.PathKey.path_of in
     let kind = asked R g.V.PartialEq.eq g.Q.Asks.target_of g.Q.Asks.answered in
@@ -47,3 +48,8 @@ returns g c =
     let closed = abandoned_whole R path g.Q.Bulk.answers g.Q.Bulk.ready kind g.Q.Bulk.decides cuts t.table c.abandon.new.self (posts_of ps) t.workers t.grain c.args.job c.in-Ok.ensures.step c.self.invariant in
     subst (λ s. StepsTo kind division s (of_client (abandon c.args.job)) Abandoned (core_of c.abandon.new.self (posts_of c.close.new.posts.items) t.workers t.grain)) c.self.view_is
     (subst (λ posts. StepsTo kind division (core_of t.table (posts_of ps) t.workers t.grain) (of_client (abandon c.args.job)) Abandoned (core_of c.abandon.new.self posts t.workers t.grain)) (sym c.close.ensures) closed.0)
+
+pub returns-in-Err-clause-due : goal.returns-in-Err-clause-due
+returns-in-Err-clause-due g c =
+    let kind = asked g.K.Ord.cmp g.V.PartialEq.eq g.Q.Asks.target_of g.Q.Asks.answered in
+    never_wanting (refusal kind c.args.self.now.machine (abandon c.args.job) ≡ None) c.refused.result c.in-Err.refusal c.refused.ensures c.in-Err.ensures.memory

@@ -1,5 +1,5 @@
-use Rattle.std.proofs.Common.{sym, subst}
-use Rattle.handles.specs.Machine.{finish}
+use Rattle.std.proofs.Common.{◌≡◌, None, sym, subst}
+use Rattle.handles.specs.Machine.{finish, refusal}
 use Rattle.handles.specs.Views.{finished_outcome}
 use Rattle.core_steps.specs.Cores.{of_client}
 use Rattle.core_steps.specs.Desks.{IsJobOn}
@@ -9,7 +9,8 @@ use Rattle.core_steps.specs.Steps.{IsAnswered, StepsTo}
 use Rattle.core_steps.specs.declared.outcome.Outcome.TheVariants.{Answer, Unfinished}
 use Rattle.core_steps.proofs.KeptBoards.{cuts_within}
 use Rattle.core_steps.proofs.WholeSteps.{refusal_whole, finished_whole}
-use Rattle.core_steps.proofs.OpenSteps.{open_here, unfinished_here, collected_here}
+use Rattle.core_steps.proofs.OpenSteps.{open_here, finish_unrefused, unfinished_here, collected_here}
+use Rattle.core_steps.proofs.DueSteps.{at_err, never_wanting}
 use Rattle.core_steps.proofs.cores.Core.finish.Goals as goal
 
 pub collected-requires : goal.collected-requires
@@ -25,8 +26,8 @@ collected-requires g c =
     let stands = open_here R path g.Q.Bulk.answers g.Q.Bulk.ready kind g.Q.Bulk.decides cuts t.table ps t.workers t.grain c.self.invariant c.args.job c.in-Some.place lies d c.index-post.ensures in
     (stands.job.frozen, subst (λ q. IsJobOn R path (g.Q.Bulk.answers q) stands.job.frozen d.board) (sym c.deref-2.ensures) stands.has.desks)
 
-pub returns-in_default-2 : goal.returns-in_default-2
-returns-in_default-2 g c =
+pub returns-in_default-2-clause-step : goal.returns-in_default-2-clause-step
+returns-in_default-2-clause-step g c =
     let R = g.K.Ord.cmp in
     let path = g.K.PathKey.path_of in
     let kind = asked R g.V.PartialEq.eq g.Q.Asks.target_of g.Q.Asks.answered in
@@ -50,8 +51,8 @@ finish-requires g c =
     (collected_here R path g.Q.Bulk.answers g.Q.Bulk.ready kind g.Q.Bulk.decides cuts t.table ps t.workers t.grain c.self.invariant c.args.job c.in-Some.place lies
     c.parts_follow_intervals.ensures.whole c.index-post.result.now c.deref-2.result.now c.in_ok-part.field-0 c.in-Some-2.part c.index-post.ensures c.deref-2.ensures c.in-Some-2.is c.in_ok-part.ensures).0
 
-pub returns-in-Err : goal.returns-in-Err
-returns-in-Err g c =
+pub returns-in-Err-clause-step : goal.returns-in-Err-clause-step
+returns-in-Err-clause-step g c =
     let R = g.K.Ord.cmp in
     let path = g.K.PathKey.path_of in
     let kind = asked R g.V.PartialEq.eq g.Q.Asks.target_of g.Q.Asks.answered in
@@ -78,8 +79,8 @@ invariant_of-self-2 g c =
     let closed = finished_whole R path g.Q.Bulk.answers g.Q.Bulk.ready kind g.Q.Bulk.decides cuts t.table c.finish.new.self (posts_of ps) t.workers t.grain c.args.job c.in-Ok.answer c.in-Ok.ensures.step exact c.self.invariant in
     subst (λ posts. IsWhole R path g.Q.Bulk.answers g.Q.Bulk.ready c.finish.new.self posts t.workers t.grain) (sym c.close.ensures) closed.1
 
-pub returns : goal.returns
-returns g c =
+pub returns-clause-step : goal.returns-clause-step
+returns-clause-step g c =
     let R = g.K.Ord.cmp in
     let path = g.K.PathKey.path_of in
     let kind = asked R g.V.PartialEq.eq g.Q.Asks.target_of g.Q.Asks.answered in
@@ -93,3 +94,20 @@ returns g c =
     let closed = finished_whole R path g.Q.Bulk.answers g.Q.Bulk.ready kind g.Q.Bulk.decides cuts t.table c.finish.new.self (posts_of ps) t.workers t.grain c.args.job c.in-Ok.answer c.in-Ok.ensures.step exact c.self.invariant in
     subst (λ s. StepsTo kind division s (of_client (finish c.args.job)) (Answer c.in-Ok.answer) (core_of c.finish.new.self (posts_of c.close.new.posts.items) t.workers t.grain)) c.self.view_is
     (subst (λ posts. StepsTo kind division (core_of t.table (posts_of ps) t.workers t.grain) (of_client (finish c.args.job)) (Answer c.in-Ok.answer) (core_of c.finish.new.self posts t.workers t.grain)) (sym c.close.ensures) closed.0)
+
+pub returns-in_err-part-clause-due : goal.returns-in_err-part-clause-due
+returns-in_err-part-clause-due g c =
+    let R = g.K.Ord.cmp in
+    let path = g.K.PathKey.path_of in
+    let kind = asked R g.V.PartialEq.eq g.Q.Asks.target_of g.Q.Asks.answered in
+    let cuts = cuts_within path c.law_of_cuts.ensures.divide in
+    let t = c.self.inside in
+    let ps = t.posts.items in
+    let lies = subst (λ qs. IsPlaceOf qs c.args.job c.in-Some.place) c.deref.ensures.value c.in-Some.ensures.some in
+    at_err c.from_residual.result (subst (λ s. refusal kind s.machine (finish c.args.job) ≡ None) c.self.view_is
+    (finish_unrefused R path g.Q.Bulk.answers g.Q.Bulk.ready kind g.Q.Bulk.decides cuts t.table ps t.workers t.grain c.self.invariant c.args.job c.in-Some.place lies))
+
+pub returns-in-Err-clause-due : goal.returns-in-Err-clause-due
+returns-in-Err-clause-due g c =
+    let kind = asked g.K.Ord.cmp g.V.PartialEq.eq g.Q.Asks.target_of g.Q.Asks.answered in
+    never_wanting (refusal kind c.args.self.now.machine (finish c.args.job) ≡ None) c.refused.result c.in-Err.refusal c.refused.ensures c.in-Err.ensures.memory

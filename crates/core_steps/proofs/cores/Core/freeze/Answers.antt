@@ -1,7 +1,7 @@
-use Rattle.std.proofs.Common.{rules, ◌≡◌, ◌++◌, ◌∷◌, [], ◌∙◌, ap, sym, subst}
+use Rattle.std.proofs.Common.{rules, ◌≡◌, None, ◌++◌, ◌∷◌, [], ◌∙◌, ap, sym, subst}
 use Rattle.std.specs.Prelude.{All}
 use Rattle.std.specs.Arc.{arc_value}
-use Rattle.handles.specs.Machine.{freeze}
+use Rattle.handles.specs.Machine.{freeze, refusal}
 use Rattle.handles.specs.Views.{frozen_outcome}
 use Rattle.core_steps.specs.Boards.{first_board}
 use Rattle.core_steps.specs.Cores.{Asked, of_client}
@@ -14,10 +14,11 @@ use Rattle.core_steps.specs.declared.outcome.Outcome.TheVariants.{Frozen}
 use Rattle.core_steps.proofs.KeptBoards.{cuts_within}
 use Rattle.core_steps.proofs.WholeSteps.{refusal_whole}
 use Rattle.core_steps.proofs.OpenSteps.{pushed_whole}
+use Rattle.core_steps.proofs.DueSteps.{due_refused}
 use Rattle.core_steps.proofs.cores.Core.freeze.Goals as goal
 
-pub returns-in-Err : goal.returns-in-Err
-returns-in-Err g c =
+pub returns-in-Err-clause-step : goal.returns-in-Err-clause-step
+returns-in-Err-clause-step g c =
     let R = g.K.Ord.cmp in
     let path = g.K.PathKey.path_of in
     let kind = asked R g.V.PartialEq.eq g.Q.Asks.target_of g.Q.Asks.answered in
@@ -32,9 +33,21 @@ returns-in-Err g c =
     (subst (λ qs. IsAnswered kind division (core_of t.table (posts_of ps) t.workers t.grain) asks c.refused.result (core_of c.freeze.new.self (posts_of qs) t.workers t.grain)) (sym same)
     (subst (λ r. IsAnswered kind division (core_of t.table (posts_of ps) t.workers t.grain) asks r (core_of c.freeze.new.self (posts_of ps) t.workers t.grain)) (sym c.refused.ensures) answered))
 
+pub invariant_of-self-in-Err : goal.invariant_of-self-in-Err
+invariant_of-self-in-Err g c =
+    let R = g.K.Ord.cmp in
+    let path = g.K.PathKey.path_of in
+    let kind = asked R g.V.PartialEq.eq g.Q.Asks.target_of g.Q.Asks.answered in
+    let cuts = cuts_within path c.law_of_cuts.ensures.divide in
+    let t = c.self.inside in
+    let ps = t.posts.items in
+    let same : c.reserve.new.self.items ≡ ps = search rules in
+    subst (λ qs. IsWhole R path g.Q.Bulk.answers g.Q.Bulk.ready c.freeze.new.self (posts_of qs) t.workers t.grain) (sym same)
+    (refusal_whole R path g.Q.Bulk.answers g.Q.Bulk.ready kind g.Q.Bulk.decides cuts frozen_outcome t.table c.freeze.new.self (posts_of ps) t.workers t.grain (freeze c.args.handle c.args.query.value) c.in-Err.refusal c.in-Err.ensures.step c.self.invariant).1
+
 pub begin_whole-requires-clause-desks : goal.begin_whole-requires-clause-desks
 begin_whole-requires-clause-desks g c =
-    subst (λ q. All (IsVacant (g.Q.Bulk.answers q)) c.in_ok-board.board) (c.deref.ensures ∙ sym c.deref-2.ensures) c.in_ok-board.ensures.vacant
+    subst (λ q. All (IsVacant (g.Q.Bulk.answers q)) c.in_ok-board.board) (c.deref-2.ensures ∙ sym c.deref-3.ensures) c.in_ok-board.ensures.vacant
 
 pub invariant_of-self-2 : goal.invariant_of-self-2
 invariant_of-self-2 g c =
@@ -47,12 +60,12 @@ invariant_of-self-2 g c =
     let p : Post g.row.K.Denot g.row.V.Denot g.row.Q.Denot g.row.Q-Part.Denot = record { number = c.in-Ok.opened.0; query = c.in_ok-kept.kept; board = c.begin_whole.new.vacant } in
     let same : arc_value c.in_ok-kept.kept ≡ c.args.query.value = search rules in
     let longer : c.push_reserved.new.self.items ≡ ps ++ p ∷ [] = search rules in
-    let job = subst (λ q. IsJobOn R path (g.Q.Bulk.answers q) c.in-Ok.opened.1 c.begin_whole.new.vacant) c.deref-2.ensures c.begin_whole.ensures.job in
+    let job = subst (λ q. IsJobOn R path (g.Q.Bulk.answers q) c.in-Ok.opened.1 c.begin_whole.new.vacant) c.deref-3.ensures c.begin_whole.ensures.job in
     let pushed = pushed_whole R path g.Q.Bulk.answers g.Q.Bulk.ready kind g.Q.Bulk.decides cuts t.table ps t.workers t.grain c.self.invariant c.freeze.new.self c.args.handle c.args.query.value c.in-Ok.opened.1 p c.in-Ok.ensures.step same c.requires job (c.begin_whole.ensures.first ∙ ap first_board c.in_ok-board.ensures.count) in
     subst (λ qs. IsWhole R path g.Q.Bulk.answers g.Q.Bulk.ready c.freeze.new.self (posts_of qs) t.workers t.grain) (sym longer) pushed.1
 
-pub returns : goal.returns
-returns g c =
+pub returns-clause-step : goal.returns-clause-step
+returns-clause-step g c =
     let R = g.K.Ord.cmp in
     let path = g.K.PathKey.path_of in
     let kind = asked R g.V.PartialEq.eq g.Q.Asks.target_of g.Q.Asks.answered in
@@ -64,7 +77,13 @@ returns g c =
     let p : Post g.row.K.Denot g.row.V.Denot g.row.Q.Denot g.row.Q-Part.Denot = record { number = c.in-Ok.opened.0; query = c.in_ok-kept.kept; board = c.begin_whole.new.vacant } in
     let same : arc_value c.in_ok-kept.kept ≡ c.args.query.value = search rules in
     let longer : c.push_reserved.new.self.items ≡ ps ++ p ∷ [] = search rules in
-    let job = subst (λ q. IsJobOn R path (g.Q.Bulk.answers q) c.in-Ok.opened.1 c.begin_whole.new.vacant) c.deref-2.ensures c.begin_whole.ensures.job in
+    let job = subst (λ q. IsJobOn R path (g.Q.Bulk.answers q) c.in-Ok.opened.1 c.begin_whole.new.vacant) c.deref-3.ensures c.begin_whole.ensures.job in
     let pushed = pushed_whole R path g.Q.Bulk.answers g.Q.Bulk.ready kind g.Q.Bulk.decides cuts t.table ps t.workers t.grain c.self.invariant c.freeze.new.self c.args.handle c.args.query.value c.in-Ok.opened.1 p c.in-Ok.ensures.step same c.requires job (c.begin_whole.ensures.first ∙ ap first_board c.in_ok-board.ensures.count) in
     subst (λ s. StepsTo kind division s asks (Frozen c.in-Ok.opened.0) (core_of c.freeze.new.self (posts_of c.push_reserved.new.self.items) t.workers t.grain)) c.self.view_is
     (subst (λ qs. StepsTo kind division (core_of t.table (posts_of ps) t.workers t.grain) asks (Frozen c.in-Ok.opened.0) (core_of c.freeze.new.self (posts_of qs) t.workers t.grain)) (sym longer) pushed.0)
+
+pub returns-in-Err-clause-due : goal.returns-in-Err-clause-due
+returns-in-Err-clause-due g c =
+    let kind = asked g.K.Ord.cmp g.V.PartialEq.eq g.Q.Asks.target_of g.Q.Asks.answered in
+    due_refused (refusal kind c.args.self.now.machine (freeze c.args.handle c.args.query.value) ≡ None) c.refused.result c.in-Err.refusal c.refused.ensures
+    (λ lacks. subst (λ s. refusal kind s.machine (freeze c.args.handle c.args.query.value) ≡ None) c.self.view_is (c.in-Err.ensures.due lacks))

@@ -1,5 +1,5 @@
-use Rattle.std.proofs.Common.{◌∙◌, set, sym, subst}
-use Rattle.core_steps.specs.Cores.{of_worker}
+use Rattle.std.proofs.Common.{◌≡◌, ◌∙◌, None, set, sym, subst}
+use Rattle.core_steps.specs.Cores.{of_worker, refusal_of}
 use Rattle.core_steps.specs.Desks.{IsJobOn}
 use Rattle.core_steps.specs.Moves.{move_of}
 use Rattle.core_steps.specs.Posts.{IsPlaceOf, posts_of, core_of, post_of}
@@ -9,11 +9,12 @@ use Rattle.versions.specs.declared.refusal.Refusal.TheVariants.{NoWorker}
 use Rattle.core_steps.specs.declared.outcome.Outcome.TheVariants.{Turn, Refused}
 use Rattle.core_steps.proofs.KeptBoards.{cuts_within}
 use Rattle.core_steps.proofs.WholeSteps.{names_desks}
-use Rattle.core_steps.proofs.OpenSteps.{open_here, other_here, moved_here, unmoved_here}
+use Rattle.core_steps.proofs.OpenSteps.{open_here, move_unrefused, other_here, moved_here, unmoved_here}
+use Rattle.core_steps.proofs.DueSteps.{at_err}
 use Rattle.core_steps.proofs.cores.Core.turn.Goals as goal
 
-pub returns-then-names_other : goal.returns-then-names_other
-returns-then-names_other g c =
+pub returns-then-names_other-clause-step : goal.returns-then-names_other-clause-step
+returns-then-names_other-clause-step g c =
     let R = g.K.Ord.cmp in
     let path = g.K.PathKey.path_of in
     let kind = asked R g.V.PartialEq.eq g.Q.Asks.target_of g.Q.Asks.answered in
@@ -87,8 +88,8 @@ invariant_of-self-2 g c =
     (moved_here R path g.Q.Bulk.answers g.Q.Bulk.ready kind g.Q.Bulk.decides cuts t.table ps t.workers t.grain c.self.invariant c.args.job c.in-Some.place lies
     c.index_mut-post.result.now (move_of c.args.chosen) c.in_ok-progress.progress c.deref-2.result.now c.make_move.new.board c.index_mut-post.ensures.value c.deref-2.ensures (sym c.names_other.ensures ∙ c.if-names_other.false) c.in_ok-progress.ensures.ok).1
 
-pub returns : goal.returns
-returns g c =
+pub returns-clause-step : goal.returns-clause-step
+returns-clause-step g c =
     let R = g.K.Ord.cmp in
     let path = g.K.PathKey.path_of in
     let kind = asked R g.V.PartialEq.eq g.Q.Asks.target_of g.Q.Asks.answered in
@@ -100,3 +101,16 @@ returns g c =
     let moved = moved_here R path g.Q.Bulk.answers g.Q.Bulk.ready kind g.Q.Bulk.decides cuts t.table ps t.workers t.grain c.self.invariant c.args.job c.in-Some.place lies
     d (move_of c.args.chosen) c.in_ok-progress.progress c.deref-2.result.now c.make_move.new.board c.index_mut-post.ensures.value c.deref-2.ensures (sym c.names_other.ensures ∙ c.if-names_other.false) c.in_ok-progress.ensures.ok in
     subst (λ s. StepsTo kind (divided path g.Q.Bulk.decides) s (of_worker c.args.job (move_of c.args.chosen)) (Turn c.in_ok-progress.progress) (core_of t.table (posts_of (set ps c.in-Some.place (record d { board = c.make_move.new.board }))) t.workers t.grain)) c.self.view_is moved.0
+
+pub returns-in_err-progress-clause-due : goal.returns-in_err-progress-clause-due
+returns-in_err-progress-clause-due g c =
+    let R = g.K.Ord.cmp in
+    let path = g.K.PathKey.path_of in
+    let kind = asked R g.V.PartialEq.eq g.Q.Asks.target_of g.Q.Asks.answered in
+    let cuts = cuts_within path c.law_of_cuts.ensures.divide in
+    let t = c.self.inside in
+    let ps = t.posts.items in
+    let lies = subst (λ qs. IsPlaceOf qs c.args.job c.in-Some.place) c.deref.ensures.value c.in-Some.ensures.some in
+    at_err c.from_residual.result (subst (λ s. refusal_of s c.args.job (move_of c.args.chosen) ≡ None) c.self.view_is
+    (move_unrefused R path g.Q.Bulk.answers g.Q.Bulk.ready kind g.Q.Bulk.decides cuts t.table ps t.workers t.grain c.self.invariant c.args.job c.in-Some.place lies
+    (move_of c.args.chosen) (sym c.names_other.ensures ∙ c.if-names_other.false)))

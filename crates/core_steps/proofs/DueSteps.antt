@@ -1,0 +1,49 @@
+-- A step that wants memory is refused for no other reason.
+use Rattle.std.proofs.Common.{◌≡◌, true, false, refl, sym, ◌∙◌, subst}
+use Rattle.std.specs.Prelude.{Result, Ok, Err, OnErr}
+use Rattle.versions.specs.Map.{Map}
+use Rattle.versions.specs.declared.refusal.Refusal.{Refusal}
+use Rattle.versions.specs.declared.refusal.Refusal.TheVariants.{NoHandle, Taken, Full, NoJob, Unfinished, NoWorker, TooManyJobs, JournalFull, NoMemory, BadNumber}
+use Rattle.trie_shape.specs.declared.no_memory.NoMemory as want
+use Rattle.handles.specs.declared.call_reply.CallReply.{CallReply}
+use Rattle.handles.specs.Views.{lacks_memory}
+use Rattle.core_steps.specs.declared.outcome.Outcome.{Outcome}
+use Rattle.core_steps.specs.Steps.{refused_outcome, call_told, view_told}
+
+-- what holds in any case holds at an error
+pub at_err : {A E P : Type 0} (result : Result A E) → P → OnErr result P
+at_err (Ok x) p = tt
+at_err (Err e) p = p
+
+module _ {K V I : Type 0} (P : Type 0) (result : Result (Outcome K V I) want.NoMemory) where
+  -- what is told of a refusal by the table, where P holds if that is for want of memory
+  pub due_refused : (e : Refusal) → result ≡ refused_outcome e → (lacks_memory {T = Unit {0}} (Err e) ≡ true → P) → OnErr result P
+  due_refused e told due = subst (λ r. OnErr r P) (sym told) (by_case e due)
+    where
+      by_case : (f : Refusal) → (lacks_memory {T = Unit {0}} (Err f) ≡ true → P) → OnErr (refused_outcome {K = K} {V = V} {I = I} f) P
+      by_case NoHandle due = tt
+      by_case Taken due = tt
+      by_case Full due = tt
+      by_case NoJob due = tt
+      by_case Unfinished due = tt
+      by_case NoWorker due = tt
+      by_case TooManyJobs due = tt
+      by_case JournalFull due = tt
+      by_case NoMemory due = due refl
+      by_case BadNumber due = tt
+
+  -- the same where the table never wants memory
+  pub never_wanting : (e : Refusal) → result ≡ refused_outcome e → lacks_memory {T = Unit {0}} (Err e) ≡ false → OnErr result P
+  never_wanting e told never = due_refused e told (λ lacks. absurd (clash (sym lacks ∙ never)))
+    where
+      clash : true ≡ false → ⊥
+      clash h = cc
+
+  -- what is told of a call, and of a view
+  pub due_called : (answer : Result (CallReply V) Refusal) → result ≡ call_told answer → (lacks_memory answer ≡ true → P) → OnErr result P
+  due_called (Ok y) told due = subst (λ r. OnErr r P) (sym told) tt
+  due_called (Err e) told due = due_refused e told due
+
+  pub due_viewed : (answer : Result (Map K V) Refusal) → result ≡ view_told answer → (lacks_memory answer ≡ true → P) → OnErr result P
+  due_viewed (Ok m) told due = subst (λ r. OnErr r P) (sym told) tt
+  due_viewed (Err e) told due = due_refused e told due
