@@ -3,16 +3,16 @@ ghost use Rattle.std.specs.Prelude.{IfOk};
 ghost use Rattle.handles.specs.Machine.{Step, drop_handle};
 ghost use Rattle.handles.specs.Views.{call_outcome, machine};
 
-use super::asking::{Asked, Asking, count_of, filter_of, with_handle};
+use super::asking::{Asked, Asking, count_of, filter_of, put, with_handle};
 use super::{assert_is, entries, of_path};
 use bulk_ops::Asks;
-use handles::{Call, CallReply, Command, Limits, Table, law_of_answers, law_of_foresight};
+use handles::{Call, CallReply, Command, Limits, Reply, Table, law_of_answers, law_of_foresight};
 use hash_path::PathKey;
 use std::alloc::Global;
 use std::process::Abort;
 use std::sync::Arc;
 use std::test::Fail;
-use test_keys::ChosenKey;
+use test_keys::{ChosenKey, take_all};
 use versions::{Refusal, View};
 
 // Limits that a random run meets.
@@ -203,6 +203,27 @@ fn each_call_is_foreseen(rt: HostRuntime) -> Result<(), Fail> {
         kinds |= bit_of(assert_foreseen(&rt, alloc, &mut table, drawn));
     }
     assert_is(&rt, kinds, 255);
+    Ok(())
+}
+
+#[test]
+fn twins_make_no_request(rt: HostRuntime) -> Result<(), Fail> {
+    let alloc = rt.alloc();
+    let mut table = with_handle(alloc)?;
+    put(alloc, &mut table, 1, 97, 4)?;
+    let get = Drawn::Serve(Call::On(1, Command::Get(of_path(alloc, 97)?)));
+    let freeze = Drawn::Freeze(1, count_of(alloc, 4)?);
+    let four = Ok(Seen::Reply(CallReply::Reply(Reply::Old(Some(Arc::new(alloc, 4)?)))));
+
+    let taken = take_all(alloc)?;
+    let found = foreseen(&table, &get);
+    let viewed = foreseen(&table, &Drawn::View(1));
+    let frozen = foreseen(&table, &freeze);
+    drop(taken);
+
+    assert_is(&rt, found, four);
+    assert_is(&rt, viewed, Ok(Seen::Viewed(1, None)));
+    assert_is(&rt, frozen, Ok(Seen::Frozen(0, 1, None)));
     Ok(())
 }
 
