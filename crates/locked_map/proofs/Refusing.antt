@@ -1,0 +1,59 @@
+-- What may be the first refusal that is due.
+use Rattle.std.proofs.Common.{◌≡◌, ◌<◌, ℕ, Bool, true, false, cond, nat_lt, Option, Some, None, refl, sym, subst, ap, ◌∙◌, arith}
+use Rattle.std.proofs.lemmas.Bool.Decides.{nat_tests}
+use Rattle.versions.specs.declared.refusal.Refusal.{Refusal}
+use Rattle.versions.specs.declared.refusal.Refusal.TheVariants.{NoHandle, Taken, Full, NoJob, Unfinished, NoWorker, TooManyJobs, JournalFull, NoMemory, BadNumber}
+use Rattle.handles.specs.Machine.{Kind, State, Job, Request, drop_handle, abandon, refusal, room, job_at}
+
+abbrev is_unfinished : Refusal → Bool
+is_unfinished Unfinished = true
+is_unfinished e = false
+
+abbrev is_journal_full : Refusal → Bool
+is_journal_full JournalFull = true
+is_journal_full e = false
+
+-- whether there is a refusal that passes the test
+abbrev tells : (Refusal → Bool) → Option Refusal → Bool
+tells p None = false
+tells p (Some e) = p e
+
+passed_over : (p : Refusal → Bool) (b : Bool) (e : Refusal) (rest : Option Refusal) → p e ≡ false → tells p rest ≡ false → tells p (cond b (Some e) rest) ≡ false
+passed_over p true e rest here later = here
+passed_over p false e rest here later = later
+
+told_first : (b : Bool) (rest : Option Refusal) → tells is_journal_full rest ≡ false → cond b (Some JournalFull) rest ≡ Some JournalFull → b ≡ true
+told_first true rest none is = refl
+told_first false rest none is = let both : true ≡ false = sym (ap (tells is_journal_full) is) ∙ none in cc
+
+pub both_ways : {X : Type 0} (e : Refusal) (o : Option Refusal) → o ≡ Some e → o ≡ None → X
+both_ways e o some none = let p : Some e ≡ None = sym some ∙ none in cc
+
+module _ {K V Q A B : Type 0} (kind : Kind K V Q A B) where
+  -- no call is refused as unfinished
+  pub never_unfinished : (s : State K V Q) (r : Request K V Q) → refusal kind s r ≡ Some Unfinished → ⊥
+  never_unfinished s r is =
+      let no : tells is_unfinished (refusal kind s r) ≡ false =
+        passed_over is_unfinished _ JournalFull _ refl (passed_over is_unfinished _ BadNumber _ refl (passed_over is_unfinished _ NoHandle _ refl (passed_over is_unfinished _ NoJob _ refl
+        (passed_over is_unfinished _ Taken _ refl (passed_over is_unfinished _ TooManyJobs _ refl (passed_over is_unfinished _ Full None refl refl)))))) in
+      let both : true ≡ false = sym (ap (tells is_unfinished) is) ∙ no in cc
+
+  -- where the journal is full for a call, there is no room
+  pub full_has_no_room : (s : State K V Q) (h : ℕ) → refusal kind s (drop_handle h) ≡ Some JournalFull → room s < 2
+  full_has_no_room s h is =
+      let rest : tells is_journal_full _ ≡ false = passed_over is_journal_full _ BadNumber _ refl (passed_over is_journal_full _ NoHandle _ refl (passed_over is_journal_full _ NoJob _ refl
+        (passed_over is_journal_full _ Taken _ refl (passed_over is_journal_full _ TooManyJobs _ refl (passed_over is_journal_full _ Full None refl refl))))) in
+      let b : nat_lt (room s) 2 ≡ true = told_first (nat_lt (room s) 2) _ rest is in
+      grind (arith, nat_tests)
+
+  -- an open job may be closed
+  pub open_has_no_refusal : (s : State K V Q) (j : ℕ) (x : Job K V Q) → job_at s j ≡ Some x → refusal kind s (abandon j) ≡ None
+  open_has_no_refusal s j x is = rw is refl
+
+  -- where a job is unknown, it is not open
+  pub unknown_is_closed : (s : State K V Q) (j : ℕ) → refusal kind s (abandon j) ≡ Some NoJob → job_at s j ≡ None
+  unknown_is_closed s j is = by (job_at s j) refl
+    where
+      by : (o : Option (Job K V Q)) → job_at s j ≡ o → job_at s j ≡ None
+      by None at = at
+      by (Some x) at = both_ways NoJob _ is (open_has_no_refusal s j x at)
