@@ -1,11 +1,16 @@
 -- What every step of a machine keeps.
-use Rattle.std.specs.Prelude.{◌≡◌, ◌≢◌, ℕ, false, Option, Some, None, Result}
+use Rattle.std.specs.Prelude.{◌≡◌, ◌≢◌, ℕ, Bool, true, false, Option, Some, None, Result}
 use Rattle.versions.specs.Commands.{Command}
 use Rattle.versions.specs.Map.{Map}
 use Rattle.versions.specs.declared.refusal.Refusal.{Refusal}
 use Rattle.handles.specs.declared.call_reply.CallReply.{CallReply}
-use Rattle.handles.specs.Machine.{Kind, State, Request, on, freeze, Outcome, refused, frozen, Step, map_at, job_at, job_of, is_freeze}
+use Rattle.handles.specs.Machine.{Kind, State, Request, on, freeze, finish, Outcome, refused, frozen, Step, map_at, job_at, job_of, is_freeze}
 use Rattle.handles.specs.Views.{IsStep, call_outcome, lacks_memory, outcome_of}
+
+-- whether what a request leaves follows from the state alone: that of a finish hangs on the answer, which is free
+abbrev pub is_settled_by_state : {K V Q : Type 0} → Request K V Q → Bool
+is_settled_by_state (finish j) = false
+is_settled_by_state _ = true
 
 module _ {K V Q A B : Type 0} (kind : Kind K V Q A B) where
   -- a command on one handle leaves the maps of the other handles, its snapshots among them
@@ -37,3 +42,9 @@ module _ {K V Q A B : Type 0} (kind : Kind K V Q A B) where
   OthersKeepJobs =
       (s t : State K V Q) (r : Request K V Q) (o : Outcome K V B)
       → is_freeze r ≡ false → job_of r ≡ None → Step kind s r o t → t.jobs ≡ s.jobs
+
+  -- where a step with an outcome that was foreseen could be made, and some step was made, it has that outcome
+  abbrev pub ForeseenIsStep : Type 0
+  ForeseenIsStep =
+      (s t u : State K V Q) (r : Request K V Q) (o other : Outcome K V B)
+      → is_settled_by_state r ≡ true → Step kind s r o u → Step kind s r other t → Step kind s r o t

@@ -1,5 +1,5 @@
 -- How the table's calls and their answers appear to the machine.
-use Rattle.std.specs.Prelude.{◌≡◌, ℕ, Bool, List, Option, None, option_map, Result, Ok, Err, map, true, false}
+use Rattle.std.specs.Prelude.{◌≡◌, ℕ, Bool, List, Option, Some, None, option_map, Result, Ok, Err, map, true, false}
 use Rattle.std.specs.Arc.{arc_value}
 use Rattle.std.specs.declared.cmp.Ordering.{Ordering}
 use Rattle.versions.specs.Map.{Map}
@@ -124,3 +124,9 @@ module _ {K V Q A B T : Type 0} (kind : Kind K V Q A B) where
   -- a call that fails for want of memory is not refused for another reason
   abbrev pub IsDue : State K V Q → Request K V Q → Result T Refusal → Type 0
   IsDue s r result = lacks_memory result ≡ true → refusal kind s r ≡ None
+
+  -- what a call would be answered now: the machine may make a step with this outcome, or refuses so; want of memory is foreseen only where no refusal is due
+  abbrev pub Foresees : State K V Q → Request K V Q → (T → Outcome K V B) → Result T Refusal → Type 0
+  Foresees s r shown (Ok x) = (t : State K V Q) × Step kind s r (shown x) t
+  Foresees s r shown (Err NoMemory) = refusal kind s r ≡ None
+  Foresees s r shown (Err e) = refusal kind s r ≡ Some e

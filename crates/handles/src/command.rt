@@ -14,6 +14,8 @@ use std::alloc::Global;
 use std::sync::Arc;
 use versions::{Refusal, Version};
 
+mod foresight;
+
 /// A command on one map, with the meaning that Scala's `concurrent.Map` gives it.
 #[derive(Debug, Drop)]
 pub enum Command<K, V> {

@@ -65,6 +65,13 @@ impl<K: PathKey + Drop, V: Drop, Q: Drop> Jobs<K, V, Q> {
         self.open.len()
     }
 
+    /// The number of the job that is opened next.
+    pub fn next_number(&self) -> u64
+        ensures { result ≡ self.now.next }
+    {
+        self.next
+    }
+
     /// The open job of the number, if there is one.
     pub fn get(&self, number: u64) -> Option<&OpenJob<K, V, Q>>
         ensures { option_map (λ job. (job_of job.now).1) result ≡ value_at nat_cmp self.now.jobs number }

@@ -1,5 +1,5 @@
 //! Laws of the machine. Their functions do nothing: each contract is the law.
-ghost use Rattle.handles.specs.Laws.{AnswersAreSteps, CommandsKeepOtherHandles, FreezesOpenJobs, OthersKeepJobs, RefusalsKeepAll};
+ghost use Rattle.handles.specs.Laws.{AnswersAreSteps, CommandsKeepOtherHandles, ForeseenIsStep, FreezesOpenJobs, OthersKeepJobs, RefusalsKeepAll};
 ghost use Rattle.handles.specs.Views.{machine};
 
 use bulk_ops::Asks;
@@ -28,4 +28,10 @@ pub fn law_of_freezes<K: PathKey, V: Eq, Q: Asks<K, V>>()
 /// What neither opens nor closes a job leaves all open jobs.
 pub fn law_of_open_jobs<K: PathKey, V: Eq, Q: Asks<K, V>>()
     ensures { OthersKeepJobs (machine K.cmp V.eq Q.target_of Q.answered) }
+{}
+
+/// What was foreseen of a request is an outcome of the step that is then made, unless it is a finish: where a step with
+/// the one outcome could be made, and a step with some outcome was, that step is one with the first outcome too.
+pub fn law_of_foresight<K: PathKey, V: Eq, Q: Asks<K, V>>()
+    ensures { ForeseenIsStep (machine K.cmp V.eq Q.target_of Q.answered) }
 {}

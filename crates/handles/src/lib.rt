@@ -21,7 +21,8 @@ pub use call::Call;
 pub use call_reply::CallReply;
 pub use command::Command;
 pub use laws::{
-    law_of_answers, law_of_freezes, law_of_open_jobs, law_of_other_handles, law_of_refusals,
+    law_of_answers, law_of_foresight, law_of_freezes, law_of_open_jobs, law_of_other_handles,
+    law_of_refusals,
 };
 pub use limits::{Limits, MOST_ENTRIES};
 pub use no_query::NoQuery;

@@ -178,6 +178,21 @@ impl<K: PathKey + Drop, V: Eq + Drop> Places<K, V> {
         }
     }
 
+    /// What `run` would reply, were there room and memory for what the command writes. It makes no request for memory.
+    ///
+    /// It is refused as `NoHandle` where the handle is not live, and as `NoMemory`.
+    pub fn foresee(&self, handle: u32, command: &Command<K, V>) -> Result<Reply<V>, Refusal>
+        ensures reply { IfOk result (λ y. reply_of y ≡ reply K.cmp V.eq (unwrap_or (value_at nat_cmp self.now.live handle) []) (command_of command.now)) }
+        ensures without { needs_no_memory (command_of command.now) ≡ true → lacks_memory result ≡ false }
+        ensures memory { IsSome (value_at nat_cmp self.now.live handle) → IfErr result (λ e. e ≡ Refusal.NoMemory) }
+        ensures none { value_at nat_cmp self.now.live handle ≡ None → result ≡ Err Refusal.NoHandle }
+    {
+        match self.version(handle) {
+            Some(version) => command.foresee_on(version),
+            None => Err(Refusal::NoHandle),
+        }
+    }
+
     /// Makes the command on the map of the handle.
     ///
     /// It is refused as `NoHandle` where the handle is not live, as `Full` and as `NoMemory`.

@@ -21,6 +21,7 @@ use std::sync::Arc;
 use versions::{MOST_PAIRS, NoMemory, Refusal, Version, View};
 
 mod ends;
+mod foresight;
 mod refusals;
 
 use ends::{close_job, open_job};

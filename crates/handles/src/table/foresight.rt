@@ -1,0 +1,122 @@
+//! What the calls of a table would be answered now, for want of memory aside.
+ghost use Rattle.std.specs.Prelude.{◌≡◌, MatchOption, Err, Ok, false};
+ghost use Rattle.handles.specs.Machine.{abandon, drop_handle, freeze, on, open_handle, snapshot, view};
+ghost use Rattle.handles.specs.Views.{AnswersWithoutMemory, Foresees, call_outcome, command_of, frozen_outcome, lacks_memory, machine, reply_outcome, request_of, unit_outcome, view_outcome};
+
+use super::Table;
+use crate::call::Call;
+use crate::call_reply::CallReply;
+use crate::command::Command;
+use crate::demand::Demand;
+use crate::reply::Reply;
+use bulk_ops::Asks;
+use hash_path::PathKey;
+use versions::{Refusal, View};
+
+impl<K: PathKey + Drop, V: Eq + Drop, Q: Asks<K, V> + Drop> Table<K, V, Q> {
+    /// What `open` would answer now. It takes no memory, and never foresees `NoMemory`.
+    pub fn foresee_open(&self, handle: u32) -> Result<(), Refusal>
+        ensures now { Foresees (machine K.cmp V.eq Q.target_of Q.answered) self.now (open_handle handle) unit_outcome result }
+        ensures memory { lacks_memory result ≡ false }
+    {
+        granted(self.refusal_of(&Demand::Open(handle)))
+    }
+
+    /// What `snapshot` would answer now. It takes no memory, and never foresees `NoMemory`.
+    pub fn foresee_snapshot(&self, handle: u32, to: u32) -> Result<(), Refusal>
+        ensures now { Foresees (machine K.cmp V.eq Q.target_of Q.answered) self.now (snapshot handle to) unit_outcome result }
+        ensures memory { lacks_memory result ≡ false }
+    {
+        granted(self.refusal_of(&Demand::Snapshot(handle, to)))
+    }
+
+    /// What `view` would answer now: the handle's map, which no later call changes. It makes no request for memory.
+    ///
+    /// It foresees `NoMemory` only where no refusal is due.
+    pub fn foresee_view(&self, handle: u32) -> Result<View<K, V>, Refusal>
+        ensures { Foresees (machine K.cmp V.eq Q.target_of Q.answered) self.now (view handle) view_outcome result }
+    {
+        match self.refusal_of(&Demand::View(handle)) {
+            Some(refusal) => Err(refusal),
+            None => self.places.view(handle),
+        }
+    }
+
+    /// What `call` with the command would answer now. It makes no request for memory: a value that the reply shows is
+    /// shared with the map.
+    ///
+    /// It foresees `NoMemory` only where no refusal is due, and never of `Size`.
+    pub fn foresee_call(&self, handle: u32, command: &Command<K, V>) -> Result<Reply<V>, Refusal>
+        ensures now { Foresees (machine K.cmp V.eq Q.target_of Q.answered) self.now (on handle (command_of command.now)) reply_outcome result }
+        ensures memory { AnswersWithoutMemory (machine K.cmp V.eq Q.target_of Q.answered) (on handle (command_of command.now)) result }
+    {
+        match self.refusal_of(&Demand::On(handle, command)) {
+            Some(refusal) => Err(refusal),
+            None => self.places.foresee(handle, command),
+        }
+    }
+
+    /// What `drop_handle` would answer now. It takes no memory, and never foresees `NoMemory`.
+    pub fn foresee_drop_handle(&self, handle: u32) -> Result<(), Refusal>
+        ensures now { Foresees (machine K.cmp V.eq Q.target_of Q.answered) self.now (drop_handle handle) unit_outcome result }
+        ensures memory { lacks_memory result ≡ false }
+    {
+        granted(self.refusal_of(&Demand::Drop(handle)))
+    }
+
+    /// What `freeze` with the query would answer now: the number that the job would get, and the handle's map, which no
+    /// later call changes. It makes no request for memory.
+    ///
+    /// It foresees `NoMemory` only where no refusal is due.
+    pub fn foresee_freeze(&self, handle: u32, query: &Q) -> Result<(u64, View<K, V>), Refusal>
+        ensures { Foresees (machine K.cmp V.eq Q.target_of Q.answered) self.now (freeze handle query.now) frozen_outcome result }
+    {
+        match self.refusal_of(&Demand::Freeze(handle, query)) {
+            Some(refusal) => Err(refusal),
+            None => Ok((self.jobs.next_number(), self.places.view(handle)?)),
+        }
+    }
+
+    /// What `abandon` would answer now. It takes no memory, and never foresees `NoMemory`.
+    pub fn foresee_abandon(&self, job: u64) -> Result<(), Refusal>
+        ensures now { Foresees (machine K.cmp V.eq Q.target_of Q.answered) self.now (abandon job) unit_outcome result }
+        ensures memory { lacks_memory result ≡ false }
+    {
+        granted(self.refusal_of(&Demand::Abandon(job)))
+    }
+
+    /// What `serve` with the call would answer now, as the twins of `open`, `snapshot`, `drop_handle` and `call` do.
+    pub fn foresee_serve(&self, call: &Call<K, V>) -> Result<CallReply<V>, Refusal>
+        ensures now { Foresees (machine K.cmp V.eq Q.target_of Q.answered) self.now (request_of call.now) call_outcome result }
+        ensures memory { AnswersWithoutMemory (machine K.cmp V.eq Q.target_of Q.answered) (request_of call.now) result }
+    {
+        match call {
+            Call::Open(handle) => match self.foresee_open(*handle) {
+                Ok(()) => Ok(CallReply::Unit),
+                Err(refusal) => Err(refusal),
+            },
+            Call::Snapshot(handle, to) => match self.foresee_snapshot(*handle, *to) {
+                Ok(()) => Ok(CallReply::Unit),
+                Err(refusal) => Err(refusal),
+            },
+            Call::Drop(handle) => match self.foresee_drop_handle(*handle) {
+                Ok(()) => Ok(CallReply::Unit),
+                Err(refusal) => Err(refusal),
+            },
+            Call::On(handle, command) => match self.foresee_call(*handle, command) {
+                Ok(reply) => Ok(CallReply::Reply(reply)),
+                Err(refusal) => Err(refusal),
+            },
+        }
+    }
+}
+
+// A call that is not refused is made.
+fn granted(refusal: Option<Refusal>) -> Result<(), Refusal>
+    ensures { MatchOption refusal (result ≡ Ok tt) (λ e. result ≡ Err e) }
+{
+    match refusal {
+        Some(refusal) => Err(refusal),
+        None => Ok(()),
+    }
+}
