@@ -63,6 +63,14 @@ module _ {K V Q I : Type 0} (t : Shelves) where
   pub found_open : (s : State K V Q) (fs : List (Frozen K V Q I)) (f : Frozen K V Q I) → AllOpen t s fs → Contains fs f → IsOpen t s f
   found_open s fs f all there = subst (IsOpen t s) there.1.1 (open_at s fs there.0 f there.1.0 all)
 
+  -- its token is of the vector
+  pub shown_open : (t' : Shelves) (s : State K V Q) (f : Frozen K V Q I) (p : Where (Entered K V Q (plain.Told K V I))) → t' ≡ t → p ≡ arc_value f.token → IsOpen t s f → Shows t' p
+  shown_open t' s f p e is open_one = subst (λ u. Shows u p) (sym e) (subst (λ q. Shows t q) (sym is) open_one.shown)
+
+-- the job was opened by an equal entry, under an equal number
+pub opened_as : {K V Q B : Type 0} (s : State K V Q) (n m : ℕ) (e d : Entered K V Q B) → n ≡ m → e ≡ d → WasOpenedBy s n e → WasOpenedBy s m d
+opened_as s n m e d number same was = subst (λ x. WasOpenedBy s x d) number (subst (λ x. WasOpenedBy s n x) same was)
+
 module _ {K V Q A B : Type 0} (kind : Kind K V Q A B) where
   -- what abandons an open job is its step
   pub abandons : (s u : State K V Q) (j : ℕ) (x : Job K V Q) (b : Result (Unit {0}) Refusal) → job_at s j ≡ Some x → lacks_memory b ≡ false → IsStep kind s (abandon j) unit_outcome b u → Step kind s (abandon j) made u

@@ -8,8 +8,8 @@ use Rattle.handles.specs.declared.call.Call.TheVariants.{Open, Snapshot, Drop, O
 use Rattle.handles.specs.Machine.{Kind, State, Request, is_freeze, job_of, Outcome, refused, refusal, is_entry, Step}
 use Rattle.handles.specs.declared.call_reply.CallReply.{CallReply}
 use Rattle.handles.specs.declared.call_reply.CallReply.TheVariants.{Unit, Reply}
-use Rattle.handles.specs.Views.{IsStep, call_outcome, is_counted, lacks_memory, request_of}
-use Rattle.locked_map.specs.Temp.{Foresees, ForeseenIsStep, is_settled_by_state}
+use Rattle.handles.specs.Views.{IsStep, Foresees, call_outcome, is_counted, lacks_memory, request_of}
+use Rattle.handles.specs.Laws.{ForeseenIsStep, is_settled_by_state}
 use Rattle.locked_map.specs.Answers.{answered, IsUnfiled}
 use Rattle.locked_map.specs.Journals.{is_filed}
 use Rattle.locked_map.proofs.Refusing.{never_unfinished}

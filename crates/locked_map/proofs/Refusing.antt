@@ -3,6 +3,8 @@ use Rattle.std.proofs.Common.{◌≡◌, ◌<◌, ℕ, Bool, true, false, cond, 
 use Rattle.std.proofs.lemmas.Bool.Decides.{nat_tests}
 use Rattle.versions.specs.declared.refusal.Refusal.{Refusal}
 use Rattle.versions.specs.declared.refusal.Refusal.TheVariants.{NoHandle, Taken, Full, NoJob, Unfinished, NoWorker, TooManyJobs, JournalFull, NoMemory, BadNumber}
+use Rattle.std.specs.Prelude.{Result, Err}
+use Rattle.handles.specs.Views.{Foresees, unit_outcome}
 use Rattle.handles.specs.Machine.{Kind, State, Job, Request, drop_handle, abandon, refusal, room, job_at}
 
 abbrev is_unfinished : Refusal → Bool
@@ -57,3 +59,11 @@ module _ {K V Q A B : Type 0} (kind : Kind K V Q A B) where
       by : (o : Option (Job K V Q)) → job_at s j ≡ o → job_at s j ≡ None
       by None at = at
       by (Some x) at = both_ways NoJob _ is (open_has_no_refusal s j x at)
+
+  -- what was foreseen tells that there is no room
+  pub full_as_foreseen : (s : State K V Q) (h : ℕ) (a : Result (Unit {0}) Refusal) → Foresees kind s (drop_handle h) unit_outcome a → a ≡ Err JournalFull → room s < 2
+  full_as_foreseen s h a sees is = full_has_no_room s h (subst (λ x. Foresees kind s (drop_handle h) unit_outcome x) is sees)
+
+  -- what was foreseen tells that the job is not open
+  pub closed_as_foreseen : (s : State K V Q) (j : ℕ) (a : Result (Unit {0}) Refusal) → Foresees kind s (abandon j) unit_outcome a → a ≡ Err NoJob → job_at s j ≡ None
+  closed_as_foreseen s j a sees is = unknown_is_closed s j (subst (λ x. Foresees kind s (abandon j) unit_outcome x) is sees)

@@ -52,10 +52,10 @@ pub record IsKept {K V Q A I Z : Type 0} (kind : Kind K V Q A (plain.Told K V I)
   pub beside : AllOpen t s fs
 
 -- one event under the lock: its entry is filed last, by a token of the vector, and it is a step of the machine
-pub record Files {K V Q A I Z : Type 0} (kind : Kind K V Q A (plain.Told K V I)) (t : Shelves) (old : Standing K V Q (plain.Told K V I)) (seat : ℕ) (r : Request K V Q) (o : Outcome K V (plain.Told K V I)) (token : Arc (Where (Entered K V Q (plain.Told K V I))) Z) (place : ℕ) (new : Standing K V Q (plain.Told K V I)) : Type 0 where
+pub record Files {K V Q A I Z : Type 0} (kind : Kind K V Q A (plain.Told K V I)) (t : Shelves) (old : Standing K V Q (plain.Told K V I)) (seat : ℕ) (r : Request K V Q) (o : Outcome K V (plain.Told K V I)) (token : Arc (Where (Entered K V Q (plain.Told K V I))) Z) (at : ℕ) (new : Standing K V Q (plain.Told K V I)) : Type 0 where
   pub shown : Shows t (arc_value token)
   pub entry : entry_at token ≡ record { seat = seat; request = r; outcome = o }
-  pub place : place ≡ length old.journal
+  pub place : at ≡ length old.journal
   pub journal : new.journal ≡ old.journal ++ entry_at token ∷ []
   pub step : Step kind old.state r o new.state
   pub filed : is_filed o ≡ true

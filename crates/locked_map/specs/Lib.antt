@@ -4,4 +4,3 @@ pub mod Tokens
 pub mod Seats
 pub mod Kept
 pub mod Tickets
-pub mod Temp

@@ -7,7 +7,6 @@ ghost use Rattle.locked_map.specs.Tokens.{AllShown, entries_of};
 
 use crate::room::{Entries, Room, Token};
 use crate::seat::Seat;
-use crate::twins::{foresee_abandon, foresee_drop_handle};
 use bulk_ops::Asks;
 use handles::Table;
 use hash_path::PathKey;
@@ -88,7 +87,10 @@ pub(crate) fn marks_hold<K: PathKey + Drop, V: Eq + Drop, Q: Asks<K, V> + Drop, 
 fn is_full<K: PathKey + Drop, V: Eq + Drop, Q: Asks<K, V> + Drop>(table: &Table<K, V, Q>) -> bool
     ensures { IsTrue result → room table.now < 2 }
 {
-    matches!(foresee_drop_handle(table, 0), Err(Refusal::JournalFull))
+    match table.foresee_drop_handle(0) {
+        Err(Refusal::JournalFull) => true,
+        _ => false,
+    }
 }
 
 // Whether the job is not open.
@@ -98,5 +100,8 @@ fn is_closed<K: PathKey + Drop, V: Eq + Drop, Q: Asks<K, V> + Drop>(
 ) -> bool
     ensures { IsTrue result → job_at table.now job ≡ None }
 {
-    matches!(foresee_abandon(table, job), Err(Refusal::NoJob))
+    match table.foresee_abandon(job) {
+        Err(Refusal::NoJob) => true,
+        _ => false,
+    }
 }

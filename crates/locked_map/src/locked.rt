@@ -1,5 +1,5 @@
 //! What lies under the lock.
-ghost use Rattle.std.specs.Prelude.{◌≡◌, ◌≤◌, ◌<◌, ◌⊎◌, ◌++◌, ◌∷◌, [], IfErr, IfOk, IsTrue, MatchResult, OnErr, OnOk, filter, vec_capacity, vec_len};
+ghost use Rattle.std.specs.Prelude.{◌≡◌, ◌≤◌, ◌<◌, ◌+◌, ◌^◌, ◌⊎◌, ◌++◌, ◌∷◌, [], IfErr, IfOk, IsTrue, MatchResult, OnErr, OnOk, filter, vec_capacity, vec_len};
 ghost use Rattle.std.specs.Arc.{arc_value};
 ghost use Rattle.boxcar.specs.Table.{Shows};
 ghost use Rattle.handles.specs.Machine.{abandon, freeze, made, nothing, view};
@@ -8,7 +8,6 @@ ghost use Rattle.locked_map.specs.Answers.{IsUnfiled, answered};
 ghost use Rattle.locked_map.specs.Journals.{IsLegal};
 ghost use Rattle.locked_map.specs.Kept.{Files, WasOpenedBy, is_other};
 ghost use Rattle.locked_map.specs.Tokens.{AllShown, entries_of};
-ghost use Rattle.versions.specs.declared.refusal.Refusal.TheVariants.{NoJob, NoMemory};
 
 use crate::asked::{Asked, copy_of_call};
 use crate::entry::Entry;
@@ -16,9 +15,8 @@ use crate::filing::{Event, lacks_memory, placed, to_be_filed};
 use crate::frozen::{Frozen, beside, close};
 use crate::room::{Entries, Room, Token};
 use crate::told::{Told, told_of_call, told_of_freeze, told_of_view};
-use crate::twins::{foresee_freeze, foresee_serve, foresee_view, law_of_foresight};
 use bulk_ops::Asks;
-use handles::{Call, CallReply, Limits, MOST_ENTRIES, Table, law_of_freezes, law_of_open_jobs};
+use handles::{Call, CallReply, Limits, MOST_ENTRIES, Table, law_of_foresight, law_of_freezes, law_of_open_jobs};
 use hash_path::PathKey;
 use std::alloc::Global;
 use std::marker::{Model, PhantomData};
@@ -80,10 +78,11 @@ impl<K: PathKey + Drop, V: Eq + Drop, Q: Asks<K, V> + Drop, J: Room> Locked<K, V
     ) -> Result<Event<K, V, Q, Q::Item, CallReply<V>>, Refusal>
         requires { entries.now ≡ J.table }
         ensures filed { IfOk result (λ e. Files (machine K.cmp V.eq Q.target_of Q.answered) J.table self.old seat (request_of call) (answered call_outcome e.answer) e.token e.place self.new) }
+        ensures fits { IfOk result (λ e. e.place + 1 < 2 ^ 64) }
         ensures unfiled { IfErr result (λ e. IsUnfiled (machine K.cmp V.eq Q.target_of Q.answered) self.old.state (request_of call) e) }
         ensures err { OnErr result (self.new ≡ self.old) }
     {
-        let answer = to_be_filed(foresee_serve(&self.table, &call))?;
+        let answer = to_be_filed(self.table.foresee_serve(&call))?;
         let told = told_of_call(&answer)?;
         let asked = Asked::Call(copy_of_call::<K, V, Q>(&call)?);
         self.journal.reserve(1)?;
@@ -115,10 +114,11 @@ impl<K: PathKey + Drop, V: Eq + Drop, Q: Asks<K, V> + Drop, J: Room> Locked<K, V
     ) -> Result<Event<K, V, Q, Q::Item, View<K, V>>, Refusal>
         requires { entries.now ≡ J.table }
         ensures filed { IfOk result (λ e. Files (machine K.cmp V.eq Q.target_of Q.answered) J.table self.old seat (view handle) (answered view_outcome e.answer) e.token e.place self.new) }
+        ensures fits { IfOk result (λ e. e.place + 1 < 2 ^ 64) }
         ensures unfiled { IfErr result (λ e. IsUnfiled (machine K.cmp V.eq Q.target_of Q.answered) self.old.state (view handle) e) }
         ensures err { OnErr result (self.new ≡ self.old) }
     {
-        let answer = to_be_filed(foresee_view(&self.table, handle))?;
+        let answer = to_be_filed(self.table.foresee_view(handle))?;
         let told = told_of_view(&answer)?;
         self.journal.reserve(1)?;
         let place = self.journal.len() as u64;
@@ -152,11 +152,12 @@ impl<K: PathKey + Drop, V: Eq + Drop, Q: Asks<K, V> + Drop, J: Room> Locked<K, V
     ) -> Result<(Event<K, V, Q, Q::Item, (u64, View<K, V>)>, Arc<Token<K, V, Q, Q::Item>>), Refusal>
         requires { entries.now ≡ J.table }
         ensures filed { IfOk result (λ r. Files (machine K.cmp V.eq Q.target_of Q.answered) J.table self.old seat (freeze handle query.value) (answered frozen_outcome r.0.answer) r.0.token r.0.place self.new) }
+        ensures fits { IfOk result (λ r. r.0.place + 1 < 2 ^ 64) }
         ensures again { IfOk result (λ r. arc_value r.1 ≡ arc_value r.0.token) }
         ensures unfiled { IfErr result (λ e. IsUnfiled (machine K.cmp V.eq Q.target_of Q.answered) self.old.state (freeze handle query.value) e) }
         ensures err { OnErr result (self.new ≡ self.old) }
     {
-        let answer = to_be_filed(foresee_freeze(&self.table, handle, &query))?;
+        let answer = to_be_filed(self.table.foresee_freeze(handle, &query))?;
         let told = told_of_freeze(&answer)?;
         let asked = Asked::Freeze(handle, Arc::try_clone(&query)?);
         self.journal.reserve(1)?;
@@ -195,8 +196,9 @@ impl<K: PathKey + Drop, V: Eq + Drop, Q: Asks<K, V> + Drop, J: Room> Locked<K, V
         requires table { entries.now ≡ J.table }
         requires shown { Shows J.table opener.now }
         ensures filed { IfOk result (λ e. Files (machine K.cmp V.eq Q.target_of Q.answered) J.table self.old seat (abandon job) made e.token e.place self.new) }
+        ensures fits { IfOk result (λ e. e.place + 1 < 2 ^ 64) }
         ensures opened { OnOk result (WasOpenedBy self.old.state job opener.now.value) }
-        ensures unfiled { IfErr result (λ e. (e ≡ NoJob) ⊎ (e ≡ NoMemory)) }
+        ensures unfiled { IfErr result (λ e. (e ≡ Refusal.NoJob) ⊎ (e ≡ Refusal.NoMemory)) }
         ensures err { OnErr result (self.new ≡ self.old) }
     {
         if !self.was_opened_by(entries, job, opener) {

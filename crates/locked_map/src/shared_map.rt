@@ -9,7 +9,8 @@ ghost use Rattle.locked_map.specs.Tickets.{ticket_outcome};
 
 use crate::closed::{Closed, Torn};
 use crate::closing::{are_of_seats, is_borne_out, marks_hold};
-use crate::filed::{Filed, file};
+use crate::filed::file;
+use crate::filing::Event;
 use crate::journal::Journal;
 use crate::locked::Locked;
 use crate::room::{Entries, Room};
@@ -71,9 +72,13 @@ impl<K: PathKey + Drop, V: Eq + Drop, Q: Asks<K, V> + Drop, J: Room> SharedMap<K
             .lock(rt)
             .call(rt, self.alloc, &self.entries, number, call);
         match made {
-            Ok(event) => {
-                file(&mut seat.list, &mut seat.floor, event.token, event.place);
-                event.answer
+            Ok(Event {
+                token,
+                place,
+                answer,
+            }) => {
+                file(&mut seat.list, &mut seat.floor, token, place);
+                answer
             }
             Err(refusal) => {
                 seat.mark(refusal, None);
@@ -98,9 +103,13 @@ impl<K: PathKey + Drop, V: Eq + Drop, Q: Asks<K, V> + Drop, J: Room> SharedMap<K
             .lock(rt)
             .view(rt, self.alloc, &self.entries, number, handle);
         match made {
-            Ok(event) => {
-                file(&mut seat.list, &mut seat.floor, event.token, event.place);
-                event.answer
+            Ok(Event {
+                token,
+                place,
+                answer,
+            }) => {
+                file(&mut seat.list, &mut seat.floor, token, place);
+                answer
             }
             Err(refusal) => {
                 seat.mark(refusal, None);
@@ -129,8 +138,13 @@ impl<K: PathKey + Drop, V: Eq + Drop, Q: Asks<K, V> + Drop, J: Room> SharedMap<K
             .freeze(rt, self.alloc, &self.entries, number, handle, query);
         match made {
             Ok((event, token)) => {
-                file(&mut seat.list, &mut seat.floor, event.token, event.place);
-                let (job, view) = event.answer?;
+                let Event {
+                    token: mine,
+                    place,
+                    answer,
+                } = event;
+                file(&mut seat.list, &mut seat.floor, mine, place);
+                let (job, view) = answer?;
                 Ok(Ticket {
                     job,
                     query: kept,
@@ -171,8 +185,12 @@ impl<K: PathKey + Drop, V: Eq + Drop, Q: Asks<K, V> + Drop, J: Room> SharedMap<K
             &ticket.token,
         );
         match made {
-            Ok(event) => {
-                file(&mut seat.list, &mut seat.floor, event.token, event.place);
+            Ok(Event {
+                token,
+                place,
+                answer: _,
+            }) => {
+                file(&mut seat.list, &mut seat.floor, token, place);
                 Ok(())
             }
             Err(refusal) => {
