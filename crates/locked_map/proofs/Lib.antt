@@ -5,3 +5,4 @@ pub mod Runs
 pub mod Beside
 pub mod Walk
 pub mod Adding
+pub mod Events
