@@ -1,17 +1,25 @@
 -- An event under the lock, and what it adds to its seat.
-use Rattle.std.proofs.Common.{◌≡◌, ℕ, ◌+◌, Bool, true, List, [], ◌∷◌, ◌++◌, length, map, Option, refl, subst, sym, ap, ◌∙◌}
+use Rattle.std.proofs.Common.{◌≡◌, ℕ, ◌+◌, Bool, true, List, [], ◌∷◌, ◌++◌, length, filter, map, Option, refl, subst, sym, ap, ◌∙◌}
+use Rattle.std.specs.Prelude.{MatchResult, Result}
 use Rattle.std.proofs.lemmas.List.{map-append, length-map}
 use Rattle.std.specs.declared.sync.Arc.{Arc}
 use Rattle.std.specs.Arc.{arc_value}
 use Rattle.boxcar.specs.Table.{Shelves, Where, Shows}
 use Rattle.bulk_ops.specs.Answers as plain
-use Rattle.handles.specs.Machine.{Kind, State, Request, Outcome, Step}
+use Rattle.versions.specs.Map.{Map}
+use Rattle.versions.specs.declared.refusal.Refusal.{Refusal}
+use Rattle.handles.specs.Laws.{FreezesOpenJobs}
+use Rattle.handles.specs.Machine.{Kind, State, Request, freeze, Outcome, Step}
+use Rattle.handles.specs.Views.{frozen_outcome}
+use Rattle.locked_map.specs.Answers.{answered}
 use Rattle.locked_map.specs.Journals.{Entered, is_filed}
 use Rattle.locked_map.specs.Tokens.{entry_at, entries_of}
-use Rattle.locked_map.specs.Kept.{Standing, Files}
+use Rattle.locked_map.specs.Kept.{Standing, Files, AllOpen, WasOpenedBy, is_other}
+use Rattle.locked_map.specs.declared.frozen.Frozen.{Frozen}
 use Rattle.locked_map.specs.Seats.{Seated, placed_all, Adds}
 use Rattle.locked_map.specs.declared.filed.Filed.{Filed}
 use Rattle.locked_map.proofs.Adding.{filed_adds, seat_with_entry}
+use Rattle.locked_map.proofs.Beside.{frozen_still}
 
 module _ {K V Q A I Z : Type 0} (kind : Kind K V Q A (plain.Told K V I)) (t : Shelves) where
   -- one more event, as the value under the lock shows it
@@ -39,3 +47,18 @@ module _ {K V Q A I : Type 0} (kind : Kind K V Q A (plain.Told K V I)) (t : Shel
       let was : Seated K V Q (plain.Told K V I) = record { number = n; floor = floor; list = placed_all fs; full = full; unknown = unknown } in
       subst (λ (s : Seated K V Q (plain.Told K V I)). Adds s r o (at next)) view
       (filed_adds was (at next) r o f.place files.filed (ap at behind ∙ seat_with_entry n floor full unknown fs fs' f r o is beside files.entry))
+
+module _ {K V Q A I : Type 0} (kind : Kind K V Q A (plain.Told K V I)) (t : Shelves) where
+  -- the tokens beside open jobs after a freeze, where they stood in an equal list
+  pub frozen_after : (s u : State K V Q) (h seat : ℕ) (q : Q) (answer : Result (ℕ × Map K V) Refusal) (fs mid fs' : List (Frozen K V Q I)) (f : ℕ → Frozen K V Q I)
+      → FreezesOpenJobs kind → ((n : ℕ) → (f n).number ≡ n) → ((n : ℕ) → Shows t (arc_value (f n).token))
+      → ((n : ℕ) → entry_at (f n).token ≡ record { seat = seat; request = freeze h q; outcome = answered frozen_outcome answer })
+      → Step kind s (freeze h q) (answered frozen_outcome answer) u
+      → MatchResult answer (λ x. fs' ≡ filter (is_other x.0) mid ++ f x.0 ∷ []) (λ _. fs' ≡ mid) → mid ≡ fs → AllOpen t s fs → AllOpen t u fs'
+  frozen_after s u h seat q answer fs mid fs' f law number shows entry step is same all =
+      frozen_still kind t s u h seat q answer mid fs' f law number shows entry step is (subst (AllOpen t s) (sym same) all)
+
+-- the job was opened so in an equal state
+pub opened_in : {K V Q B : Type 0} (s u : State K V Q) (n : ℕ) (e : Entered K V Q B) → WasOpenedBy s n e → s ≡ u → WasOpenedBy u n e
+opened_in s u n e was same = subst (λ x. WasOpenedBy x n e) same was
+

@@ -29,7 +29,8 @@ pub(crate) fn is_borne_out<K: PathKey + Drop, V: Drop, Q: Asks<K, V> + Drop, J: 
     let mut place = 0u64;
     for token in tokens {
         let token: &Token<K, V, Q, Q::Item> = token;
-        if entries.value(token).seat() == seat.number {
+        let of = entries.value(token).seat();
+        if of == seat.number {
             let Some((filed, tail)) = rest.split_first() else {
                 return false;
             };

@@ -1,5 +1,5 @@
 //! The tokens beside open jobs.
-ghost use Rattle.std.specs.Prelude.{◌≡◌, Contains, IfSome, filter};
+ghost use Rattle.std.specs.Prelude.{◌≡◌, ◌≤◌, Contains, IfSome, filter, vec_capacity, vec_len};
 ghost use Rattle.locked_map.specs.Kept.{is_other};
 
 use crate::room::Token;
@@ -34,7 +34,9 @@ pub(crate) fn close<K: PathKey + Drop, V: Drop, Q: Drop, I: Drop>(
     freezes: &mut Vec<Frozen<K, V, Q, I>>,
     number: u64,
 )
-    ensures { freezes.new.items ≡ filter (is_other number) freezes.old.items }
+    ensures others { freezes.new.items ≡ filter (is_other number) freezes.old.items }
+    ensures bound { vec_len freezes.new ≤ vec_len freezes.old }
+    ensures capacity { vec_capacity freezes.new ≡ vec_capacity freezes.old }
 {
     freezes.retain(|frozen| frozen.number != number);
 }

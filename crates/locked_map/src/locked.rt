@@ -68,6 +68,7 @@ impl<K: PathKey + Drop, V: Eq + Drop, Q: Asks<K, V> + Drop, J: Room> Locked<K, V
     /// Makes the call, and files it.
     ///
     /// It makes no entry where it is refused as `JournalFull` or `NoMemory`, and leaves all as it was then.
+    #[tactic(auto, using(crate::proofs::Foresight::unfiled_as_foreseen))]
     pub(crate) fn call<R: Wait>(
         &mut self,
         rt: &R,
@@ -78,6 +79,7 @@ impl<K: PathKey + Drop, V: Eq + Drop, Q: Asks<K, V> + Drop, J: Room> Locked<K, V
     ) -> Result<Event<K, V, Q, Q::Item, CallReply<V>>, Refusal>
         requires { entries.now ≡ J.table }
         ensures filed { IfOk result (λ e. Files (machine K.cmp V.eq Q.target_of Q.answered) J.table self.old seat (request_of call) (answered call_outcome e.answer) e.token e.place self.new) }
+        ensures shown { IfOk result (λ e. Shows J.table (arc_value e.token)) }
         ensures fits { IfOk result (λ e. e.place + 1 < 2 ^ 64) }
         ensures unfiled { IfErr result (λ e. IsUnfiled (machine K.cmp V.eq Q.target_of Q.answered) self.old.state (request_of call) e) }
         ensures err { OnErr result (self.new ≡ self.old) }
@@ -104,6 +106,7 @@ impl<K: PathKey + Drop, V: Eq + Drop, Q: Asks<K, V> + Drop, J: Room> Locked<K, V
     /// Shows the map of the handle, and files that.
     ///
     /// It makes no entry where it is refused as `JournalFull` or `NoMemory`, and leaves all as it was then.
+    #[tactic(auto, using(crate::proofs::Foresight::unfiled_as_foreseen))]
     pub(crate) fn view<R: Wait>(
         &mut self,
         rt: &R,
@@ -114,6 +117,7 @@ impl<K: PathKey + Drop, V: Eq + Drop, Q: Asks<K, V> + Drop, J: Room> Locked<K, V
     ) -> Result<Event<K, V, Q, Q::Item, View<K, V>>, Refusal>
         requires { entries.now ≡ J.table }
         ensures filed { IfOk result (λ e. Files (machine K.cmp V.eq Q.target_of Q.answered) J.table self.old seat (view handle) (answered view_outcome e.answer) e.token e.place self.new) }
+        ensures shown { IfOk result (λ e. Shows J.table (arc_value e.token)) }
         ensures fits { IfOk result (λ e. e.place + 1 < 2 ^ 64) }
         ensures unfiled { IfErr result (λ e. IsUnfiled (machine K.cmp V.eq Q.target_of Q.answered) self.old.state (view handle) e) }
         ensures err { OnErr result (self.new ≡ self.old) }
@@ -141,6 +145,7 @@ impl<K: PathKey + Drop, V: Eq + Drop, Q: Asks<K, V> + Drop, J: Room> Locked<K, V
     /// is given once more.
     ///
     /// It makes no entry where it is refused as `JournalFull` or `NoMemory`, and leaves all as it was then.
+    #[tactic(auto, using(crate::proofs::Foresight::unfiled_as_foreseen))]
     pub(crate) fn freeze<R: Wait>(
         &mut self,
         rt: &R,
@@ -152,6 +157,7 @@ impl<K: PathKey + Drop, V: Eq + Drop, Q: Asks<K, V> + Drop, J: Room> Locked<K, V
     ) -> Result<(Event<K, V, Q, Q::Item, (u64, View<K, V>)>, Arc<Token<K, V, Q, Q::Item>>), Refusal>
         requires { entries.now ≡ J.table }
         ensures filed { IfOk result (λ r. Files (machine K.cmp V.eq Q.target_of Q.answered) J.table self.old seat (freeze handle query.value) (answered frozen_outcome r.0.answer) r.0.token r.0.place self.new) }
+        ensures shown { IfOk result (λ r. Shows J.table (arc_value r.0.token)) }
         ensures fits { IfOk result (λ r. r.0.place + 1 < 2 ^ 64) }
         ensures again { IfOk result (λ r. arc_value r.1 ≡ arc_value r.0.token) }
         ensures unfiled { IfErr result (λ e. IsUnfiled (machine K.cmp V.eq Q.target_of Q.answered) self.old.state (freeze handle query.value) e) }
@@ -196,6 +202,7 @@ impl<K: PathKey + Drop, V: Eq + Drop, Q: Asks<K, V> + Drop, J: Room> Locked<K, V
         requires table { entries.now ≡ J.table }
         requires shown { Shows J.table opener.now }
         ensures filed { IfOk result (λ e. Files (machine K.cmp V.eq Q.target_of Q.answered) J.table self.old seat (abandon job) made e.token e.place self.new) }
+        ensures shown { IfOk result (λ e. Shows J.table (arc_value e.token)) }
         ensures fits { IfOk result (λ e. e.place + 1 < 2 ^ 64) }
         ensures opened { OnOk result (WasOpenedBy self.old.state job opener.now.value) }
         ensures unfiled { IfErr result (λ e. (e ≡ Refusal.NoJob) ⊎ (e ≡ Refusal.NoMemory)) }
@@ -266,11 +273,12 @@ fn set_beside<K: PathKey + Drop, V: Drop, Q: Drop, I: Drop>(
     requires { vec_len freezes.old < vec_capacity freezes.old }
     ensures { MatchResult answer.now (λ x. freezes.new.items ≡ filter (is_other x.0) freezes.old.items ++ record { number = x.0; token = token } ∷ []) (λ _. freezes.new.items ≡ freezes.old.items) }
 {
-    if let Ok((number, _)) = answer {
-        close(freezes, *number);
-        freezes.push_reserved(Frozen {
-            number: *number,
-            token,
-        });
-    }
+    let Ok((number, _)) = answer else {
+        return;
+    };
+    close(freezes, *number);
+    freezes.push_reserved(Frozen {
+        number: *number,
+        token,
+    });
 }
