@@ -50,7 +50,7 @@ module _ {K V Q I : Type 0} where
   pub seat_with_entry : (n floor : ℕ) (full : Bool) (unknown : Option ℕ) (fs fs' : List (Filed K V Q I)) (f : Filed K V Q I) (r : Request K V Q) (o : Outcome K V (plain.Told K V I))
       → fs' ≡ fs ++ f ∷ [] → f.floor ≡ floor → entry_at f.token ≡ record { seat = n; request = r; outcome = o }
       → (let new : Seated K V Q (plain.Told K V I) = record { number = n; floor = f.place + 1; list = placed_all fs'; full = full; unknown = unknown } in
-          new ≡ with_entry (record { number = n; floor = floor; list = placed_all fs; full = full; unknown = unknown }) r o f.place)
+      new ≡ with_entry (record { number = n; floor = floor; list = placed_all fs; full = full; unknown = unknown }) r o f.place)
   seat_with_entry n floor full unknown fs fs' f r o is beside entry =
       let seated : List (Placed K V Q (plain.Told K V I)) → Seated K V Q (plain.Told K V I) = λ l. record { number = n; floor = f.place + 1; list = l; full = full; unknown = unknown } in
       ap seated (ap placed_all is ∙ map-append placed fs (f ∷ [])

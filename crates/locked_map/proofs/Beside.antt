@@ -106,5 +106,5 @@ module _ {K V Q A I Z : Type 0} (kind : Kind K V Q A (plain.Told K V I)) (t : Sh
       let opened' : opened_by (entry_at (f x.0).token) ≡ Some ((f x.0).number, job) = ap opened_by (entry x.0) ∙ ap (λ n. Some (n, job)) (sym (number x.0)) in
       let stands' : job_at u (f x.0).number ≡ Some job = ap (job_at u) (number x.0) ∙ law s u h q x.0 x.1 step in
       subst (AllOpen t u) (sym is) (open_more t u (filter (is_other x.0) fs) (f x.0) (closed_still t s u x.0 fs (λ n e. freeze_keeps s u h x.0 n q x.1 step e) all)
-        (record { shown = shows x.0; opener = record { job = job; opened = opened'; stands = stands' } }))
+      (record { shown = shows x.0; opener = record { job = job; opened = opened'; stands = stands' } }))
   frozen_still s u h seat q (Err e) fs fs' f law number shows entry step is all = subst (AllOpen t u) (sym is) (open_still t s u fs (ap (λ x. x.jobs) step.1) all)

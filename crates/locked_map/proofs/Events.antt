@@ -61,4 +61,3 @@ module _ {K V Q A I : Type 0} (kind : Kind K V Q A (plain.Told K V I)) (t : Shel
 -- the job was opened so in an equal state
 pub opened_in : {K V Q B : Type 0} (s u : State K V Q) (n : ℕ) (e : Entered K V Q B) → WasOpenedBy s n e → s ≡ u → WasOpenedBy u n e
 opened_in s u n e was same = subst (λ x. WasOpenedBy x n e) same was
-

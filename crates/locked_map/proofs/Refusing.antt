@@ -36,15 +36,15 @@ module _ {K V Q A B : Type 0} (kind : Kind K V Q A B) where
   pub never_unfinished : (s : State K V Q) (r : Request K V Q) → refusal kind s r ≡ Some Unfinished → ⊥
   never_unfinished s r is =
       let no : tells is_unfinished (refusal kind s r) ≡ false =
-        passed_over is_unfinished _ JournalFull _ refl (passed_over is_unfinished _ BadNumber _ refl (passed_over is_unfinished _ NoHandle _ refl (passed_over is_unfinished _ NoJob _ refl
-        (passed_over is_unfinished _ Taken _ refl (passed_over is_unfinished _ TooManyJobs _ refl (passed_over is_unfinished _ Full None refl refl)))))) in
+      passed_over is_unfinished _ JournalFull _ refl (passed_over is_unfinished _ BadNumber _ refl (passed_over is_unfinished _ NoHandle _ refl (passed_over is_unfinished _ NoJob _ refl
+      (passed_over is_unfinished _ Taken _ refl (passed_over is_unfinished _ TooManyJobs _ refl (passed_over is_unfinished _ Full None refl refl)))))) in
       let both : true ≡ false = sym (ap (tells is_unfinished) is) ∙ no in cc
 
   -- where the journal is full for a call, there is no room
   pub full_has_no_room : (s : State K V Q) (h : ℕ) → refusal kind s (drop_handle h) ≡ Some JournalFull → room s < 2
   full_has_no_room s h is =
       let rest : tells is_journal_full _ ≡ false = passed_over is_journal_full _ BadNumber _ refl (passed_over is_journal_full _ NoHandle _ refl (passed_over is_journal_full _ NoJob _ refl
-        (passed_over is_journal_full _ Taken _ refl (passed_over is_journal_full _ TooManyJobs _ refl (passed_over is_journal_full _ Full None refl refl))))) in
+      (passed_over is_journal_full _ Taken _ refl (passed_over is_journal_full _ TooManyJobs _ refl (passed_over is_journal_full _ Full None refl refl))))) in
       let b : nat_lt (room s) 2 ≡ true = told_first (nat_lt (room s) 2) _ rest is in
       grind (arith, nat_tests)
 

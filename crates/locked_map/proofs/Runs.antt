@@ -61,6 +61,6 @@ module _ {K V Q I : Type 0} (t : Shelves) where
   pub open_still : (s u : State K V Q) (fs : List (Frozen K V Q I)) → u.jobs ≡ s.jobs → AllOpen t s fs → AllOpen t u fs
   open_still s u [] jobs all = tt
   open_still s u (f ∷ fs) jobs all = (
-      record { shown = all.0.shown; opener = record { job = all.0.opener.job; opened = all.0.opener.opened; stands = ap (λ js. value_at nat_cmp js f.number) jobs ∙ all.0.opener.stands } },
-      open_still s u fs jobs all.1,
+    record { shown = all.0.shown; opener = record { job = all.0.opener.job; opened = all.0.opener.opened; stands = ap (λ js. value_at nat_cmp js f.number) jobs ∙ all.0.opener.stands } },
+    open_still s u fs jobs all.1,
   )

@@ -16,7 +16,10 @@ use crate::frozen::{Frozen, beside, close};
 use crate::room::{Entries, Room, Token};
 use crate::told::{Told, told_of_call, told_of_freeze, told_of_view};
 use bulk_ops::Asks;
-use handles::{Call, CallReply, Limits, MOST_ENTRIES, Table, law_of_foresight, law_of_freezes, law_of_open_jobs};
+use handles::{
+    Call, CallReply, Limits, MOST_ENTRIES, Table, law_of_foresight, law_of_freezes,
+    law_of_open_jobs,
+};
 use hash_path::PathKey;
 use std::alloc::Global;
 use std::marker::{Model, PhantomData};
@@ -154,7 +157,13 @@ impl<K: PathKey + Drop, V: Eq + Drop, Q: Asks<K, V> + Drop, J: Room> Locked<K, V
         seat: u32,
         handle: u32,
         query: Arc<Q>,
-    ) -> Result<(Event<K, V, Q, Q::Item, (u64, View<K, V>)>, Arc<Token<K, V, Q, Q::Item>>), Refusal>
+    ) -> Result<
+        (
+            Event<K, V, Q, Q::Item, (u64, View<K, V>)>,
+            Arc<Token<K, V, Q, Q::Item>>,
+        ),
+        Refusal,
+    >
         requires { entries.now ≡ J.table }
         ensures filed { IfOk result (λ r. Files (machine K.cmp V.eq Q.target_of Q.answered) J.table self.old seat (freeze handle query.value) (answered frozen_outcome r.0.answer) r.0.token r.0.place self.new) }
         ensures shown { IfOk result (λ r. Shows J.table (arc_value r.0.token)) }
@@ -226,9 +235,7 @@ impl<K: PathKey + Drop, V: Eq + Drop, Q: Asks<K, V> + Drop, J: Room> Locked<K, V
     }
 
     /// The table and the journal's tokens.
-    pub(crate) fn into_parts(
-        self,
-    ) -> (Table<K, V, Q>, Vec<Arc<Token<K, V, Q, Q::Item>>>)
+    pub(crate) fn into_parts(self) -> (Table<K, V, Q>, Vec<Arc<Token<K, V, Q, Q::Item>>>)
         ensures shown { AllShown J.table result.1.items }
         ensures legal { IsLegal (machine K.cmp V.eq Q.target_of Q.answered) result.0.limits (entries_of result.1.items) result.0 }
     {

@@ -72,11 +72,13 @@ impl<K: PathKey + Drop, V: Eq + Drop, Q: Asks<K, V> + Drop, J: Room> SharedMap<K
             .lock(rt)
             .call(rt, self.alloc, &self.entries, number, call);
         match made {
-            Ok(Event {
-                token,
-                place,
-                answer,
-            }) => {
+            Ok(
+                Event {
+                    token,
+                    place,
+                    answer,
+                },
+            ) => {
                 file(&mut seat.list, &mut seat.floor, token, place);
                 answer
             }
@@ -103,11 +105,13 @@ impl<K: PathKey + Drop, V: Eq + Drop, Q: Asks<K, V> + Drop, J: Room> SharedMap<K
             .lock(rt)
             .view(rt, self.alloc, &self.entries, number, handle);
         match made {
-            Ok(Event {
-                token,
-                place,
-                answer,
-            }) => {
+            Ok(
+                Event {
+                    token,
+                    place,
+                    answer,
+                },
+            ) => {
                 file(&mut seat.list, &mut seat.floor, token, place);
                 answer
             }
@@ -185,11 +189,13 @@ impl<K: PathKey + Drop, V: Eq + Drop, Q: Asks<K, V> + Drop, J: Room> SharedMap<K
             &ticket.token,
         );
         match made {
-            Ok(Event {
-                token,
-                place,
-                answer: _,
-            }) => {
+            Ok(
+                Event {
+                    token,
+                    place,
+                    answer: _,
+                },
+            ) => {
                 file(&mut seat.list, &mut seat.floor, token, place);
                 Ok(())
             }

@@ -23,7 +23,7 @@ invariant_of-self-2 g c =
     let entry : entry_at c.in_ok-token.mine ≡ record { seat = c.args.seat; request = r; outcome = made } = search rules in
     let is : c.push_reserved.new.self.items ≡ l.journal.items ++ c.in_ok-token.mine ∷ [] = search rules in
     let beside : AllOpen g.J.Room.table c.abandon.new.self c.close.new.freezes.items = subst (AllOpen g.J.Room.table c.abandon.new.self) (sym c.close.ensures.others)
-      (closed_still g.J.Room.table l.table c.abandon.new.self c.args.job l.freezes.items (λ q e. abandon_keeps kind l.table c.abandon.new.self c.args.job q step e) c.self.invariant.beside) in
+    (closed_still g.J.Room.table l.table c.abandon.new.self c.args.job l.freezes.items (λ q e. abandon_keeps kind l.table c.abandon.new.self c.args.job q step e) c.self.invariant.beside) in
     kept_more kind g.J.Room.table l.table c.abandon.new.self l.journal.items c.push_reserved.new.self.items l.freezes.items c.close.new.freezes.items c.in_ok-token.mine c.args.seat r made
     is c.self.invariant shows entry refl step beside
 

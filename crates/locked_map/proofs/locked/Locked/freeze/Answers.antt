@@ -22,7 +22,7 @@ invariant_of-self-2 g c =
     let entry : entry_at c.in_ok-token.mine ≡ record { seat = c.args.seat; request = r; outcome = answered frozen_outcome c.in_ok-answer.answer } = search rules in
     let is : c.push_reserved.new.self.items ≡ l.journal.items ++ c.in_ok-token.mine ∷ [] = search rules in
     let beside = frozen_after kind g.J.Room.table l.table c.freeze.new.self c.args.handle c.args.seat (arc_value c.args.query) c.in_ok-answer.answer l.freezes.items _ c.set_beside.new.freezes.items (λ n. record { number = n; token = c.in_ok-opener.opener })
-      c.law_of_freezes.ensures (λ n. refl) (λ n. search rules) (λ n. search rules) step c.set_beside.ensures (search rules) c.self.invariant.beside in
+    c.law_of_freezes.ensures (λ n. refl) (λ n. search rules) (λ n. search rules) step c.set_beside.ensures (search rules) c.self.invariant.beside in
     kept_more kind g.J.Room.table l.table c.freeze.new.self l.journal.items c.push_reserved.new.self.items l.freezes.items c.set_beside.new.freezes.items c.in_ok-token.mine c.args.seat r (answered frozen_outcome c.in_ok-answer.answer)
     is c.self.invariant shows entry (filed_as_counted kind frozen_outcome c.in_ok-answer.answer (λ x. refl) c.in_ok-answer.ensures.ok.1) step beside
 
