@@ -166,9 +166,8 @@ impl<K: PathKey + Drop, V: Eq + Drop, Q: Asks<K, V> + Drop, J: Room> Locked<K, V
     >
         requires { entries.now ≡ J.table }
         ensures filed { IfOk result (λ r. Files (machine K.cmp V.eq Q.target_of Q.answered) J.table self.old seat (freeze handle query.value) (answered frozen_outcome r.0.answer) r.0.token r.0.place self.new) }
-        ensures shown { IfOk result (λ r. Shows J.table (arc_value r.0.token)) }
+        ensures shown { IfOk result (λ r. Shows J.table (arc_value r.0.token) × (arc_value r.1 ≡ arc_value r.0.token)) }
         ensures fits { IfOk result (λ r. r.0.place + 1 < 2 ^ 64) }
-        ensures again { IfOk result (λ r. arc_value r.1 ≡ arc_value r.0.token) }
         ensures unfiled { IfErr result (λ e. IsUnfiled (machine K.cmp V.eq Q.target_of Q.answered) self.old.state (freeze handle query.value) e) }
         ensures err { OnErr result (self.new ≡ self.old) }
     {
