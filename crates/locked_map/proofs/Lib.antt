@@ -6,3 +6,4 @@ pub mod Beside
 pub mod Walk
 pub mod Adding
 pub mod Events
+pub mod Seating

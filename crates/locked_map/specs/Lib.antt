@@ -4,3 +4,4 @@ pub mod Tokens
 pub mod Seats
 pub mod Kept
 pub mod Tickets
+pub mod Getting

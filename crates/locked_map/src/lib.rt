@@ -7,6 +7,7 @@
 #![tactic(auto)]
 
 mod asked;
+mod clients;
 mod closed;
 mod closing;
 mod entry;
@@ -23,6 +24,7 @@ mod ticket;
 mod told;
 
 pub use asked::Asked;
+pub use clients::{Client, NoJournal, with_clients};
 pub use closed::{Closed, Torn};
 pub use entry::Entry;
 pub use filed::Filed;

@@ -3,9 +3,12 @@ ghost use Rattle.std.specs.Prelude.{◌≡◌, ◌<◌, ◌≤◌, ℕ, All, IfE
 ghost use Rattle.handles.specs.Machine.{abandon, freeze, job_at, room, view};
 ghost use Rattle.handles.specs.Views.{call_outcome, machine, request_of, unit_outcome, view_outcome};
 ghost use Rattle.locked_map.specs.Answers.{answered, answered_or};
+ghost use Rattle.locked_map.specs.Getting.{MayBeTold};
 ghost use Rattle.locked_map.specs.Journals.{IsLegal, own};
 ghost use Rattle.locked_map.specs.Seats.{AboveFloors, Adds, pairs};
 ghost use Rattle.locked_map.specs.Tickets.{ticket_outcome};
+
+mod get_or_else;
 
 use crate::closed::{Closed, Torn};
 use crate::closing::{are_of_seats, is_borne_out, marks_hold};
@@ -63,7 +66,8 @@ impl<K: PathKey + Drop, V: Eq + Drop, Q: Asks<K, V> + Drop, J: Room> SharedMap<K
         seat: &mut Seat<K, V, Q, J>,
         call: Call<K, V>,
     ) -> Result<CallReply<V>, Refusal>
-        ensures { Adds seat.old (request_of call) (answered call_outcome result) seat.new }
+        ensures adds { Adds seat.old (request_of call) (answered call_outcome result) seat.new }
+        ensures told { IfOk result (λ reply. MayBeTold (machine K.cmp V.eq Q.target_of Q.answered) (request_of call) (call_outcome reply)) }
     {
         seat.list.reserve(1)?;
         let number = seat.number;
