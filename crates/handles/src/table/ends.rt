@@ -1,6 +1,8 @@
 //! How jobs are opened, and closed by an answer.
 ghost use Rattle.std.specs.Prelude.{◌≡◌, ◌<◌, ◌≤◌, ◌+◌, ◌^◌, [], length, IfErr, IfOk, IsSome, OnErr, OnOk, Some, None, unwrap_or};
 ghost use Rattle.std.specs.Ordering.{nat_cmp};
+ghost use Rattle.bulk_ops.specs.Answers as plain;
+ghost use Rattle.bulk_ops.specs.Told.{told_of};
 ghost use Rattle.handles.specs.Jobs.{AllCanFinish, Concludes};
 ghost use Rattle.handles.specs.Machine.{Job};
 ghost use Rattle.handles.specs.declared.jobs.TheConstants.{MOST_JOBS};
@@ -49,6 +51,7 @@ pub(super) fn close_job<K: PathKey + Drop, V: Eq + Drop, Q: Asks<K, V> + Drop>(
     requires can { AllCanFinish Q.target_of places.old.limit jobs.old.jobs }
     requires room { places.old.issued < 2 ^ 63 }
     ensures done { IfOk result (λ answer. Concludes Q.target_of Q.answered places.old jobs.old job answer places.new jobs.new) }
+    ensures told { IfOk result (λ answer. told_of answer ≡ plain.told (Q.answer_of part)) }
     ensures limit { places.new.limit ≡ places.old.limit }
     ensures issued { places.new.issued ≤ places.old.issued + 1 }
     ensures closed { OnErr result (value_at nat_cmp jobs.old.jobs job ≡ None) }
