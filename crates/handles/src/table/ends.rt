@@ -1,9 +1,9 @@
-//! How jobs are opened, and closed by an answer.
+//! How jobs are opened, and closed by an answer, and what that answer would be.
 ghost use Rattle.std.specs.Prelude.{◌≡◌, ◌<◌, ◌≤◌, ◌+◌, ◌^◌, [], length, IfErr, IfOk, IsSome, OnErr, OnOk, Some, None, unwrap_or};
 ghost use Rattle.std.specs.Ordering.{nat_cmp};
 ghost use Rattle.bulk_ops.specs.Answers as plain;
 ghost use Rattle.bulk_ops.specs.Told.{told_of};
-ghost use Rattle.handles.specs.Jobs.{AllCanFinish, Concludes};
+ghost use Rattle.handles.specs.Jobs.{AllCanFinish, Concludes, Tells};
 ghost use Rattle.handles.specs.Machine.{Job};
 ghost use Rattle.handles.specs.declared.jobs.TheConstants.{MOST_JOBS};
 ghost use Rattle.versions.specs.Map.{value_at, with_pair};
@@ -65,4 +65,23 @@ pub(super) fn close_job<K: PathKey + Drop, V: Eq + Drop, Q: Asks<K, V> + Drop>(
     jobs.close(job);
     places.settle(target, made);
     Ok(answer)
+}
+
+/// What `close_job` would answer.
+///
+/// It is refused as `NoJob` where the job is not open, and as `NoMemory`.
+pub(super) fn tell_job<K: PathKey + Drop, V: Eq + Drop, Q: Asks<K, V> + Drop>(
+    jobs: &Jobs<K, V, Q>,
+    job: u64,
+    part: &Q::Part,
+) -> Result<Answer<K, V, Q::Item>, Refusal>
+    requires { (j : Job K V Q) → value_at nat_cmp jobs.now.jobs job ≡ Some j → Q.answers j.query j.frozen part.now }
+    ensures tells { IfOk result (λ answer. Tells Q.answered jobs.now job answer) }
+    ensures told { IfOk result (λ answer. told_of answer ≡ plain.told (Q.answer_of part.now)) }
+    ensures memory { IsSome (value_at nat_cmp jobs.now.jobs job) → IfErr result (λ e. e ≡ Refusal.NoMemory) }
+{
+    let Some(open) = jobs.get(job) else {
+        return Err(Refusal::NoJob);
+    };
+    Ok(open.query.tell(part)?)
 }
