@@ -80,8 +80,8 @@ pub(super) fn tell_job<K: PathKey + Drop, V: Eq + Drop, Q: Asks<K, V> + Drop>(
     ensures told { IfOk result (λ answer. told_of answer ≡ plain.told (Q.answer_of part.now)) }
     ensures memory { IsSome (value_at nat_cmp jobs.now.jobs job) → IfErr result (λ e. e ≡ Refusal.NoMemory) }
 {
-    let Some(open) = jobs.get(job) else {
-        return Err(Refusal::NoJob);
-    };
-    Ok(open.query.tell(part)?)
+    match jobs.get(job) {
+        Some(open) => Ok(open.query.tell(part)?),
+        None => Err(Refusal::NoJob),
+    }
 }

@@ -11,8 +11,8 @@ tell-requires g c =
     let named : value_at nat_cmp c.args.jobs.now.jobs c.args.job ≡ Some j = search rules in
     ∣ (j.frozen, subst (λ q. g.Q.Bulk.answers q j.frozen c.args.part.now) (sym c.deref.ensures) (c.requires j named)) ∣₁
 
-pub returns-clause-tells : goal.returns-clause-tells
-returns-clause-tells g c =
+pub returns-in_ok-tell-in-Some-clause-tells : goal.returns-in_ok-tell-in-Some-clause-tells
+returns-in_ok-tell-in-Some-clause-tells g c =
     let j : Job g.row.K.Denot g.row.V.Denot g.row.Q.Denot = (job_of c.in-Some.open.now).1 in
     let named : value_at nat_cmp c.args.jobs.now.jobs c.args.job ≡ Some j = search rules in
     let answer = g.Q.Asks.answer_of c.args.part.now in
@@ -22,5 +22,5 @@ returns-clause-tells g c =
       answer = answer;
       named = named;
       is_answer = subst (λ q. g.Q.Asks.answered q j.frozen answer) c.deref.ensures (c.tell.ensures.answered j.frozen answers);
-      is_told = c.in_ok-tell.ensures.told;
+      is_told = c.in_ok-tell-in-Some.ensures.told;
     }
