@@ -105,6 +105,7 @@ impl<K: PathKey + Drop, V: Eq + Drop, Q: Asks<K, V> + Drop> Core<K, V, Q> {
         ensures core { IsCore self.new }
     {
         let answer = self.made(alloc, step);
+        // called for its contract alone, which tells that this is a core
         self.workers();
         answer
     }
@@ -130,6 +131,7 @@ impl<K: PathKey + Drop, V: Eq + Drop, Q: Asks<K, V> + Drop> Core<K, V, Q> {
                 return Err((Trace { outcomes }, NoMemory));
             }
         }
+        // as in `step`, for what its contract tells
         self.workers();
         Ok(Trace { outcomes })
     }
