@@ -1,19 +1,41 @@
--- A step that wants memory is refused for no other reason.
-use Rattle.std.proofs.Common.{◌≡◌, true, false, refl, sym, ◌∙◌, subst}
+-- A step that wants memory is refused for no other reason, and is one that takes some.
+use Rattle.std.proofs.Common.{◌≡◌, Bool, true, false, refl, sym, ◌∙◌, subst}
 use Rattle.std.specs.Prelude.{Result, Ok, Err, OnErr}
 use Rattle.versions.specs.Map.{Map}
 use Rattle.versions.specs.declared.refusal.Refusal.{Refusal}
 use Rattle.versions.specs.declared.refusal.Refusal.TheVariants.{NoHandle, Taken, Full, NoJob, Unfinished, NoWorker, TooManyJobs, JournalFull, NoMemory, BadNumber}
 use Rattle.trie_shape.specs.declared.no_memory.NoMemory as want
 use Rattle.handles.specs.declared.call_reply.CallReply.{CallReply}
-use Rattle.handles.specs.Views.{lacks_memory}
+use Rattle.handles.specs.Machine.{Kind, Request, open_handle, snapshot, drop_handle, on, view, freeze, finish, abandon, worker_step}
+use Rattle.handles.specs.Views.{AnswersWithoutMemory, lacks_memory}
 use Rattle.core_steps.specs.declared.outcome.Outcome.{Outcome}
-use Rattle.core_steps.specs.Steps.{refused_outcome, call_told, view_told}
+use Rattle.core_steps.specs.Cores.{of_client}
+use Rattle.core_steps.specs.Steps.{refused_outcome, call_told, takes_no_memory, view_told}
 
 -- what holds in any case holds at an error
 pub at_err : {A E P : Type 0} (result : Result A E) → P → OnErr result P
 at_err (Ok x) p = tt
 at_err (Err e) p = p
+
+clash : {P : Type 0} → true ≡ false → P
+clash h = cc
+
+-- a call that takes no memory never lacks it, so one that lacks it takes some
+taking_some : (free lacking : Bool) → (free ≡ true → lacking ≡ false) → lacking ≡ true → free ≡ false
+taking_some false lacking never lacks = refl
+taking_some true lacking never lacks = clash (sym lacks ∙ never refl)
+
+-- a request for which the table lacks memory takes some of the core
+pub request_takes : {K V Q A B T : Type 0} (kind : Kind K V Q A B) (r : Request K V Q) (answer : Result T Refusal) → AnswersWithoutMemory kind r answer → lacks_memory answer ≡ true → takes_no_memory (of_client r) ≡ false
+request_takes kind (finish j) answer never lacks = refl
+request_takes kind (open_handle h) answer never lacks = refl
+request_takes kind (snapshot h to) answer never lacks = refl
+request_takes kind (view h) answer never lacks = refl
+request_takes kind (freeze h q) answer never lacks = refl
+request_takes kind worker_step answer never lacks = refl
+request_takes kind (drop_handle h) answer never lacks = taking_some _ _ never lacks
+request_takes kind (abandon j) answer never lacks = taking_some _ _ never lacks
+request_takes kind (on h x) answer never lacks = taking_some _ _ never lacks
 
 module _ {K V I : Type 0} (P : Type 0) (result : Result (Outcome K V I) want.NoMemory) where
   -- what is told of a refusal by the table, where P holds if that is for want of memory
@@ -34,10 +56,7 @@ module _ {K V I : Type 0} (P : Type 0) (result : Result (Outcome K V I) want.NoM
 
   -- the same where the table never wants memory
   pub never_wanting : (e : Refusal) → result ≡ refused_outcome e → lacks_memory {T = Unit {0}} (Err e) ≡ false → OnErr result P
-  never_wanting e told never = due_refused e told (λ lacks. absurd (clash (sym lacks ∙ never)))
-    where
-      clash : true ≡ false → ⊥
-      clash h = cc
+  never_wanting e told never = due_refused e told (λ lacks. clash (sym lacks ∙ never))
 
   -- what is told of a call, and of a view
   pub due_called : (answer : Result (CallReply V) Refusal) → result ≡ call_told answer → (lacks_memory answer ≡ true → P) → OnErr result P

@@ -1,5 +1,5 @@
 -- What a worker's move comes to on the desks of one job.
-use Rattle.std.specs.Prelude.{◌≡◌, ℕ, List, length}
+use Rattle.std.specs.Prelude.{◌≡◌, ℕ, Bool, List, length, true, false}
 use Rattle.std.specs.declared.cmp.Ordering.{Ordering}
 use Rattle.trie_shape.specs.Map.{Map}
 use Rattle.iter.specs.Intervals.{part, parts}
@@ -16,6 +16,12 @@ move_of (Take w) = boards.taking w
 move_of (Steal w from) = boards.stealing w from
 move_of (Split w) = boards.splitting w
 move_of (Work w) = boards.working w
+
+-- whether a move takes no memory: a piece is taken or stolen
+abbrev pub moves_without_memory : boards.Move → Bool
+moves_without_memory (boards.taking w) = true
+moves_without_memory (boards.stealing w from) = true
+moves_without_memory _ = false
 
 module _ {K V P : Type 0} (path : K → ℕ) (m : Map K V) where
   -- the turn of a worker that moves, on the board of some desks of the map

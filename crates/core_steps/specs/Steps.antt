@@ -1,5 +1,5 @@
 -- How the steps of a core and their outcomes appear to its definitions.
-use Rattle.std.specs.Prelude.{◌≡◌, List, [], ◌∷◌, Option, Result, Ok, Err}
+use Rattle.std.specs.Prelude.{◌≡◌, Bool, List, [], ◌∷◌, Option, Result, Ok, Err, true, false}
 use Rattle.std.specs.Arc.{arc_value}
 use Rattle.versions.specs.Map.{Map}
 use Rattle.versions.specs.declared.refusal.Refusal.{Refusal}
@@ -13,6 +13,7 @@ use Rattle.handles.specs.Machine as machine
 use Rattle.handles.specs.Views.{request_of, call_outcome}
 use Rattle.core_steps.specs.Boards.{taking, stealing, splitting, working}
 use Rattle.core_steps.specs.Cores.{CoreState, Asked, of_client, of_worker, Told, to_client, to_worker, no_turn, Division, CoreStep, refusal_of}
+use Rattle.core_steps.specs.Moves.{moves_without_memory}
 use Rattle.core_steps.specs.Traces.{client_requests, client_outcomes, CoreRun}
 use Rattle.core_steps.specs.Views.{turn_of}
 use Rattle.core_steps.specs.declared.step.Step.{Step}
@@ -73,6 +74,12 @@ view_told (Err e) = refused_outcome e
 abbrev pub refusal_due : {K V Q A B : Type 0} → Kind K V Q A B → CoreState K V Q → Asked K V Q → Option Refusal
 refusal_due kind s (of_client r) = machine.refusal kind s.machine r
 refusal_due kind s (of_worker j x) = refusal_of s j x
+
+-- whether what is asked takes no memory: of a client's requests what takes none of the machine, but for a finish, which joins the parts of workers
+abbrev pub takes_no_memory : {K V Q : Type 0} → Asked K V Q → Bool
+takes_no_memory (of_client (finish j)) = false
+takes_no_memory (of_client r) = machine.takes_no_memory r
+takes_no_memory (of_worker j x) = moves_without_memory x
 
 module _ {K V Q I A : Type 0} (kind : Kind K V Q A (plain.Told K V I)) (division : Division K V Q) where
   -- one step of the core, of which the outcome shows what is told

@@ -1,12 +1,12 @@
 //! The core: a table of handles, with a board for each open job.
-ghost use Rattle.std.specs.Prelude.{◌≡◌, ◌≤◌, ◌<◌, ◌&&◌, ◌++◌, ◌∷◌, [], All, IfErr, IfOk, IfSome, OnErr, OnOk, None, Some, is_none, is_some, not, nat_lt, map, take, length, true};
+ghost use Rattle.std.specs.Prelude.{◌≡◌, ◌≤◌, ◌<◌, ◌&&◌, ◌++◌, ◌∷◌, [], All, IfErr, IfOk, IfSome, OnErr, OnOk, None, Some, is_none, is_some, not, nat_lt, map, take, length, false, true};
 ghost use Rattle.handles.specs.Machine.{Job, abandon, finish, freeze, job_at, refusal, view};
 ghost use Rattle.handles.specs.Views.{request_of};
 ghost use Rattle.core_steps.specs.Cores.{new_core, of_client, of_worker, worked_part};
 ghost use Rattle.core_steps.specs.Invariants.{IsCore};
-ghost use Rattle.core_steps.specs.Moves.{move_of};
+ghost use Rattle.core_steps.specs.Moves.{move_of, moves_without_memory};
 ghost use Rattle.core_steps.specs.Queries.{asked, divided};
-ghost use Rattle.core_steps.specs.Steps.{CanAsk, IsAnswered, Ran, StepsTo, asked_by, refusal_due};
+ghost use Rattle.core_steps.specs.Steps.{CanAsk, IsAnswered, Ran, StepsTo, asked_by, refusal_due, takes_no_memory};
 ghost use Rattle.core_steps.specs.declared.outcome.Outcome.{Outcome};
 
 use crate::board::{begin_whole, vacant};
@@ -93,7 +93,7 @@ impl<K: PathKey + Drop, V: Eq + Drop, Q: Asks<K, V> + Drop> Core<K, V, Q> {
     /// Makes one step of a client or of a worker.
     ///
     /// A query that is frozen may be called on every pair. A refusal that is due is told whatever the memory. After
-    /// `NoMemory` all is as before.
+    /// `NoMemory` all is as before. A drop of a handle, an abandon, a size, a take and a steal are never answered so.
     pub fn step(
         &mut self,
         alloc: Global,
@@ -102,6 +102,7 @@ impl<K: PathKey + Drop, V: Eq + Drop, Q: Asks<K, V> + Drop> Core<K, V, Q> {
         requires { CanAsk Q.ready (asked_by step) }
         ensures step { IsAnswered (asked K.cmp V.eq Q.target_of Q.answered) (divided K.path_of Q.decides) self.old (asked_by step) result self.new }
         ensures due { OnErr result (refusal_due (asked K.cmp V.eq Q.target_of Q.answered) self.old (asked_by step) ≡ None) }
+        ensures memory { OnErr result (takes_no_memory (asked_by step) ≡ false) }
         ensures core { IsCore self.new }
     {
         let answer = self.made(alloc, step);
@@ -171,6 +172,7 @@ impl<K: PathKey + Drop, V: Eq + Drop, Q: Asks<K, V> + Drop> Core<K, V, Q> {
         requires { CanAsk Q.ready (asked_by step) }
         ensures step { IsAnswered (asked K.cmp V.eq Q.target_of Q.answered) (divided K.path_of Q.decides) self.old (asked_by step) result self.new }
         ensures due { OnErr result (refusal_due (asked K.cmp V.eq Q.target_of Q.answered) self.old (asked_by step) ≡ None) }
+        ensures memory { OnErr result (takes_no_memory (asked_by step) ≡ false) }
     {
         match step {
             Step::Call(call) => self.call(alloc, call),
@@ -189,6 +191,7 @@ impl<K: PathKey + Drop, V: Eq + Drop, Q: Asks<K, V> + Drop> Core<K, V, Q> {
     fn call(&mut self, alloc: Global, call: Call<K, V>) -> Result<Outcome<K, V, Q::Item>, NoMemory>
         ensures step { IsAnswered (asked K.cmp V.eq Q.target_of Q.answered) (divided K.path_of Q.decides) self.old (of_client (request_of call)) result self.new }
         ensures due { OnErr result (refusal_due (asked K.cmp V.eq Q.target_of Q.answered) self.old (of_client (request_of call)) ≡ None) }
+        ensures memory { OnErr result (takes_no_memory {Q = Q} (of_client (request_of call)) ≡ false) }
     {
         law_of_cuts::<K, V>();
         law_of_open_jobs::<K, V, Q>();
@@ -283,6 +286,7 @@ impl<K: PathKey + Drop, V: Eq + Drop, Q: Asks<K, V> + Drop> Core<K, V, Q> {
     fn abandon(&mut self, job: u64) -> Result<Outcome<K, V, Q::Item>, NoMemory>
         ensures step { IsAnswered (asked K.cmp V.eq Q.target_of Q.answered) (divided K.path_of Q.decides) self.old (of_client (abandon job)) result self.new }
         ensures due { OnErr result (refusal_due (asked K.cmp V.eq Q.target_of Q.answered) self.old (of_client (abandon job)) ≡ None) }
+        ensures memory { OnErr result (takes_no_memory {K = K} {V = V} {Q = Q} (of_client (abandon job)) ≡ false) }
     {
         law_of_cuts::<K, V>();
         match self.table.abandon(job) {
@@ -302,6 +306,7 @@ impl<K: PathKey + Drop, V: Eq + Drop, Q: Asks<K, V> + Drop> Core<K, V, Q> {
     ) -> Result<Outcome<K, V, Q::Item>, NoMemory>
         ensures step { IsAnswered (asked K.cmp V.eq Q.target_of Q.answered) (divided K.path_of Q.decides) self.old (of_worker job (move_of chosen)) result self.new }
         ensures due { OnErr result (refusal_due (asked K.cmp V.eq Q.target_of Q.answered) self.old (of_worker job (move_of chosen)) ≡ None) }
+        ensures memory { OnErr result (moves_without_memory (move_of chosen) ≡ false) }
     {
         law_of_cuts::<K, V>();
         let Some(place) = place_of(&self.posts, job) else {

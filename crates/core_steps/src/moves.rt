@@ -1,9 +1,9 @@
 //! What workers may do.
-ghost use Rattle.std.specs.Prelude.{◌≡◌, ◌<◌, All, IfOk, OnErr, length, nat_le};
+ghost use Rattle.std.specs.Prelude.{◌≡◌, ◌<◌, All, IfOk, OnErr, false, length, nat_le};
 ghost use Rattle.std.specs.List.{list_any};
 ghost use Rattle.core_steps.specs.Boards.{named_by};
 ghost use Rattle.core_steps.specs.Desks.{IsJobOn};
-ghost use Rattle.core_steps.specs.Moves.{MovesTo, move_of};
+ghost use Rattle.core_steps.specs.Moves.{MovesTo, move_of, moves_without_memory};
 ghost use Rattle.core_steps.specs.Views.{turn_of};
 ghost use Rattle.versions.specs.Map.{Map};
 
@@ -40,7 +40,7 @@ impl Move {
     }
 }
 
-/// A worker's move on the board of a job. After `NoMemory` all is as before.
+/// A worker's move on the board of a job. After `NoMemory`, which no take and no steal is answered, all is as before.
 pub fn make_move<K: PathKey + Drop, V: Drop, B: Bulk<K, V>>(
     alloc: Global,
     bulk: &B,
@@ -53,6 +53,7 @@ pub fn make_move<K: PathKey + Drop, V: Drop, B: Bulk<K, V>>(
     requires job { (m : Map K V) × IsJobOn K.cmp K.path_of (B.answers bulk.now) m board.old }
     ensures ok { IfOk result (λ progress. (m : Map K V) → IsJobOn K.cmp K.path_of (B.answers bulk.now) m board.old → MovesTo K.cmp K.path_of (B.answers bulk.now) (B.decides bulk.now) m grain board.old (move_of chosen) (turn_of progress) board.new) }
     ensures err { OnErr result (board.new ≡ board.old) }
+    ensures memory { OnErr result (moves_without_memory (move_of chosen) ≡ false) }
 {
     law_of_jobs(bulk);
     match chosen {

@@ -1,10 +1,10 @@
-use Rattle.std.proofs.Common.{◌≡◌, None, sym, subst}
+use Rattle.std.proofs.Common.{◌≡◌, None, false, sym, subst}
 use Rattle.handles.specs.Machine.{abandon, refusal}
 use Rattle.handles.specs.Views.{unit_outcome}
 use Rattle.core_steps.specs.Cores.{of_client}
 use Rattle.core_steps.specs.Posts.{IsWhole, posts_of, core_of}
 use Rattle.core_steps.specs.Queries.{asked, divided}
-use Rattle.core_steps.specs.Steps.{IsAnswered, StepsTo}
+use Rattle.core_steps.specs.Steps.{IsAnswered, StepsTo, takes_no_memory}
 use Rattle.core_steps.specs.declared.outcome.Outcome.TheVariants.{Abandoned}
 use Rattle.core_steps.proofs.KeptBoards.{cuts_within}
 use Rattle.core_steps.proofs.WholeSteps.{refusal_whole, abandoned_whole}
@@ -53,3 +53,7 @@ pub returns-in-Err-clause-due : goal.returns-in-Err-clause-due
 returns-in-Err-clause-due g c =
     let kind = asked g.K.Ord.cmp g.V.PartialEq.eq g.Q.Asks.target_of g.Q.Asks.answered in
     never_wanting (refusal kind c.args.self.now.machine (abandon c.args.job) ≡ None) c.refused.result c.in-Err.refusal c.refused.ensures c.in-Err.ensures.memory
+
+pub returns-in-Err-clause-memory : goal.returns-in-Err-clause-memory
+returns-in-Err-clause-memory g c =
+    never_wanting (takes_no_memory {K = g.row.K.Denot} {V = g.row.V.Denot} {Q = g.row.Q.Denot} (of_client (abandon c.args.job)) ≡ false) c.refused.result c.in-Err.refusal c.refused.ensures c.in-Err.ensures.memory

@@ -1,13 +1,13 @@
-use Rattle.std.proofs.Common.{◌≡◌, None, sym, subst}
+use Rattle.std.proofs.Common.{◌≡◌, None, false, sym, subst}
 use Rattle.core_steps.specs.Cores.{of_client}
 use Rattle.handles.specs.Machine.{refusal}
 use Rattle.handles.specs.Views.{request_of}
 use Rattle.core_steps.specs.Posts.{posts_of, core_of}
 use Rattle.core_steps.specs.Queries.{asked, divided}
-use Rattle.core_steps.specs.Steps.{IsAnswered}
+use Rattle.core_steps.specs.Steps.{IsAnswered, takes_no_memory}
 use Rattle.core_steps.proofs.KeptBoards.{cuts_within}
 use Rattle.core_steps.proofs.WholeSteps.{call_whole}
-use Rattle.core_steps.proofs.DueSteps.{due_called}
+use Rattle.core_steps.proofs.DueSteps.{due_called, request_takes}
 use Rattle.core_steps.proofs.cores.Core.call.Goals as goal
 
 pub invariant_of-self : goal.invariant_of-self
@@ -33,3 +33,9 @@ returns-clause-due g c =
     let kind = asked g.K.Ord.cmp g.V.PartialEq.eq g.Q.Asks.target_of g.Q.Asks.answered in
     due_called (refusal kind c.args.self.now.machine (request_of c.args.call) ≡ None) c.call_outcome.result c.serve.result c.call_outcome.ensures
     (λ lacks. subst (λ s. refusal kind s.machine (request_of c.args.call) ≡ None) c.self.view_is (c.serve.ensures.due lacks))
+
+pub returns-clause-memory : goal.returns-clause-memory
+returns-clause-memory g c =
+    let kind = asked g.K.Ord.cmp g.V.PartialEq.eq g.Q.Asks.target_of g.Q.Asks.answered in
+    due_called (takes_no_memory {Q = g.row.Q.Denot} (of_client (request_of c.args.call)) ≡ false) c.call_outcome.result c.serve.result c.call_outcome.ensures
+    (request_takes kind (request_of c.args.call) c.serve.result c.serve.ensures.memory)
