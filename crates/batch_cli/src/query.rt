@@ -169,4 +169,8 @@ impl Asks<ByteText, i64> for ScriptQuery {
     ) {
         self.query.conclude(part)
     }
+
+    fn tell(&self, part: &ScriptPart) -> Result<Answer<ByteText, i64, Option<i128>>, NoMemory> {
+        self.query.tell(part)
+    }
 }

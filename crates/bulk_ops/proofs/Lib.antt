@@ -6,6 +6,7 @@ pub mod PartKinds
 pub mod Additions
 pub mod Settled
 pub mod Concluded
+pub mod Lent
 pub mod Works
 pub mod Permutations
 pub mod Whole

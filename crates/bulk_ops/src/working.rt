@@ -150,8 +150,11 @@ fn is_settled<
     }
 }
 
-// Another handle on the pair.
-fn copy_of<K: Drop, V: Drop>(key: &Arc<K>, value: &Arc<V>) -> Result<Pair<K, V>, NoMemory>
+/// Another handle on the pair.
+pub(crate) fn copy_of<K: Drop, V: Drop>(
+    key: &Arc<K>,
+    value: &Arc<V>,
+) -> Result<Pair<K, V>, NoMemory>
     ensures { IfOk result (λ pair. (pair.0.value ≡ key.now.value) × (pair.1.value ≡ value.now.value)) }
 {
     Ok((Arc::try_clone(key)?, Arc::try_clone(value)?))

@@ -78,3 +78,11 @@ pub record Concludes {K V Q I : Type 0} (target : Q → Option ℕ) (answers : Q
   pub live : places_after.live ≡ live_with_answer places.live (target job.query) answer
   pub closed : jobs_after.jobs ≡ without nat_cmp jobs.jobs j
   pub kept : jobs_after.next ≡ jobs.next
+
+-- the query of the open job has an answer for its frozen map, of which this is told
+pub record Tells {K V Q I : Type 0} (answers : Q → Map K V → plain.Answer K V I → Type 0) (jobs : Opened K V Q) (j : ℕ) (told : Answer K V I) : Type 0 where
+  pub job : Job K V Q
+  pub answer : plain.Answer K V I
+  pub named : value_at nat_cmp jobs.jobs j ≡ Some job
+  pub is_answer : answers job.query job.frozen answer
+  pub is_told : told_of told ≡ plain.told answer

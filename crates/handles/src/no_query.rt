@@ -57,4 +57,8 @@ impl<K: PathKey, V> Asks<K, V> for NoQuery {
     fn conclude(&self, _part: ()) -> (Answer<K, V, ()>, Option<Version<K, V>>) {
         (Answer::Count(0), None)
     }
+
+    fn tell(&self, _part: &()) -> Result<Answer<K, V, ()>, NoMemory> {
+        Ok(Answer::Count(0))
+    }
 }

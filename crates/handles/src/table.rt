@@ -1,5 +1,7 @@
 //! The table of handles.
 ghost use Rattle.std.specs.Prelude.{◌≡◌, ◌+◌, ◌<◌, ◌≤◌, ◌*◌, ◌^◌, IfOk, OnErr, Some, if◌then◌else◌, false, true};
+ghost use Rattle.bulk_ops.specs.Answers as plain;
+ghost use Rattle.bulk_ops.specs.Told.{told_of};
 ghost use Rattle.handles.specs.Handles.{IsKept, live_from, maps_in};
 ghost use Rattle.handles.specs.Machine.{IsRunOfSome, Job, Run, abandon, drop_handle, finish, freeze, is_entry, job_at, nothing, on, open_handle, snapshot, view};
 ghost use Rattle.handles.specs.Views.{AnswersWithoutMemory, IsDue, IsStep, call_outcome, command_of, finished_outcome, frozen_outcome, is_counted, lacks_memory, machine, outcomes_of, reply_outcome, request_of, requests_of, unit_outcome, view_outcome};
@@ -188,13 +190,14 @@ impl<K: PathKey + Drop, V: Eq + Drop, Q: Asks<K, V> + Drop> Table<K, V, Q> {
     }
 
     /// Closes the job by the part's answer, and opens its target, if it has one, with the map that the part made. The
-    /// part has to answer the job's query for its frozen map; it is dropped where no such job is open. It takes no
-    /// memory and is never `NoMemory`.
+    /// part has to answer the job's query for its frozen map; it is dropped where no such job is open. What is told
+    /// follows from the part alone. It takes no memory and is never `NoMemory`.
     ///
     /// It is refused as `NoJob`.
     pub fn finish(&mut self, job: u64, part: Q::Part) -> Result<Answer<K, V, Q::Item>, Refusal>
         requires { (j : Job K V Q) → job_at self.old job ≡ Some j → Q.answers j.query j.frozen part }
         ensures step { IsStep (machine K.cmp V.eq Q.target_of Q.answered) self.old (finish job) finished_outcome result self.new }
+        ensures told { IfOk result (λ answer. told_of answer ≡ plain.told (Q.answer_of part)) }
         ensures memory { lacks_memory result ≡ false }
     {
         let answer = match self.refusal_of(&Demand::Finish(job)) {

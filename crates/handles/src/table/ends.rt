@@ -1,7 +1,9 @@
-//! How jobs are opened, and closed by an answer.
+//! How jobs are opened, and closed by an answer, and what that answer would be.
 ghost use Rattle.std.specs.Prelude.{◌≡◌, ◌<◌, ◌≤◌, ◌+◌, ◌^◌, [], length, IfErr, IfOk, IsSome, OnErr, OnOk, Some, None, unwrap_or};
 ghost use Rattle.std.specs.Ordering.{nat_cmp};
-ghost use Rattle.handles.specs.Jobs.{AllCanFinish, Concludes};
+ghost use Rattle.bulk_ops.specs.Answers as plain;
+ghost use Rattle.bulk_ops.specs.Told.{told_of};
+ghost use Rattle.handles.specs.Jobs.{AllCanFinish, Concludes, Tells};
 ghost use Rattle.handles.specs.Machine.{Job};
 ghost use Rattle.handles.specs.declared.jobs.TheConstants.{MOST_JOBS};
 ghost use Rattle.versions.specs.Map.{value_at, with_pair};
@@ -49,6 +51,7 @@ pub(super) fn close_job<K: PathKey + Drop, V: Eq + Drop, Q: Asks<K, V> + Drop>(
     requires can { AllCanFinish Q.target_of places.old.limit jobs.old.jobs }
     requires room { places.old.issued < 2 ^ 63 }
     ensures done { IfOk result (λ answer. Concludes Q.target_of Q.answered places.old jobs.old job answer places.new jobs.new) }
+    ensures told { IfOk result (λ answer. told_of answer ≡ plain.told (Q.answer_of part)) }
     ensures limit { places.new.limit ≡ places.old.limit }
     ensures issued { places.new.issued ≤ places.old.issued + 1 }
     ensures closed { OnErr result (value_at nat_cmp jobs.old.jobs job ≡ None) }
@@ -62,4 +65,23 @@ pub(super) fn close_job<K: PathKey + Drop, V: Eq + Drop, Q: Asks<K, V> + Drop>(
     jobs.close(job);
     places.settle(target, made);
     Ok(answer)
+}
+
+/// What `close_job` would answer.
+///
+/// It is refused as `NoJob` where the job is not open, and as `NoMemory`.
+pub(super) fn tell_job<K: PathKey + Drop, V: Eq + Drop, Q: Asks<K, V> + Drop>(
+    jobs: &Jobs<K, V, Q>,
+    job: u64,
+    part: &Q::Part,
+) -> Result<Answer<K, V, Q::Item>, Refusal>
+    requires { (j : Job K V Q) → value_at nat_cmp jobs.now.jobs job ≡ Some j → Q.answers j.query j.frozen part.now }
+    ensures tells { IfOk result (λ answer. Tells Q.answered jobs.now job answer) }
+    ensures told { IfOk result (λ answer. told_of answer ≡ plain.told (Q.answer_of part.now)) }
+    ensures memory { IsSome (value_at nat_cmp jobs.now.jobs job) → IfErr result (λ e. e ≡ Refusal.NoMemory) }
+{
+    match jobs.get(job) {
+        Some(open) => Ok(open.query.tell(part)?),
+        None => Err(Refusal::NoJob),
+    }
 }

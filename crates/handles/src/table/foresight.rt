@@ -1,15 +1,18 @@
 //! What the calls of a table would be answered now, for want of memory aside.
-ghost use Rattle.std.specs.Prelude.{◌≡◌, MatchOption, Err, Ok, false};
-ghost use Rattle.handles.specs.Machine.{abandon, drop_handle, freeze, on, open_handle, snapshot, view};
-ghost use Rattle.handles.specs.Views.{AnswersWithoutMemory, Foresees, call_outcome, command_of, frozen_outcome, lacks_memory, machine, reply_outcome, request_of, unit_outcome, view_outcome};
+ghost use Rattle.std.specs.Prelude.{◌≡◌, MatchOption, Err, IfOk, Ok, Some, false};
+ghost use Rattle.bulk_ops.specs.Answers as plain;
+ghost use Rattle.bulk_ops.specs.Told.{told_of};
+ghost use Rattle.handles.specs.Machine.{Job, abandon, drop_handle, finish, freeze, job_at, on, open_handle, snapshot, view};
+ghost use Rattle.handles.specs.Views.{AnswersWithoutMemory, Foresees, call_outcome, command_of, finished_outcome, frozen_outcome, lacks_memory, machine, reply_outcome, request_of, unit_outcome, view_outcome};
 
 use super::Table;
+use super::ends::tell_job;
 use crate::call::Call;
 use crate::call_reply::CallReply;
 use crate::command::Command;
 use crate::demand::Demand;
 use crate::reply::Reply;
-use bulk_ops::Asks;
+use bulk_ops::{Answer, Asks};
 use hash_path::PathKey;
 use versions::{Refusal, View};
 
@@ -74,6 +77,22 @@ impl<K: PathKey + Drop, V: Eq + Drop, Q: Asks<K, V> + Drop> Table<K, V, Q> {
         match self.refusal_of(&Demand::Freeze(handle, query)) {
             Some(refusal) => Err(refusal),
             None => Ok((self.jobs.next_number(), self.places.view(handle)?)),
+        }
+    }
+
+    /// What `finish` with the part would answer now. The part, which is lent alone, has to answer the job's query for its
+    /// frozen map. It makes no request for memory: a pair that was found is shared with the part. Whoever makes the call
+    /// then with that part is told the same.
+    ///
+    /// It foresees `NoMemory` only where no refusal is due.
+    pub fn foresee_finish(&self, job: u64, part: &Q::Part) -> Result<Answer<K, V, Q::Item>, Refusal>
+        requires { (j : Job K V Q) → job_at self.now job ≡ Some j → Q.answers j.query j.frozen part.now }
+        ensures now { Foresees (machine K.cmp V.eq Q.target_of Q.answered) self.now (finish job) finished_outcome result }
+        ensures told { IfOk result (λ answer. told_of answer ≡ plain.told (Q.answer_of part.now)) }
+    {
+        match self.refusal_of(&Demand::Finish(job)) {
+            Some(refusal) => Err(refusal),
+            None => tell_job(&self.jobs, job, part),
         }
     }
 

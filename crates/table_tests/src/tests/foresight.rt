@@ -1,11 +1,16 @@
 //! What the twins of calls foresee, beside what the calls then answer.
-ghost use Rattle.std.specs.Prelude.{IfOk};
-ghost use Rattle.handles.specs.Machine.{Step, drop_handle};
+ghost use Rattle.std.specs.Prelude.{◌≡◌, IfOk, Some};
+ghost use Rattle.bulk_ops.specs.Told.{told_of};
+ghost use Rattle.handles.specs.Machine.{Step, drop_handle, job_at};
 ghost use Rattle.handles.specs.Views.{call_outcome, machine};
 
-use super::asking::{Asked, Asking, count_of, filter_of, put, with_handle};
-use super::{assert_is, entries, of_path};
-use bulk_ops::Asks;
+use super::asking::{
+    Asked, Asking, NewValue, Shown, Within, changing, count_of, each_value, filter_of, freeze,
+    passing, plainly, put, with_handle, worked,
+};
+use super::{LARGEST, assert_is, entries, of_path};
+use bulk_ops::{Answer, Asks, Part};
+use combiner::{Both, Greatest, Least, Sum};
 use handles::{Call, CallReply, Command, Limits, Reply, Table, law_of_answers, law_of_foresight};
 use hash_path::PathKey;
 use std::alloc::Global;
@@ -251,5 +256,92 @@ fn what_was_foreseen_is_an_outcome_of_the_step(rt: HostRuntime) -> Result<(), Fa
     let again = dropped_as_foreseen(alloc, &mut table, 1);
     assert_is(&rt, again, Err(Refusal::NoHandle));
     assert_is(&rt, entries(&table), 3);
+    Ok(())
+}
+
+// What is foreseen of the job's finish by the part, and what the finish then tells: the same.
+fn closed_as_foreseen<K: PathKey + Drop, V: Eq + Drop, Q: Asks<K, V> + Drop>(
+    table: &mut Table<K, V, Q>,
+    job: u64,
+    view: &View<K, V>,
+    query: &Q,
+    part: Q::Part,
+) -> Result<(Answer<K, V, Q::Item>, Answer<K, V, Q::Item>), Refusal>
+    requires open { job_at table.old job ≡ Some (record { query = query.now; frozen = view.now }) }
+    requires part { Q.answers query.now view.now part }
+    ensures { IfOk result (λ both. told_of both.0 ≡ told_of both.1) }
+{
+    let foreseen = table.foresee_finish(job, &part)?;
+    let told = table.finish(job, part)?;
+    Ok((foreseen, told))
+}
+
+// Both of a part that is worked over the view that the job's freeze showed, with every request for memory refused.
+fn finished_as_foreseen(
+    alloc: Global,
+    table: &mut Asking,
+    job: u64,
+    view: &View<ChosenKey, i64>,
+    query: &Asked,
+) -> Result<(Shown, Shown), Refusal>
+    requires { job_at table.old job ≡ Some (record { query = query.now; frozen = view.now }) }
+{
+    let part = worked(alloc, view, query)?;
+    let taken = take_all(alloc)?;
+    let both = closed_as_foreseen(table, job, view, query, part);
+    drop(taken);
+    let (foreseen, told) = both?;
+    Ok((plainly(foreseen), plainly(told)))
+}
+
+// A job with the query on the map of handle 1 is told this, as was foreseen.
+fn assert_told(
+    rt: &impl Abort,
+    alloc: Global,
+    table: &mut Asking,
+    query: Asked,
+    want: Shown,
+) -> Result<(), Fail> {
+    let query = Arc::new(alloc, query)?;
+    let (job, view) = freeze(table, 1, &query)?;
+    let (foreseen, told) = finished_as_foreseen(alloc, table, job, &view, &*query)?;
+    assert_is(rt, foreseen == told, true);
+    assert_is(rt, told, want);
+    Ok(())
+}
+
+#[test]
+fn each_finish_is_foreseen(rt: HostRuntime) -> Result<(), Fail> {
+    let alloc = rt.alloc();
+    let mut table = with_handle(alloc)?;
+    let map = &mut table;
+    put(alloc, map, 1, 97, 4)?;
+    put(alloc, map, 1, 98, 5)?;
+
+    let query = Asked::Count(passing(Within(4, 4)));
+    assert_told(&rt, alloc, map, query, Shown::Count(1))?;
+    let query = Asked::Exists(passing(Within(4, 4)));
+    assert_told(&rt, alloc, map, query, Shown::Truth(true))?;
+    let query = Asked::ForAll(passing(Within(4, 4)));
+    assert_told(&rt, alloc, map, query, Shown::Truth(false))?;
+    let query = Asked::Find(passing(Within(5, 5)));
+    assert_told(&rt, alloc, map, query, Shown::Found(Some((98, 5))))?;
+    let query = Asked::Filter(passing(Within(4, 4)), 2);
+    assert_told(&rt, alloc, map, query, Shown::Made(1))?;
+    let query = Asked::MapValues(changing(NewValue(7)), 3);
+    assert_told(&rt, alloc, map, query, Shown::Made(2))?;
+    let query = Asked::Fold(Both(Sum, Both(Least, Greatest)), each_value());
+    assert_told(&rt, alloc, map, query, Shown::Item((9, (Some(4), Some(5)))))
+}
+
+// Why a table with no jobs would refuse to finish one.
+fn foreseen_of_no_job(alloc: Global) -> Result<Option<Refusal>, Refusal> {
+    let table = Asking::new(alloc, LARGEST)?;
+    Ok(table.foresee_finish(0, &Part::Number(0)).err())
+}
+
+#[test]
+fn a_finish_of_no_job_is_foreseen(rt: HostRuntime) -> Result<(), Fail> {
+    assert_is(&rt, foreseen_of_no_job(rt.alloc())?, Some(Refusal::NoJob));
     Ok(())
 }
