@@ -23,6 +23,3 @@ pub use part::{Pair, Part};
 pub use query::Query;
 pub use stored::{Stored, StoredItem, StoredMap, StoredTest};
 pub use walking::work;
-
-#[cfg(test)]
-mod tests;

@@ -1,7 +1,7 @@
 //! Operations whose requests for memory are refused: the first, then the second, and so on.
 
 use super::{Asked, at, at_three, below, chosen, first, instead, plainly, values};
-use crate::{Part, work};
+use bulk_ops::{Part, work};
 use combiner::{Both, Bulk, Greatest, Least, Sum, merge};
 use splitter::{Piece, whole};
 use std::alloc::{AllocError, Global};

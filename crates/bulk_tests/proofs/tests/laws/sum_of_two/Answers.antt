@@ -1,6 +1,6 @@
 use Rattle.std.specs.Prelude.{ℕ, ℤ, [], ◌∷◌}
 use Rattle.std.proofs.lemmas.List.Sorted.{IsPermutation-to_front}
-use Rattle.bulk_ops.proofs.tests.laws.sum_of_two.Goals as goal
+use Rattle.bulk_tests.proofs.tests.laws.sum_of_two.Goals as goal
 
 -- the last pair first is a listing of the map
 pub returns-clause-map : goal.returns-clause-map

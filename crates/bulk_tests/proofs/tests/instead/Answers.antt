@@ -1,5 +1,5 @@
 use Rattle.std.proofs.Common.{pos}
-use Rattle.bulk_ops.proofs.tests.instead.Goals as goal
+use Rattle.bulk_tests.proofs.tests.instead.Goals as goal
 
 pub new-requires : goal.new-requires
 new-requires c = ((λ k v. pos c.args.value), λ k v r is. is)

@@ -2,8 +2,9 @@
 
 mod laws;
 mod memory;
+mod stopping;
 
-use crate::{
+use bulk_ops::{
     Answer, Pair, PairFn, Part, Query, Stored, StoredItem, StoredMap, StoredTest, ask, work,
 };
 use combiner::{Both, Bulk, Greatest, Least, Sum};

@@ -4,7 +4,7 @@ ghost use Rattle.bulk_ops.specs.Answers.{items_of};
 ghost use Rattle.combiner.specs.Monoids.{folded};
 ghost use Rattle.combiner.specs.Numbers.{wrapped_sum};
 
-use crate::law_of_folds;
+use bulk_ops::law_of_folds;
 use combiner::{Monoid, Sum};
 use std::test::Fail;
 

@@ -6,7 +6,7 @@ use Rattle.splitter.specs.Laws.{below, from}
 use Rattle.splitter.specs.Outcomes.{IsCut}
 use Rattle.splitter.specs.Portion.{Portion}
 use Rattle.splitter.specs.declared.outcome.Cut.TheVariants.{Two}
-use Rattle.bulk_ops.proofs.tests.joined.Goals as goal
+use Rattle.bulk_tests.proofs.tests.joined.Goals as goal
 
 at_most_one : (b : Bool) → cond b 1 0 ≤ 1
 at_most_one b = elim b as (λ b. cond b 1 0 ≤ 1) [ true ↦ omega arith | false ↦ omega arith ]
