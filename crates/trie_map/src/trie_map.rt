@@ -1,7 +1,7 @@
 //! The map that threads share.
-ghost use Rattle.std.specs.Prelude.{◌≡◌, ◌≤◌, All, IfOk, IfSome, None, length};
+ghost use Rattle.std.specs.Prelude.{◌≡◌, ◌≤◌, All, IfErr, IfOk, IfSome, None, false, length};
 ghost use Rattle.hash_path.specs.Digits.{fan_out};
-ghost use Rattle.trie_map.specs.Rules.{AllKeep};
+ghost use Rattle.trie_map.specs.Rules.{AllKeep, IsPutRefusal};
 ghost use Rattle.trie_map.specs.Stripes.{digits_of, up_to};
 ghost use Rattle.versions.specs.declared.version.TheConstants.{MOST_PAIRS};
 
@@ -75,6 +75,7 @@ impl<K: PathKey + Drop, V: Drop, P: Keeps<K, V>> TrieMap<K, V, P> {
     pub fn put<R: Wait>(&self, rt: &R, key: K, value: V) -> Result<Option<Arc<V>>, Refusal>
         requires { P.holds key value }
         ensures kept { IfOk result (λ before. IfSome before (λ found. P.holds key found.value)) }
+        ensures refused { IfErr result IsPutRefusal }
     {
         let key = Arc::new(self.alloc, key)?;
         let value = Arc::new(self.alloc, value)?;
@@ -92,6 +93,7 @@ impl<K: PathKey + Drop, V: Drop, P: Keeps<K, V>> TrieMap<K, V, P> {
     ) -> Result<Option<Arc<V>>, Refusal>
         requires { P.holds key value }
         ensures kept { IfOk result (λ before. IfSome before (λ found. P.holds key found.value)) }
+        ensures refused { IfErr result IsPutRefusal }
     {
         let key = Arc::new(self.alloc, key)?;
         let value = Arc::new(self.alloc, value)?;
@@ -104,6 +106,7 @@ impl<K: PathKey + Drop, V: Drop, P: Keeps<K, V>> TrieMap<K, V, P> {
     pub fn replace<R: Wait>(&self, rt: &R, key: K, value: V) -> Result<Option<Arc<V>>, Refusal>
         requires { P.holds key value }
         ensures kept { IfOk result (λ before. IfSome before (λ found. P.holds key found.value)) }
+        ensures refused { IfErr result (λ e. e ≡ Refusal.NoMemory) }
     {
         let key = Arc::new(self.alloc, key)?;
         let value = Arc::new(self.alloc, value)?;
@@ -132,6 +135,7 @@ impl<K: PathKey + Drop, V: Drop, P: Keeps<K, V>> TrieMap<K, V, P> {
         requires callable { F.pre make }
         requires rule { (value : V) → F.post make value → P.holds key value }
         ensures kept { IfOk result (λ value. P.holds key value.value) }
+        ensures refused { IfErr result IsPutRefusal }
     {
         let made = match found_or_made(self.get(rt, &key)?, make) {
             Origin::Found(found) => return Ok(found),
@@ -148,6 +152,7 @@ impl<K: PathKey + Drop, V: Drop, P: Keeps<K, V>> TrieMap<K, V, P> {
     /// Puts each of the pairs, in order. Where one is refused, as `put` is, those before it are in the map.
     pub fn extend<R: Wait>(&self, rt: &R, pairs: Vec<(K, V)>) -> Result<(), Refusal>
         requires { All (λ pair. P.holds pair.0 pair.1) pairs.items }
+        ensures refused { IfErr result IsPutRefusal }
     {
         for (key, value) in pairs {
             self.put(rt, key, value)?;
@@ -207,6 +212,8 @@ impl<K: PathKey + Drop, V: Drop, P: Keeps<K, V>> TrieMap<K, V, P> {
     ) -> Result<Change<V>, Refusal>
         requires { P.holds key.value value.value }
         ensures kept { IfOk result (λ change. IfSome change.previous (λ found. P.holds key.value found.value)) }
+        ensures refused { IfErr result IsPutRefusal }
+        ensures present { C.holds condition.now None ≡ false → IfErr result (λ e. e ≡ Refusal.NoMemory) }
     {
         let mut stripe = self.row.stripe_of(rt, &key);
         stripe.put_where(self.alloc, key, value, condition)
@@ -228,6 +235,7 @@ impl<K: PathKey + Drop, V: Eq + Drop, P: Keeps<K, V>> TrieMap<K, V, P> {
     /// It is refused for want of memory alone.
     pub fn replace_if<R: Wait>(&self, rt: &R, key: K, old: &V, value: V) -> Result<bool, Refusal>
         requires { P.holds key value }
+        ensures refused { IfErr result (λ e. e ≡ Refusal.NoMemory) }
     {
         let key = Arc::new(self.alloc, key)?;
         let value = Arc::new(self.alloc, value)?;
