@@ -1,0 +1,6 @@
+pub mod Journals
+pub mod Answers
+pub mod Tokens
+pub mod Seats
+pub mod Kept
+pub mod Tickets
