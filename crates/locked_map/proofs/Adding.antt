@@ -1,0 +1,64 @@
+-- What a call adds to its seat.
+use Rattle.std.proofs.Common.{◌≡◌, ℕ, ◌+◌, Bool, true, List, [], ◌∷◌, ◌++◌, Option, sym, ap, ◌∙◌, ◌⊎◌, inl, inr, subst}
+use Rattle.std.proofs.lemmas.List.{map-append}
+use Rattle.bulk_ops.specs.Answers as plain
+use Rattle.versions.specs.declared.refusal.Refusal.{Refusal}
+use Rattle.versions.specs.declared.refusal.Refusal.TheVariants.{NoHandle, Taken, Full, NoJob, Unfinished, NoWorker, TooManyJobs, JournalFull, NoMemory, BadNumber}
+use Rattle.handles.specs.Machine.{Kind, State, Request, job_of, Outcome, made, replied, viewed, frozen, finished, unfinished, refused, worked}
+use Rattle.locked_map.specs.Answers.{IsUnfiled}
+use Rattle.locked_map.specs.Journals.{is_filed}
+use Rattle.locked_map.specs.Tokens.{entry_at}
+use Rattle.locked_map.specs.Seats.{Seated, Placed, placed, placed_all, with_entry, marked_by, marked_unknown, Adds}
+use Rattle.locked_map.specs.declared.filed.Filed.{Filed}
+
+module _ {K V Q B : Type 0} where
+  -- an entry that is filed is what a call adds
+  pub filed_adds : (s t : Seated K V Q B) (r : Request K V Q) (o : Outcome K V B) (place : ℕ) → is_filed o ≡ true → t ≡ with_entry s r o place → Adds s r o t
+  filed_adds s t r made place filed is = (place, is)
+  filed_adds s t r (replied y) place filed is = (place, is)
+  filed_adds s t r (viewed m) place filed is = (place, is)
+  filed_adds s t r (frozen j m) place filed is = (place, is)
+  filed_adds s t r (finished b) place filed is = (place, is)
+  filed_adds s t r unfinished place filed is = (place, is)
+  filed_adds s t r worked place filed is = (place, is)
+  filed_adds s t r (refused NoHandle) place filed is = (place, is)
+  filed_adds s t r (refused Taken) place filed is = (place, is)
+  filed_adds s t r (refused Full) place filed is = (place, is)
+  filed_adds s t r (refused NoJob) place filed is = cc
+  filed_adds s t r (refused Unfinished) place filed is = (place, is)
+  filed_adds s t r (refused NoWorker) place filed is = (place, is)
+  filed_adds s t r (refused TooManyJobs) place filed is = (place, is)
+  filed_adds s t r (refused JournalFull) place filed is = cc
+  filed_adds s t r (refused NoMemory) place filed is = cc
+  filed_adds s t r (refused BadNumber) place filed is = (place, is)
+
+  -- a refusal that is no entry marks the seat
+  pub unfiled_adds : {A : Type 0} (kind : Kind K V Q A B) (x : State K V Q) (s t : Seated K V Q B) (r : Request K V Q) (e : Refusal) (j : Option ℕ) → job_of r ≡ j → IsUnfiled kind x r e → t ≡ marked_by s e j → Adds s r (refused e) t
+  unfiled_adds kind x s t r NoHandle j job due is = absurd due
+  unfiled_adds kind x s t r Taken j job due is = absurd due
+  unfiled_adds kind x s t r Full j job due is = absurd due
+  unfiled_adds kind x s t r NoJob j job due is = is ∙ ap (marked_unknown s) (sym job)
+  unfiled_adds kind x s t r Unfinished j job due is = absurd due
+  unfiled_adds kind x s t r NoWorker j job due is = absurd due
+  unfiled_adds kind x s t r TooManyJobs j job due is = absurd due
+  unfiled_adds kind x s t r JournalFull j job due is = is
+  unfiled_adds kind x s t r NoMemory j job due is = is
+  unfiled_adds kind x s t r BadNumber j job due is = absurd due
+
+module _ {K V Q B : Type 0} where
+  -- the same of the end of a job, which is refused as NoJob or for want of memory
+  pub ended_adds : (s t : Seated K V Q B) (r : Request K V Q) (e : Refusal) (j : Option ℕ) → job_of r ≡ j → (e ≡ NoJob) ⊎ (e ≡ NoMemory) → t ≡ marked_by s e j → Adds s r (refused e) t
+  ended_adds s t r e j job (inl unknown) is = subst (λ x. t ≡ marked_by s x j → Adds s r (refused x) t) (sym unknown) (λ same. same ∙ ap (marked_unknown s) (sym job)) is
+  ended_adds s t r e j job (inr wanting) is = subst (λ x. t ≡ marked_by s x j → Adds s r (refused x) t) (sym wanting) (λ same. same) is
+
+module _ {K V Q I : Type 0} where
+  -- a seat with one entry more, as its parts show it
+  pub seat_with_entry : (n floor : ℕ) (full : Bool) (unknown : Option ℕ) (fs fs' : List (Filed K V Q I)) (f : Filed K V Q I) (r : Request K V Q) (o : Outcome K V (plain.Told K V I))
+      → fs' ≡ fs ++ f ∷ [] → f.floor ≡ floor → entry_at f.token ≡ record { seat = n; request = r; outcome = o }
+      → (let new : Seated K V Q (plain.Told K V I) = record { number = n; floor = f.place + 1; list = placed_all fs'; full = full; unknown = unknown } in
+      new ≡ with_entry (record { number = n; floor = floor; list = placed_all fs; full = full; unknown = unknown }) r o f.place)
+  seat_with_entry n floor full unknown fs fs' f r o is beside entry =
+      let seated : List (Placed K V Q (plain.Told K V I)) → Seated K V Q (plain.Told K V I) = λ l. record { number = n; floor = f.place + 1; list = l; full = full; unknown = unknown } in
+      ap seated (ap placed_all is ∙ map-append placed fs (f ∷ [])
+      ∙ ap (λ x. placed_all fs ++ record { place = f.place; floor = x; entry = entry_at f.token } ∷ []) beside
+      ∙ ap (λ e. placed_all fs ++ record { place = f.place; floor = floor; entry = e } ∷ []) entry)

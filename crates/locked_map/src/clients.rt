@@ -1,0 +1,274 @@
+//! Clients of one map, each on a thread of its own.
+ghost use Rattle.std.specs.Prelude.{◌≡◌, ℕ, ◌<◌, ◌≤◌, [], All, List, IfOk, map, slice_index_or, vec_len};
+ghost use Rattle.std.specs.Thread.{IsSync};
+ghost use Rattle.handles.specs.Views.{machine};
+ghost use Rattle.locked_map.specs.Journals.{Entered, IsLegal, own};
+ghost use Rattle.locked_map.specs.Seats.{AllFresh, fresh, pairs};
+
+use crate::closed::Closed;
+use crate::lending::MOST_SEATS;
+use crate::room::{Entries, Room};
+use crate::seat::Seat;
+use crate::shared_map::SharedMap;
+use bulk_ops::Asks;
+use handles::{Limits, MOST_ENTRIES};
+use hash_path::PathKey;
+use std::alloc::{AllocError, Global};
+use std::marker::Brand;
+use std::sync::Wait;
+use std::thread;
+use std::thread::Threads;
+use versions::{MOST_PAIRS, NoMemory};
+
+/// What one client does with a map, whichever map it is.
+///
+/// Clients of several kinds are the variants of one enum.
+pub trait Client<K: PathKey, V: Eq, Q: Asks<K, V>> {
+    ghost use Rattle.bulk_ops.specs.Answers as plain;
+
+    /// What it comes to.
+    type Out;
+
+    /// What it asks of its caller.
+    ghost needs: { Self → Type 0 };
+
+    /// What it tells its caller of its entries, each with its place in the journal, and of what it comes to.
+    ghost gives: { Self → List (ℕ × Entered K V Q (plain.Told K V Q.Item)) → Self.Out → Type 0 };
+
+    /// Makes its calls on its seat, which has filed nothing yet.
+    fn run<J: Room, R: Threads + Wait + Sync>(
+        self,
+        rt: &R,
+        alloc: Global,
+        map: &SharedMap<K, V, Q, J>,
+        seat: &mut Seat<K, V, Q, J>,
+    ) -> Self::Out
+        requires sync { IsSync R.row }
+        requires needs { needs self }
+        requires fresh { seat.old.list ≡ [] }
+        ensures gives { gives self (pairs seat.new.list) result };
+}
+
+/// Why there is no journal of the clients' calls.
+#[derive(Clone, Copy, Debug, PartialEq, Eq)]
+pub enum NoJournal {
+    /// A request for memory, or the clone of an `Arc`, was refused.
+    NoMemory,
+    /// A client's seat is not what the journal has of it.
+    Torn,
+}
+
+impl From<NoMemory> for NoJournal {
+    fn from(_: NoMemory) -> NoJournal {
+        NoJournal::NoMemory
+    }
+}
+
+impl From<AllocError> for NoJournal {
+    fn from(_: AllocError) -> NoJournal {
+        NoJournal::NoMemory
+    }
+}
+
+/// Runs the clients over a new map, each on a thread of its own and with the seat of its number, and closes the map once
+/// all have ended. It gives what each came to, in their order, and the journal with the table that it leads to.
+///
+/// A client whose thread cannot be started is run by the caller's thread after the others.
+pub fn with_clients<K, V, Q, C, R>(
+    rt: &R,
+    alloc: Global,
+    limits: Limits,
+    clients: Vec<C>,
+) -> Result<(Vec<C::Out>, Closed<K, V, Q>), NoJournal>
+where
+    K: PathKey + Drop + Send + Sync,
+    V: Eq + Drop + Send + Sync,
+    Q: Asks<K, V> + Drop + Send + Sync,
+    Q::Item: Drop + Send + Sync,
+    Q::Part: Drop + Send + Sync,
+    C: Client<K, V, Q> + Drop + Send + Sync,
+    C::Out: Drop + Send,
+    R: Threads + Wait + Sync,
+    requires least_pairs { 1 ≤ limits.pairs }
+    requires most_pairs { limits.pairs ≤ MOST_PAIRS }
+    requires least_entries { 2 ≤ limits.entries }
+    requires most_entries { limits.entries ≤ MOST_ENTRIES }
+    requires seats { vec_len clients ≤ MOST_SEATS }
+    requires needs { All C.needs clients.items }
+    ensures legal { IfOk result (λ r. IsLegal (machine K.cmp V.eq Q.target_of Q.answered) r.1.table.limits r.1.journal r.1.table) }
+    ensures len { IfOk result (λ r. vec_len r.0 ≡ vec_len clients) }
+    ensures seats { IfOk result (λ r. All (λ e. e.seat < vec_len clients) r.1.journal) }
+    ensures each { IfOk result (λ r. (k : ℕ) (c : C) (o : C.Out) → k < vec_len clients → C.gives (slice_index_or clients.items k c) (own k 0 r.1.journal) (slice_index_or r.0.items k o)) }
+{
+    let entries = Entries::new(alloc)?;
+    run_in::<K, V, Q, Brand, C, R>(rt, alloc, entries, limits, clients)
+}
+
+// A client that has not begun, with its seat.
+#[derive(Drop)]
+struct Begun<K: PathKey, V, Q: Asks<K, V>, C, J: Room> {
+    client: C,
+    seat: Seat<K, V, Q, J>,
+}
+
+// What a client came to, with its seat.
+#[derive(Drop)]
+struct Ended<K: PathKey, V, Q: Asks<K, V>, O, J: Room> {
+    out: O,
+    seat: Seat<K, V, Q, J>,
+}
+
+// Runs the clients over the vector of this name.
+fn run_in<K, V, Q, J, C, R>(
+    rt: &R,
+    alloc: Global,
+    entries: Entries<K, V, Q, Q::Item>,
+    limits: Limits,
+    clients: Vec<C>,
+) -> Result<(Vec<C::Out>, Closed<K, V, Q>), NoJournal>
+where
+    K: PathKey + Drop + Send + Sync,
+    V: Eq + Drop + Send + Sync,
+    Q: Asks<K, V> + Drop + Send + Sync,
+    Q::Item: Drop + Send + Sync,
+    Q::Part: Drop + Send + Sync,
+    J: Room + Send + Sync,
+    C: Client<K, V, Q> + Drop + Send + Sync,
+    C::Out: Drop + Send,
+    R: Threads + Wait + Sync,
+    requires table { entries ≡ J.table }
+    requires least_pairs { 1 ≤ limits.pairs }
+    requires most_pairs { limits.pairs ≤ MOST_PAIRS }
+    requires least_entries { 2 ≤ limits.entries }
+    requires most_entries { limits.entries ≤ MOST_ENTRIES }
+    requires seats { vec_len clients ≤ MOST_SEATS }
+    requires needs { All C.needs clients.items }
+    ensures legal { IfOk result (λ r. IsLegal (machine K.cmp V.eq Q.target_of Q.answered) r.1.table.limits r.1.journal r.1.table) }
+    ensures len { IfOk result (λ r. vec_len r.0 ≡ vec_len clients) }
+    ensures seats { IfOk result (λ r. All (λ e. e.seat < vec_len clients) r.1.journal) }
+    ensures each { IfOk result (λ r. (k : ℕ) (c : C) (o : C.Out) → k < vec_len clients → C.gives (slice_index_or clients.items k c) (own k 0 r.1.journal) (slice_index_or r.0.items k o)) }
+{
+    let map = SharedMap::<K, V, Q, J>::new(alloc, entries, limits)?;
+    let jobs = seated::<K, V, Q, J, C>(alloc, clients)?;
+    let ended = run_all(rt, &map, jobs)?;
+    let (outs, seats) = parted(alloc, ended)?;
+    let Ok(closed) = map.close(seats) else {
+        return Err(NoJournal::Torn);
+    };
+    Ok((outs, closed))
+}
+
+// Each client with the seat of its number.
+fn seated<K, V, Q, J, C>(
+    alloc: Global,
+    clients: Vec<C>,
+) -> Result<Vec<Begun<K, V, Q, C, J>>, NoMemory>
+where
+    K: PathKey + Drop,
+    V: Drop,
+    Q: Asks<K, V> + Drop,
+    J: Room,
+    C: Drop,
+    requires { vec_len clients ≤ MOST_SEATS }
+    ensures clients { IfOk result (λ v. map (λ b. b.client) v.items ≡ clients.items) }
+    ensures seats { IfOk result (λ v. AllFresh (map (λ b. b.seat) v.items)) }
+{
+    let mut jobs = Vec::new(alloc);
+    let mut number = 0;
+    for client in clients {
+        jobs.push(with_seat(alloc, client, number))?;
+        number += 1;
+    }
+    Ok(jobs)
+}
+
+fn with_seat<K, V, Q, J, C>(alloc: Global, client: C, number: u32) -> Begun<K, V, Q, C, J>
+where
+    K: PathKey + Drop,
+    V: Drop,
+    Q: Asks<K, V> + Drop,
+    J: Room,
+    C: Drop,
+    ensures client { result.client ≡ client }
+    ensures seat { result.seat ≡ fresh number }
+{
+    Begun {
+        client,
+        seat: Seat::new(alloc, number),
+    }
+}
+
+// Each client by a thread of its own.
+fn run_all<K, V, Q, J, C, R>(
+    rt: &R,
+    map: &SharedMap<K, V, Q, J>,
+    jobs: Vec<Begun<K, V, Q, C, J>>,
+) -> Result<Vec<Ended<K, V, Q, C::Out, J>>, AllocError>
+where
+    K: PathKey + Drop + Send + Sync,
+    V: Eq + Drop + Send + Sync,
+    Q: Asks<K, V> + Drop + Send + Sync,
+    Q::Item: Drop + Send + Sync,
+    Q::Part: Drop + Send + Sync,
+    J: Room + Send + Sync,
+    C: Client<K, V, Q> + Drop + Send + Sync,
+    C::Out: Drop + Send,
+    R: Threads + Wait + Sync,
+    requires { All (λ b. C.needs b.client × (b.seat.list ≡ [])) jobs.items }
+    ensures len { IfOk result (λ v. vec_len v ≡ vec_len jobs) }
+    ensures each { IfOk result (λ v. (k : ℕ) (b : _) (e : _) → k < vec_len jobs → C.gives (slice_index_or jobs.items k b).client (pairs (slice_index_or v.items k e).seat.list) (slice_index_or v.items k e).out) }
+{
+    thread::map_vec(
+        rt,
+        jobs,
+        &|job: Begun<K, V, Q, C, J>| -> Ended<K, V, Q, C::Out, J>
+            requires { IsSync R.row × C.needs job.client × (job.seat.list ≡ []) }
+            ensures { C.gives job.client (pairs result.seat.list) result.out }
+        { run_one(rt, map, job) },
+    )
+}
+
+fn run_one<K, V, Q, J, C, R>(
+    rt: &R,
+    map: &SharedMap<K, V, Q, J>,
+    job: Begun<K, V, Q, C, J>,
+) -> Ended<K, V, Q, C::Out, J>
+where
+    K: PathKey + Drop,
+    V: Eq + Drop,
+    Q: Asks<K, V> + Drop,
+    J: Room,
+    C: Client<K, V, Q>,
+    R: Threads + Wait + Sync,
+    requires sync { IsSync R.row }
+    requires needs { C.needs job.client × (job.seat.list ≡ []) }
+    ensures { C.gives job.client (pairs result.seat.list) result.out }
+{
+    let Begun { client, mut seat } = job;
+    let out = client.run(rt, map.alloc, map, &mut seat);
+    Ended { out, seat }
+}
+
+// The results and the seats.
+fn parted<K, V, Q, J, O>(
+    alloc: Global,
+    ended: Vec<Ended<K, V, Q, O, J>>,
+) -> Result<(Vec<O>, Vec<Seat<K, V, Q, J>>), NoMemory>
+where
+    K: PathKey + Drop,
+    V: Drop,
+    Q: Asks<K, V> + Drop,
+    J: Room,
+    O: Drop,
+    ensures outs { IfOk result (λ r. r.0.items ≡ map (λ e. e.out) ended.items) }
+    ensures seats { IfOk result (λ r. r.1.items ≡ map (λ e. e.seat) ended.items) }
+{
+    let mut outs = Vec::new(alloc);
+    let mut seats = Vec::new(alloc);
+    for one in ended {
+        let Ended { out, seat } = one;
+        outs.push(out)?;
+        seats.push(seat)?;
+    }
+    Ok((outs, seats))
+}

@@ -1,0 +1,113 @@
+//! How an event is filed: what was foreseen, the entry's token, and what the event gives.
+ghost use Rattle.std.specs.Prelude.{◌≡◌, ◌<◌, Err, IfErr, IfOk, OnOk, Some, true, false, vec_capacity, vec_len};
+ghost use Rattle.std.specs.Arc.{arc_value};
+ghost use Rattle.boxcar.specs.Table.{Shows};
+ghost use Rattle.bulk_ops.specs.Answers as plain;
+ghost use Rattle.handles.specs.Machine.{Job, finish, finished, is_entry, job_at};
+ghost use Rattle.handles.specs.Views.{is_counted, lacks_memory};
+ghost use Rattle.locked_map.specs.Tokens.{entry_at};
+
+use crate::asked::Asked;
+use crate::entry::Entry;
+use crate::room::{Entries, Token};
+use crate::told::Told;
+use bulk_ops::Asks;
+use handles::Table;
+use hash_path::PathKey;
+use std::alloc::Global;
+use std::sync::{Arc, Wait};
+use versions::{NoMemory, Refusal};
+
+/// An event that was made and filed: the token of its entry, the entry's place in the journal, and what is answered.
+#[derive(Drop)]
+pub(crate) struct Event<K: PathKey, V, Q, I, A> {
+    pub(crate) token: Arc<Token<K, V, Q, I>>,
+    pub(crate) place: u64,
+    pub(crate) answer: A,
+}
+
+/// The answer that was foreseen, where it makes an entry.
+pub(crate) fn to_be_filed<T: Drop>(
+    foreseen: Result<T, Refusal>,
+) -> Result<Result<T, Refusal>, Refusal>
+    ensures ok { IfOk result (λ answer. (answer ≡ foreseen) × (is_counted answer ≡ true)) }
+    ensures err { IfErr result (λ refusal. (foreseen ≡ Err refusal) × (is_entry refusal ≡ false)) }
+{
+    match foreseen {
+        Ok(value) => Ok(Ok(value)),
+        Err(refusal) => {
+            if is_entry(refusal) {
+                Ok(Err(refusal))
+            } else {
+                Err(refusal)
+            }
+        }
+    }
+}
+
+// Whether a refusal is an entry of the journal.
+fn is_entry(refusal: Refusal) -> bool
+    ensures { result ≡ is_entry refusal }
+{
+    !matches!(
+        refusal,
+        Refusal::NoJob | Refusal::Unfinished | Refusal::JournalFull | Refusal::NoMemory
+    )
+}
+
+/// Whether memory was wanting.
+pub(crate) fn lacks_memory<T>(answer: &Result<T, Refusal>) -> bool
+    ensures { result ≡ lacks_memory answer.now }
+{
+    matches!(answer, Err(Refusal::NoMemory))
+}
+
+/// Places the entry in the vector, and gives its token twice.
+pub(crate) fn placed<K: PathKey + Drop, V: Drop, Q: Drop, I: Drop, R: Wait>(
+    rt: &R,
+    alloc: Global,
+    entries: &Entries<K, V, Q, I>,
+    entry: Entry<K, V, Q, I>,
+) -> Result<(Arc<Token<K, V, Q, I>>, Arc<Token<K, V, Q, I>>), NoMemory>
+    ensures shown { IfOk result (λ r. Shows entries.now (arc_value r.0)) }
+    ensures entry { IfOk result (λ r. entry_at r.0 ≡ entry) }
+    ensures same { IfOk result (λ r. arc_value r.1 ≡ arc_value r.0) }
+{
+    let Ok(token) = entries.push_shown(rt, entry) else {
+        return Err(NoMemory);
+    };
+    let Ok(token) = Arc::new(alloc, token) else {
+        return Err(NoMemory);
+    };
+    let Ok(again) = Arc::try_clone(&token) else {
+        return Err(NoMemory);
+    };
+    Ok((token, again))
+}
+
+/// Places the entry of a finish by the part, and gives its token twice, with room for one in the journal.
+pub(crate) fn placed_finish<K: PathKey + Drop, V: Eq + Drop, Q: Asks<K, V> + Drop, R: Wait>(
+    rt: &R,
+    alloc: Global,
+    entries: &Entries<K, V, Q, Q::Item>,
+    table: &Table<K, V, Q>,
+    journal: &mut Vec<Arc<Token<K, V, Q, Q::Item>>>,
+    seat: u32,
+    job: u64,
+    part: &Q::Part,
+) -> Result<(Arc<Token<K, V, Q, Q::Item>>, Arc<Token<K, V, Q, Q::Item>>), NoMemory>
+    requires { (asking : Job K V Q) → job_at table.now job ≡ Some asking → Q.answers asking.query asking.frozen part.now }
+    ensures spare { OnOk result (vec_len journal.new < vec_capacity journal.new) }
+    ensures items { journal.new.items ≡ journal.old.items }
+    ensures shown { IfOk result (λ r. Shows entries.now (arc_value r.0)) }
+    ensures entry { IfOk result (λ r. entry_at r.0 ≡ record { seat = seat; request = finish job; outcome = finished (plain.told (Q.answer_of part.now)) }) }
+    ensures same { IfOk result (λ r. arc_value r.1 ≡ arc_value r.0) }
+{
+    // the job is open: only memory may be wanting
+    let Ok(answer) = table.foresee_finish(job, part) else {
+        return Err(NoMemory);
+    };
+    journal.reserve(1)?;
+    let entry = Entry::new(seat, Asked::Finish(job), Told::Answer(answer));
+    placed(rt, alloc, entries, entry)
+}

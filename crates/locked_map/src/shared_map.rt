@@ -1,0 +1,298 @@
+//! The map that seats share.
+ghost use Rattle.std.specs.Prelude.{◌≡◌, ◌<◌, ◌≤◌, ℕ, All, IfErr, IfOk, None, Some, slice_index_or, true, vec_len};
+ghost use Rattle.bulk_ops.specs.Answers as plain;
+ghost use Rattle.bulk_ops.specs.Told.{told_of};
+ghost use Rattle.handles.specs.Machine.{abandon, finish, freeze, job_at, room, view};
+ghost use Rattle.handles.specs.Views.{call_outcome, finished_outcome, machine, request_of, unit_outcome, view_outcome};
+ghost use Rattle.locked_map.specs.Answers.{answered, answered_or};
+ghost use Rattle.locked_map.specs.Getting.{MayBeTold};
+ghost use Rattle.locked_map.specs.Journals.{IsLegal, own};
+ghost use Rattle.locked_map.specs.Seats.{AboveFloors, Adds, pairs};
+ghost use Rattle.locked_map.specs.Tickets.{ticket_outcome};
+
+mod get_or_else;
+
+use crate::closed::{Closed, Torn};
+use crate::closing::{are_borne_out, are_of_seats};
+use crate::filed::file;
+use crate::filing::Event;
+use crate::journal::Journal;
+use crate::locked::Locked;
+use crate::room::{Entries, Room};
+use crate::seat::Seat;
+use crate::ticket::Ticket;
+use bulk_ops::{Answer, Asks};
+use handles::{Call, CallReply, Limits, MOST_ENTRIES};
+use hash_path::PathKey;
+use std::alloc::Global;
+use std::marker::PhantomData;
+use std::sync::{Arc, Mutex, Wait};
+use versions::{MOST_PAIRS, NoMemory, Refusal, View};
+
+/// A table of maps under one lock, with its journal, that seats share by reference.
+///
+/// Each call takes a seat. It waits for the lock, makes one step of the machine and one entry of the journal, and adds
+/// that entry to the seat's list. A call that is refused as `JournalFull`, `NoJob` or `NoMemory` makes no entry.
+#[derive(Drop)]
+pub struct SharedMap<K: PathKey, V: Eq, Q: Asks<K, V>, J: Room> {
+    pub(crate) alloc: Global,
+    entries: Entries<K, V, Q, Q::Item>,
+    locked: Mutex<Locked<K, V, Q, J>>,
+    pub ghost named: { entries ≡ J.table },
+}
+
+impl<K: PathKey + Drop, V: Eq + Drop, Q: Asks<K, V> + Drop, J: Room> SharedMap<K, V, Q, J> {
+    /// A map with no handles, over the vector that the name is of.
+    pub(crate) fn new(
+        alloc: Global,
+        entries: Entries<K, V, Q, Q::Item>,
+        limits: Limits,
+    ) -> Result<SharedMap<K, V, Q, J>, NoMemory>
+        requires table { entries ≡ J.table }
+        requires least_pairs { 1 ≤ limits.pairs }
+        requires most_pairs { limits.pairs ≤ MOST_PAIRS }
+        requires least_entries { 2 ≤ limits.entries }
+        requires most_entries { limits.entries ≤ MOST_ENTRIES }
+    {
+        Ok(SharedMap {
+            alloc,
+            entries,
+            locked: Mutex::new(Locked::new(alloc, limits)?),
+        })
+    }
+
+    /// Makes the call.
+    pub fn call<R: Wait>(
+        &self,
+        rt: &R,
+        seat: &mut Seat<K, V, Q, J>,
+        call: Call<K, V>,
+    ) -> Result<CallReply<V>, Refusal>
+        ensures adds { Adds seat.old (request_of call) (answered call_outcome result) seat.new }
+        ensures told { IfOk result (λ reply. MayBeTold (machine K.cmp V.eq Q.target_of Q.answered) (request_of call) (call_outcome reply)) }
+    {
+        seat.list.reserve(1)?;
+        let number = seat.number;
+        let made = self
+            .locked
+            .lock(rt)
+            .call(rt, self.alloc, &self.entries, number, call);
+        match made {
+            Ok(
+                Event {
+                    token,
+                    place,
+                    answer,
+                },
+            ) => {
+                file(&mut seat.list, &mut seat.floor, token, place);
+                answer
+            }
+            Err(refusal) => {
+                seat.mark(refusal, None);
+                Err(refusal)
+            }
+        }
+    }
+
+    /// Shows the map of the handle, which no later call changes. The view is read with no lock.
+    pub fn view<R: Wait>(
+        &self,
+        rt: &R,
+        seat: &mut Seat<K, V, Q, J>,
+        handle: u32,
+    ) -> Result<View<K, V>, Refusal>
+        ensures { Adds seat.old (view handle) (answered view_outcome result) seat.new }
+    {
+        seat.list.reserve(1)?;
+        let number = seat.number;
+        let made = self
+            .locked
+            .lock(rt)
+            .view(rt, self.alloc, &self.entries, number, handle);
+        match made {
+            Ok(
+                Event {
+                    token,
+                    place,
+                    answer,
+                },
+            ) => {
+                file(&mut seat.list, &mut seat.floor, token, place);
+                answer
+            }
+            Err(refusal) => {
+                seat.mark(refusal, None);
+                Err(refusal)
+            }
+        }
+    }
+
+    /// Opens a job with the query on the handle's map as it stands now. The ticket has that map.
+    pub fn freeze<R: Wait>(
+        &self,
+        rt: &R,
+        seat: &mut Seat<K, V, Q, J>,
+        handle: u32,
+        query: Arc<Q>,
+    ) -> Result<Ticket<K, V, Q, J>, Refusal>
+        ensures adds { Adds seat.old (freeze handle query.value) (answered ticket_outcome result) seat.new }
+        ensures query { IfOk result (λ ticket. ticket.query ≡ query.value) }
+    {
+        seat.list.reserve(1)?;
+        let kept = Arc::try_clone(&query)?;
+        let number = seat.number;
+        let made = self
+            .locked
+            .lock(rt)
+            .freeze(rt, self.alloc, &self.entries, number, handle, query);
+        match made {
+            Ok((
+                Event {
+                    token,
+                    place,
+                    answer,
+                },
+                opener,
+            )) => {
+                file(&mut seat.list, &mut seat.floor, token, place);
+                match answer {
+                    Ok((job, view)) => Ok(Ticket {
+                        job,
+                        query: kept,
+                        view,
+                        token: opener,
+                        room: PhantomData,
+                    }),
+                    Err(refusal) => Err(refusal),
+                }
+            }
+            Err(refusal) => {
+                seat.mark(refusal, None);
+                Err(refusal)
+            }
+        }
+    }
+
+    /// Closes the ticket's job without an answer. Its target, if it has one, stays not live.
+    ///
+    /// It is refused as `NoJob`, where the job is closed already, and as `NoMemory`. The ticket is handed back then.
+    pub fn abandon<R: Wait>(
+        &self,
+        rt: &R,
+        seat: &mut Seat<K, V, Q, J>,
+        ticket: Ticket<K, V, Q, J>,
+    ) -> Result<(), (Refusal, Ticket<K, V, Q, J>)>
+        ensures adds { Adds seat.old (abandon ticket.job) (answered_or unit_outcome (λ e. e.0) result) seat.new }
+        ensures ticket { IfErr result (λ e. e.1 ≡ ticket) }
+    {
+        if seat.list.reserve(1).is_err() {
+            return Err((Refusal::NoMemory, ticket));
+        }
+        let number = seat.number;
+        let made = self.locked.lock(rt).abandon(
+            rt,
+            self.alloc,
+            &self.entries,
+            number,
+            ticket.job,
+            &ticket.token,
+        );
+        match made {
+            Ok(
+                Event {
+                    token,
+                    place,
+                    answer: _,
+                },
+            ) => {
+                file(&mut seat.list, &mut seat.floor, token, place);
+                Ok(())
+            }
+            Err(refusal) => {
+                seat.mark(refusal, Some(ticket.job));
+                Err((refusal, ticket))
+            }
+        }
+    }
+
+    /// Closes the ticket's job by the part's answer, and opens its target, if it has one, with the map that the part made.
+    /// The part has to answer the ticket's query for its view.
+    ///
+    /// It is refused as `NoJob`, where the job is closed already, and as `NoMemory`. The ticket and the part are handed back
+    /// then.
+    pub fn finish<R: Wait>(
+        &self,
+        rt: &R,
+        seat: &mut Seat<K, V, Q, J>,
+        ticket: Ticket<K, V, Q, J>,
+        part: Q::Part,
+    ) -> Result<Answer<K, V, Q::Item>, (Refusal, Ticket<K, V, Q, J>, Q::Part)>
+        requires { Q.answers ticket.query ticket.frozen part }
+        ensures adds { Adds seat.old (finish ticket.job) (answered_or finished_outcome (λ e. e.0) result) seat.new }
+        ensures told { IfOk result (λ answer. told_of answer ≡ plain.told (Q.answer_of part)) }
+        ensures ticket { IfErr result (λ e. e.1 ≡ ticket) }
+        ensures part { IfErr result (λ e. e.2 ≡ part) }
+    {
+        if seat.list.reserve(1).is_err() {
+            return Err((Refusal::NoMemory, ticket, part));
+        }
+        let number = seat.number;
+        let made = self.locked.lock(rt).finish(
+            rt,
+            self.alloc,
+            &self.entries,
+            number,
+            ticket.job,
+            &ticket.token,
+            part,
+        );
+        match made {
+            Ok(
+                Event {
+                    token,
+                    place,
+                    answer,
+                },
+            ) => {
+                file(&mut seat.list, &mut seat.floor, token, place);
+                Ok(answer)
+            }
+            Err((refusal, part)) => {
+                seat.mark(refusal, Some(ticket.job));
+                Err((refusal, ticket, part))
+            }
+        }
+    }
+
+    /// Ends the map, where each seat's list is what the journal has of the seat, and its marks hold. It takes no memory.
+    ///
+    /// It is `Torn` where the seats are not all those of the map, in the order of their numbers, or where an entry of a
+    /// seat is not the journal's at its place, or stands below the floor beside it, or where a seat was answered
+    /// `JournalFull` and the journal has room, or `NoJob` and the job is open.
+    pub fn close(self, seats: Vec<Seat<K, V, Q, J>>) -> Result<Closed<K, V, Q>, Torn>
+        ensures legal { IfOk result (λ c. IsLegal (machine K.cmp V.eq Q.target_of Q.answered) c.table.limits c.journal c.table) }
+        ensures seats { IfOk result (λ c. All (λ e. e.seat < vec_len seats) c.journal) }
+        ensures own { IfOk result (λ c. (k : ℕ) (s : _) → k < vec_len seats → own k 0 c.journal ≡ pairs (slice_index_or seats.items k s).list) }
+        ensures floors { IfOk result (λ _. (k : ℕ) (s : _) → k < vec_len seats → AboveFloors (slice_index_or seats.items k s).list) }
+        ensures full { IfOk result (λ c. (k : ℕ) (s : _) → k < vec_len seats → (slice_index_or seats.items k s).full ≡ true → room c.table < 2) }
+        ensures unknown { IfOk result (λ c. (k : ℕ) (s : _) → k < vec_len seats → (j : ℕ) → (slice_index_or seats.items k s).unknown ≡ Some j → job_at c.table j ≡ None) }
+    {
+        let SharedMap {
+            alloc: _,
+            entries,
+            locked,
+        } = self;
+        let (table, tokens) = locked.into_inner().into_parts();
+        if !are_borne_out(&entries, &tokens, &table, &seats) {
+            return Err(Torn);
+        }
+        if !are_of_seats(&entries, &tokens, seats.len()) {
+            return Err(Torn);
+        }
+        Ok(Closed {
+            table,
+            journal: Journal { entries, tokens },
+        })
+    }
+}
