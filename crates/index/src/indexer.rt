@@ -1,6 +1,5 @@
 //! The clients of an index of words.
-ghost use Rattle.std.specs.Prelude.{◌≡◌, [], ⊤};
-ghost use Rattle.std.specs.Thread.{IsSync};
+ghost use Rattle.std.specs.Prelude.{◌≡◌, IfOk, ⊤};
 
 use handles::{Call, CallReply, Command, NoQuery, Reply};
 use keys::ByteText;
@@ -12,6 +11,11 @@ use versions::Refusal;
 
 /// The handle of the index. Its keys are words, and the value of a word is the number of the document that brought it.
 pub const INDEX: u32 = 1;
+
+/// The table, whichever it is, and the seat of a client.
+type Index<J> = SharedMap<ByteText, u64, NoQuery, J>;
+
+type Desk<J> = Seat<ByteText, u64, NoQuery, J>;
 
 /// A client of the index.
 #[derive(Drop)]
@@ -36,31 +40,48 @@ impl Client<ByteText, u64, NoQuery> for Indexer {
         self,
         rt: &R,
         alloc: Global,
-        map: &SharedMap<ByteText, u64, NoQuery, J>,
-        seat: &mut Seat<ByteText, u64, NoQuery, J>,
-    ) -> Result<u64, Refusal>
-        requires sync { IsSync R.row }
-        requires needs { ⊤ }
-        requires fresh { seat.old.list ≡ [] }
-        ensures gives { ⊤ }
-    {
-        // Any client may be the first. The others are told that the handle is taken, and go on.
-        match map.call(rt, seat, Call::Open(INDEX)) {
-            Ok(_) | Err(Refusal::Taken) => (),
-            Err(refusal) => return Err(refusal),
+        map: &Index<J>,
+        seat: &mut Desk<J>,
+    ) -> Result<u64, Refusal> {
+        match self {
+            Indexer::Writes { document, words } => write(rt, alloc, map, seat, document, words),
+            Indexer::Counts => count(rt, map, seat),
         }
-        let Indexer::Writes { document, words } = self else {
-            // The view is read with no lock, while the others write.
-            return Ok(map.view(rt, seat, INDEX)?.len());
-        };
-        let mut added = 0u64;
-        for word in words {
-            let put = Command::PutIfAbsent(word, Arc::new(alloc, document)?);
-            let told = map.call(rt, seat, Call::On(INDEX, put))?;
-            if let CallReply::Reply(Reply::Old(None)) = told {
-                added = added.wrapping_add(1);
-            }
-        }
-        Ok(added)
     }
+}
+
+// Opens the handle. Any client may be the first; the others are told that it is taken, and go on.
+fn open<J: Room, R: Wait>(rt: &R, map: &Index<J>, seat: &mut Desk<J>) -> Result<(), Refusal> {
+    match map.call(rt, seat, Call::Open(INDEX)) {
+        Ok(_) | Err(Refusal::Taken) => Ok(()),
+        Err(refusal) => Err(refusal),
+    }
+}
+
+// Puts the words that are not there yet: how many there were.
+fn write<J: Room, R: Wait>(
+    rt: &R,
+    alloc: Global,
+    map: &Index<J>,
+    seat: &mut Desk<J>,
+    document: u64,
+    words: Vec<Arc<ByteText>>,
+) -> Result<u64, Refusal> {
+    open(rt, map, seat)?;
+    let mut added = 0u64;
+    for word in words {
+        let put = Command::PutIfAbsent(word, Arc::new(alloc, document)?);
+        let told = map.call(rt, seat, Call::On(INDEX, put))?;
+        if let CallReply::Reply(Reply::Old(None)) = told {
+            added = added.wrapping_add(1);
+        }
+    }
+    Ok(added)
+}
+
+// How many words there are. The view is read with no lock, while the others write.
+fn count<J: Room, R: Wait>(rt: &R, map: &Index<J>, seat: &mut Desk<J>) -> Result<u64, Refusal> {
+    open(rt, map, seat)?;
+    let view = map.view(rt, seat, INDEX)?;
+    Ok(view.len())
 }

@@ -147,14 +147,16 @@ impl<K: PathKey + Drop, V: Eq + Drop, Q: Asks<K, V> + Drop, J: Room> SharedMap<K
             .lock(rt)
             .freeze(rt, self.alloc, &self.entries, number, handle, query);
         match made {
-            Ok((
-                Event {
-                    token,
-                    place,
-                    answer,
-                },
-                opener,
-            )) => {
+            Ok(
+                (
+                    Event {
+                        token,
+                        place,
+                        answer,
+                    },
+                    opener,
+                ),
+            ) => {
                 file(&mut seat.list, &mut seat.floor, token, place);
                 match answer {
                     Ok((job, view)) => Ok(Ticket {
