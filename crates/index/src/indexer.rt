@@ -1,5 +1,5 @@
 //! The clients of an index of words.
-ghost use Rattle.std.specs.Prelude.{◌≡◌, IfOk, ⊤};
+ghost use Rattle.std.specs.Prelude.{⊤};
 
 use handles::{Call, CallReply, Command, NoQuery, Reply};
 use keys::ByteText;

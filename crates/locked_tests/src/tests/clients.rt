@@ -3,11 +3,12 @@ ghost use Rattle.std.specs.Prelude.{⊤};
 
 use super::entries::{assert_filed, entries_of};
 use super::making::make;
+use super::model::assert_replayed;
 use super::outcomes::Outcome;
 use super::questions::Query;
 use super::requests::{Do, Request, on, open, put};
 use super::{A, LARGEST, assert_is};
-use locked_map::{Client, Room, Seat, SharedMap, with_clients};
+use locked_map::{Client, MOST_SEATS, Room, Seat, SharedMap, with_clients};
 use std::alloc::Global;
 use std::process::Abort;
 use std::sync::Wait;
@@ -59,6 +60,7 @@ fn one_round<R: AllocGlobal + Abort + Threads + Wait + Sync>(rt: &R) -> Result<(
             second,
         })?;
     }
+    assert!(rt; clients.len() <= MOST_SEATS as usize);
     let (outs, closed) = with_clients(rt, alloc, LARGEST, clients)?;
     let mut outs = outs.into_iter();
     let one = outs.next().ok_or("what the first came to")??;
@@ -76,7 +78,8 @@ fn one_round<R: AllocGlobal + Abort + Threads + Wait + Sync>(rt: &R) -> Result<(
     let filed = [(open(1), one.0), (put_one, one.1)];
     assert_filed(rt, alloc, &entries, 0, &filed)?;
     let filed = [(open(1), two.0), (add_two, two.1)];
-    assert_filed(rt, alloc, &entries, 1, &filed)
+    assert_filed(rt, alloc, &entries, 1, &filed)?;
+    assert_replayed(rt, alloc, LARGEST, &closed, &entries)
 }
 
 #[test]

@@ -99,3 +99,14 @@ fn sixty_four_jobs_may_be_open(rt: HostRuntime) -> Result<(), Fail> {
     assert_is(&rt, closed.journal.len(), 69);
     Ok(())
 }
+
+#[test]
+fn a_map_may_have_sixty_four_seats(rt: HostRuntime) -> Result<(), Fail> {
+    let steps = [
+        Ask(63, open(1), Outcome::Unit),
+        Ask(62, put(A, 1), Outcome::Old(None)),
+        Ask(0, get(A), Outcome::Old(Some(1))),
+    ];
+    assert_steps(&rt, 64, LARGEST, &steps)?;
+    Ok(())
+}

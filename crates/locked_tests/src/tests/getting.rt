@@ -7,7 +7,7 @@ use super::outcomes::Outcome;
 use super::questions::Query;
 use super::requests::{Do, get, on, open, put};
 use super::{A, B, LARGEST, assert_is};
-use locked_map::{Client, Room, Seat, SharedMap, Use, with, with_clients};
+use locked_map::{Client, MOST_SEATS, Room, Seat, SharedMap, Use, with, with_clients};
 use std::alloc::Global;
 use std::process::Abort;
 use std::sync::Wait;
@@ -113,6 +113,7 @@ fn one_round<R: AllocGlobal + Abort + Threads + Wait + Sync>(rt: &R) -> Result<(
     for value in [1, 2] {
         clients.push(Getter { value })?;
     }
+    assert!(rt; clients.len() <= MOST_SEATS as usize);
     let (outs, closed) = with_clients(rt, rt.alloc(), LARGEST, clients)?;
     let mut outs = outs.into_iter();
     let (_, first) = outs.next().ok_or("what the first got")??;

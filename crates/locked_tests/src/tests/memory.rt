@@ -9,7 +9,8 @@ use super::requests::{
     Do, Plain, Request, call_of, drop_handle, get, on, open, put, shared_key, snapshot,
 };
 use super::{A, B, LARGEST, assert_is};
-use locked_map::{Room, Seat, SharedMap, Use, with};
+use bulk_ops::Asks;
+use locked_map::{Room, Seat, SharedMap, Ticket, Use, with};
 use std::alloc::{AllocError, Global};
 use std::process::Abort;
 use std::sync::{Arc, Wait};
@@ -108,7 +109,8 @@ impl Use<ChosenKey, u64, Query> for Wanting {
             }
             Tried::Ask(Request::Finish(job)) => {
                 let ticket = taken(&mut tickets, job).ok_or(Refusal::NoJob)?;
-                finish(rt, alloc, &map, seat, ticket)?
+                let part = worked(alloc, ticket.view(), ticket.query())?;
+                finish(rt, alloc, &map, seat, ticket, part)?
             }
             Tried::Ask(Request::Abandon(job)) => {
                 let ticket = taken(&mut tickets, job).ok_or(Refusal::NoJob)?;
@@ -183,15 +185,18 @@ fn freeze<J: Room, R: Wait>(
 }
 
 // The ticket and the part are handed back where memory was wanting, and used again.
-fn finish<J: Room, R: Wait>(
+fn finish<Q: Asks<ChosenKey, u64> + Drop, J: Room, R: Wait>(
     rt: &R,
     alloc: Global,
-    map: &TestMap<J>,
-    seat: &mut TestSeat<J>,
-    ticket: TestTicket<J>,
-) -> Result<u32, Refusal> {
-    let mut part = worked(alloc, ticket.view(), ticket.query())?;
+    map: &SharedMap<ChosenKey, u64, Q, J>,
+    seat: &mut Seat<ChosenKey, u64, Q, J>,
+    ticket: Ticket<ChosenKey, u64, Q, J>,
+    part: Q::Part,
+) -> Result<u32, Refusal>
+    requires { Q.answers ticket.query ticket.frozen part }
+{
     let mut ticket = ticket;
+    let mut part = part;
     let mut shortage = Shortage::new(alloc)?;
     for refused in 0..TRIES {
         match map.finish(rt, seat, ticket, part) {

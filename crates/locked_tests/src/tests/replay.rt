@@ -77,7 +77,7 @@ fn assert_noted(
             .ok_or("the notes of a seat")?;
         let note = of_seat.next().ok_or("the note of an entry")?;
         assert_eq!(rt; note.exchange, (entry.request, entry.outcome));
-        assert!(rt; latest <= note.ended, "{entry:?} comes too late");
+        assert!(rt; latest < note.ended, "{entry:?} comes too late");
         latest = latest.max(note.begun);
     }
     for mut notes in rest {

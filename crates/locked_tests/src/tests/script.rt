@@ -4,6 +4,7 @@ ghost use Rattle.std.specs.Prelude.{⊤};
 use super::assert_is;
 use super::entries::{Entered, TestClosed, entries_of};
 use super::making::{TestMap, TestSeat, TestTicket, make, taken};
+use super::model::assert_replayed;
 use super::outcomes::Outcome;
 use super::questions::Query;
 use super::requests::Request;
@@ -94,8 +95,9 @@ fn take_step<J: Room, R: Wait>(
             None => Ok(None),
         },
         Step::Meet => {
-            if let [one, two, ..] = seats.as_mut_slice() {
-                one.meet(two);
+            if seats.len() >= 2 {
+                let (one, two) = seats.split_at_mut(1);
+                one[0].meet(&mut two[0]);
             }
             Ok(None)
         }
@@ -146,7 +148,8 @@ pub fn played<R: AllocGlobal + Abort + Threads + Wait + Sync>(
     }
 }
 
-/// Each step that asks is told as it says, the map closes, and the journal has those of them that are entries, in order.
+/// Each step that asks is told as it says, the map closes, and the journal has those of them that are entries, in order. A
+/// plain program comes to the same table.
 pub fn assert_steps<R: AllocGlobal + Abort + Threads + Wait + Sync>(
     rt: &R,
     seats: u32,
@@ -169,6 +172,8 @@ pub fn assert_steps<R: AllocGlobal + Abort + Threads + Wait + Sync>(
         }
     }
     let closed = closed.ok_or("the map is closed")?;
-    assert_is(rt, entries_of(rt.alloc(), &closed)?, entries);
+    let filed = entries_of(rt.alloc(), &closed)?;
+    assert_replayed(rt, rt.alloc(), limits, &closed, &filed)?;
+    assert_is(rt, filed, entries);
     Ok(closed)
 }

@@ -7,7 +7,7 @@ use super::outcomes::Outcome;
 use super::questions::Query;
 use super::requests::{Do, get, on, open, put, shared_key};
 use super::{A, LARGEST, assert_is};
-use locked_map::{Client, Room, Seat, SharedMap, with_clients};
+use locked_map::{Client, MOST_SEATS, Room, Seat, SharedMap, with_clients};
 use std::alloc::{AllocError, Global};
 use std::sync::atomic::{AtomicBool, Ordering};
 use std::sync::{Arc, Wait};
@@ -106,7 +106,9 @@ fn two_clients(alloc: Global) -> Result<Vec<Meeter>, AllocError> {
 #[test]
 fn a_value_is_made_with_no_lock_held(rt: HostRuntime) -> Result<(), Fail> {
     let alloc = rt.alloc();
-    let (outs, closed) = with_clients(&rt, alloc, LARGEST, two_clients(alloc)?)?;
+    let clients = two_clients(alloc)?;
+    assert!(rt; clients.len() <= MOST_SEATS as usize);
+    let (outs, closed) = with_clients(&rt, alloc, LARGEST, clients)?;
     let mut outs = outs.into_iter();
     let getter = outs.next().ok_or("what the first came to")??;
     let putter = outs.next().ok_or("what the second came to")??;
