@@ -76,6 +76,13 @@ impl<K: PathKey + Drop, V: Eq + Drop, Q: Asks<K, V> + Drop> Table<K, V, Q> {
         })
     }
 
+    /// How much the table may hold. It takes no memory.
+    pub fn limits(&self) -> Limits
+        ensures { result ≡ self.now.limits }
+    {
+        self.limits
+    }
+
     /// How many entries were made. It takes no memory.
     pub fn entries(&self) -> u32
         ensures { result ≡ self.now.entries }

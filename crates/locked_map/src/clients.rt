@@ -54,7 +54,7 @@ pub trait Client<K: PathKey, V: Eq, Q: Asks<K, V>> {
 pub enum NoJournal {
     /// A request for memory, or the clone of an `Arc`, was refused.
     NoMemory,
-    /// A client's seat is not what the journal has of it.
+    /// A client's seat is not what the journal has of it, or the table has other limits.
     Torn,
 }
 
@@ -95,7 +95,7 @@ where
     requires most_entries { limits.entries ≤ MOST_ENTRIES }
     requires seats { vec_len clients ≤ MOST_SEATS }
     requires needs { All C.needs clients.items }
-    ensures legal { IfOk result (λ r. IsLegal (machine K.cmp V.eq Q.target_of Q.answered) r.1.table.limits r.1.journal r.1.table) }
+    ensures legal { IfOk result (λ r. IsLegal (machine K.cmp V.eq Q.target_of Q.answered) limits r.1.journal r.1.table) }
     ensures len { IfOk result (λ r. vec_len r.0 ≡ vec_len clients) }
     ensures seats { IfOk result (λ r. All (λ e. e.seat < vec_len clients) r.1.journal) }
     ensures each { IfOk result (λ r. (k : ℕ) (c : C) (o : C.Out) → k < vec_len clients → C.gives (slice_index_or clients.items k c) (own k 0 r.1.journal) (slice_index_or r.0.items k o)) }
@@ -143,7 +143,7 @@ where
     requires most_entries { limits.entries ≤ MOST_ENTRIES }
     requires seats { vec_len clients ≤ MOST_SEATS }
     requires needs { All C.needs clients.items }
-    ensures legal { IfOk result (λ r. IsLegal (machine K.cmp V.eq Q.target_of Q.answered) r.1.table.limits r.1.journal r.1.table) }
+    ensures legal { IfOk result (λ r. IsLegal (machine K.cmp V.eq Q.target_of Q.answered) limits r.1.journal r.1.table) }
     ensures len { IfOk result (λ r. vec_len r.0 ≡ vec_len clients) }
     ensures seats { IfOk result (λ r. All (λ e. e.seat < vec_len clients) r.1.journal) }
     ensures each { IfOk result (λ r. (k : ℕ) (c : C) (o : C.Out) → k < vec_len clients → C.gives (slice_index_or clients.items k c) (own k 0 r.1.journal) (slice_index_or r.0.items k o)) }
@@ -155,6 +155,10 @@ where
     let Ok(closed) = map.close(seats) else {
         return Err(NoJournal::Torn);
     };
+    // A lock's type tells nothing of the limits of what lies under it, so they are looked at here.
+    if closed.table.limits() != limits {
+        return Err(NoJournal::Torn);
+    }
     Ok((outs, closed))
 }
 

@@ -1,5 +1,7 @@
 use Rattle.std.proofs.Common.{rules, ◌≡◌, ◌<◌, length, vec_len, slice_index_or, ap, subst, sym, ◌∙◌}
 use Rattle.std.proofs.lemmas.List.{get_or-map, length-map}
+use Rattle.handles.specs.Views.{machine}
+use Rattle.locked_map.specs.Journals.{IsLegal}
 use Rattle.locked_map.specs.Seats.{pairs}
 use Rattle.locked_map.proofs.Seating.{moved, some_of}
 use Rattle.locked_map.proofs.clients.run_in.Goals as goal
@@ -49,3 +51,8 @@ returns-clause-seats g c k d h =
     let clients : length c.args.clients.items ≡ vec_len c.args.clients = search rules in
     let all : vec_len c.in_ok-outs.seats ≡ vec_len c.args.clients = seats ∙ back ∙ ends ∙ c.in_ok-ended.ensures.len ∙ begins ∙ begun ∙ clients in
     subst (λ n. (slice_index_or c.in-Ok.closed.journal k d).seat < n) all (c.in-Ok.ensures.seats k d h)
+
+pub returns-clause-legal : goal.returns-clause-legal
+returns-clause-legal g c =
+    let same : c.in-Ok.closed.table.limits ≡ c.args.limits = search rules in
+    subst (λ limits. IsLegal (machine g.K.Ord.cmp g.V.PartialEq.eq g.Q.Asks.target_of g.Q.Asks.answered) limits c.in-Ok.closed.journal c.in-Ok.closed.table) same c.in-Ok.ensures.legal
