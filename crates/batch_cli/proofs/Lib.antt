@@ -1,5 +1,10 @@
 pub mod Asked
 pub mod Ends
-pub mod RunLemmas
+pub mod Filing
+pub mod Lines
 pub mod CommandLineLemmas
 pub mod OneRun
+pub mod Merging
+pub mod Assembled
+pub mod RunOf
+pub mod OneClient

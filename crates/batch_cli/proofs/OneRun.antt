@@ -14,8 +14,8 @@ use Rattle.combiner.specs.Monoids.{folded}
 use Rattle.script.specs.Questions.{new_value, passes}
 use Rattle.batch_cli.specs.Folds.{Item, combined, item_of, item_of_none}
 use Rattle.batch_cli.specs.Queries.{ScriptQuestion, count, exists, for_all, find, filtered, mapped, fold, answers, target_of}
-use Rattle.batch_cli.specs.Events.{program, ProgramAnswer, ProgramTold, ProgramState, ProgramRequest, ProgramOutcome, Event, request_for, reply_to, reply_with, Ends, IsRun, MayAnswer}
-use Rattle.batch_cli.specs.Runs.{FindsNoPair, LineAnswer, EachMakes, events_of, is_find, text_for}
+use Rattle.batch_cli.specs.Events.{program, ProgramAnswer, ProgramTold, ProgramState, ProgramRequest, ProgramOutcome, Event, request_for, reply_to, reply_with, Ends, Makes, IsRun}
+use Rattle.batch_cli.specs.Runs.{FindsNoPair, LineAnswer, EachMakes, events_of, is_find, replies_in, text_for}
 use Rattle.script.specs.declared.statement.Statement.{Statement}
 use Rattle.script.specs.declared.statement.Statement.TheVariants.{Open, Find, GetOrElse}
 use Rattle.script.specs.declared.statement.CommandLine.{CommandLine}
@@ -289,6 +289,11 @@ one_end c o s t u events others a b opened ends too run ran =
           (cc, sym step.2 ∙ same.1 ∙ trod.2)
     ]
 
+-- the machine may answer the statement so, and is in the second state then
+abbrev MayAnswer : ProgramState → Statement → LineReply → ProgramState → Type 0
+MayAnswer s statement reply t = (events : List Event) × Makes statement events reply × IsRun s events t
+
+-- a statement has one answer in a state, and leaves one state
 one_answer : FreezesOpenJobs program → (c : Statement) (s t u : ProgramState) (a b : LineReply) → is_find c ≡ false → MayAnswer s c a t → MayAnswer s c b u → (a ≡ b) × (t ≡ u)
 one_answer law c s t u a b never (events, (o, later, are, ends), run) (others, (p, further, were, too), ran) =
     let step : IsRun s ((request_for c, o) ∷ later) t = rw are at run in
@@ -306,7 +311,7 @@ run_split s t [] fs run = (s, refl, run)
 run_split s t (e ∷ es) fs run = let more = run_split run.0 t es fs run.2 in (more.0, (run.0, run.1, more.1), more.2)
 
 -- runs from one state print one text
-pub one_text : FreezesOpenJobs program → (lines : List CommandLine) (xs ys : List LineAnswer) (s t u : ProgramState) → FindsNoPair lines → EachMakes lines xs → EachMakes lines ys → IsRun s (events_of xs) t → IsRun s (events_of ys) u → text_for lines xs ≡ text_for lines ys
+pub one_text : FreezesOpenJobs program → (lines : List CommandLine) (xs ys : List LineAnswer) (s t u : ProgramState) → FindsNoPair lines → EachMakes lines xs → EachMakes lines ys → IsRun s (events_of xs) t → IsRun s (events_of ys) u → text_for lines (replies_in xs) ≡ text_for lines (replies_in ys)
 one_text law [] xs ys s t u never ma mb run ran = refl
 one_text law (line ∷ lines) [] ys s t u never ma mb run ran = absurd ma
 one_text law (line ∷ lines) (a ∷ xs) [] s t u never ma mb run ran = absurd mb
@@ -315,5 +320,5 @@ one_text law (line ∷ lines) (a ∷ xs) (b ∷ ys) s t u never ma mb run ran =
     let there = run_split s u b.events (events_of ys) ran in
     let same = one_answer law line.statement s here.0 there.0 a.reply b.reply never.0 (a.events, ma.0, here.1) (b.events, mb.0, there.1) in
     let from : IsRun here.0 (events_of ys) u = (let P : ProgramState → Type 0 = λ x. IsRun x (events_of ys) u in subst P (sym same.1) there.2) in
-    let rest : text_for lines xs ≡ text_for lines ys = one_text law lines xs ys here.0 t u never.1 ma.1 mb.1 here.2 from in
-    ap (λ (r : LineReply). line_text line.number r ++ text_for lines xs) same.0 ∙ ap (λ (more : List ℕ). line_text line.number b.reply ++ more) rest
+    let rest : text_for lines (replies_in xs) ≡ text_for lines (replies_in ys) = one_text law lines xs ys here.0 t u never.1 ma.1 mb.1 here.2 from in
+    ap (λ (r : LineReply). line_text line.number r ++ text_for lines (replies_in xs)) same.0 ∙ ap (λ (more : List ℕ). line_text line.number b.reply ++ more) rest

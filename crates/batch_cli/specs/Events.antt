@@ -1,10 +1,10 @@
 -- What a statement asks of the machine of handles, and how it is answered.
-use Rattle.std.specs.Prelude.{◌≡◌, ℕ, ℤ, ◌⊎◌, List, [], ◌∷◌, Option, Some, None, map}
+use Rattle.std.specs.Prelude.{◌≡◌, ℕ, ℤ, List, [], ◌∷◌, Option, Some, None, map}
 use Rattle.std.specs.Ordering.{int_eq}
-use Rattle.versions.specs.Map.{Map}
+use Rattle.std.specs.Arc.{arc_value}
 use Rattle.versions.specs.Commands.{get, put, put_if_absent, replace, replace_if, remove, remove_if, size, clear, old, done, cleared}
 use Rattle.versions.specs.Commands as commands
-use Rattle.handles.specs.Machine.{Kind, State, Request, open_handle, snapshot, drop_handle, on, view, freeze, finish, Outcome, made, replied, viewed, frozen, finished, refused, Step, Run}
+use Rattle.handles.specs.Machine.{Kind, State, Request, open_handle, snapshot, drop_handle, on, view, freeze, finish, Outcome, made, replied, viewed, frozen, finished, refused, Run}
 use Rattle.handles.specs.Views.{machine, request_of}
 use Rattle.bulk_ops.specs.Answers as plain
 use Rattle.keys.specs.Order.{bytes_cmp}
@@ -69,11 +69,21 @@ request_for (Filter handle test target) = freeze handle (filtered test target)
 request_for (MapValues handle mapping target) = freeze handle (mapped mapping target)
 request_for (Fold handle folding) = freeze handle (fold folding)
 
--- the request that something asked of the table is
+-- the request that something asked of the map is, or the first of two
 abbrev pub asked : Ask → ProgramRequest
 asked (asks.Call call) = request_of call
 asked (asks.View handle) = view handle
 asked (asks.Job handle question) = freeze handle question
+asked (asks.GetOrElse handle key value) = on handle (get (arc_value key))
+
+-- the handle, the key and the value of a getorelse
+abbrev pub or_else_in : Statement → Option (ℕ × List ℕ × ℤ)
+or_else_in (GetOrElse handle key value) = Some (handle, key, value)
+or_else_in statement = None
+
+abbrev pub or_else_asked : Ask → Option (ℕ × List ℕ × ℤ)
+or_else_asked (asks.GetOrElse handle key value) = Some (handle, arc_value key, value)
+or_else_asked ask = None
 
 -- the reply that tells an answer
 abbrev pub told_reply : ProgramTold → LineReply
@@ -117,23 +127,3 @@ Makes statement events reply = (outcome : ProgramOutcome) × (later : List Event
 -- the events are a run of the machine from one state to the other
 abbrev pub IsRun : ProgramState → List Event → ProgramState → Type 0
 IsRun s events t = Run program s (map (λ e. e.0) events) (map (λ e. e.1) events) t
-
--- the machine may answer the statement so, and is in the second state then
-abbrev pub MayAnswer : ProgramState → Statement → LineReply → ProgramState → Type 0
-MayAnswer s statement reply t = (events : List Event) × Makes statement events reply × IsRun s events t
-
--- the same of one request
-abbrev pub MayReply : ProgramState → ProgramRequest → LineReply → ProgramState → Type 0
-MayReply s request reply t = (outcome : ProgramOutcome) × Step program s request outcome t × (reply_to outcome ≡ Some reply)
-
--- the same of a freeze that opens a job, and of the job's finish
-abbrev pub MayFinish : ProgramState → ProgramRequest → LineReply → ProgramState → Type 0
-MayFinish s request reply t = (job : ℕ) × (shown : Map (List ℕ) ℤ) × (between : ProgramState) × Step program s request (frozen job shown) between × MayReply between (finish job) reply t
-
--- the same of one request, and of the finish of a job that it opens
-abbrev pub MayServe : ProgramState → ProgramRequest → LineReply → ProgramState → Type 0
-MayServe s request reply t = MayReply s request reply t ⊎ MayFinish s request reply t
-
--- the same of a put_if_absent, where the line's own value stands in for one that was not found
-abbrev pub MayStore : ProgramState → ℕ → List ℕ → ℤ → LineReply → ProgramState → Type 0
-MayStore s handle key value reply t = (outcome : ProgramOutcome) × Step program s (on handle (put_if_absent key value)) outcome t × (reply_with value outcome ≡ Some reply)

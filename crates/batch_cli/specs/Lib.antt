@@ -1,4 +1,5 @@
 pub mod Events
+pub mod Filing
 pub mod Runs
 pub mod CommandLine
 pub mod Folds

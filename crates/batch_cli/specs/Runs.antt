@@ -1,11 +1,13 @@
--- What is written for a script.
-use Rattle.std.specs.Prelude.{◌≡◌, ℕ, Bool, true, false, List, [], ◌∷◌, ◌++◌, Option}
+-- What is written for a script, and the journal of its run.
+use Rattle.std.specs.Prelude.{◌≡◌, ◌<◌, ◌==◌, ℕ, ℤ, Bool, true, false, All, List, [], ◌∷◌, ◌++◌, Option, cond, filter, length, map, set, slice_index_or}
 use Rattle.std.specs.Io.KnownBytes.{Appends}
 use Rattle.std.specs.List.{flat_map}
-use Rattle.handles.specs.Machine.{nothing}
+use Rattle.handles.specs.declared.limits.Limits.{Limits}
+use Rattle.locked_map.specs.Journals.{Entered, IsLegal, own}
 use Rattle.script.specs.Replies.{line_text}
 use Rattle.script.specs.Scripts.{Spells}
-use Rattle.batch_cli.specs.Events.{ProgramState, Event, Makes, IsRun}
+use Rattle.batch_cli.specs.Events.{program, ProgramState, ProgramTold, Event, Makes}
+use Rattle.batch_cli.specs.Queries.{ScriptQuestion}
 use Rattle.script.specs.declared.statement.Statement.{Statement}
 use Rattle.script.specs.declared.statement.Statement.TheVariants.{Find}
 use Rattle.script.specs.declared.statement.CommandLine.{CommandLine}
@@ -26,25 +28,81 @@ EachMakes _ _ = ⊥
 abbrev pub events_of : List LineAnswer → List Event
 events_of answers = flat_map (λ a. a.events) answers
 
--- the replies of all lines, in order, each behind its line's number
-abbrev pub text_for : List CommandLine → List LineAnswer → List ℕ
-text_for (line ∷ lines) (answer ∷ answers) = line_text line.number answer.reply ++ text_for lines answers
+-- the replies of all lines, in order
+abbrev pub replies_in : List LineAnswer → List LineReply
+replies_in answers = map (λ a. a.reply) answers
+
+-- the replies, each behind its line's number
+abbrev pub text_for : List CommandLine → List LineReply → List ℕ
+text_for (line ∷ lines) (reply ∷ replies) = line_text line.number reply ++ text_for lines replies
 text_for _ _ = []
 
--- the text has the replies of these lines in a run of the machine from one state to the other
-pub record Answers (lines : List CommandLine) (text : List ℕ) (s t : ProgramState) : Type 0 where
+-- whether the line is the client's
+abbrev pub is_line_of : ℕ → CommandLine → Bool
+is_line_of client line = line.client == client
+
+-- the lines of the client, in order
+abbrev pub lines_by : ℕ → List CommandLine → List CommandLine
+lines_by client lines = filter (is_line_of client) lines
+
+-- of what stands beside lines, in order, that beside the lines of the client
+abbrev pub beside : {A : Type 0} → ℕ → List CommandLine → List A → List A
+beside client (line ∷ lines) (x ∷ xs) = cond (line.client == client) (x ∷ beside client lines xs) (beside client lines xs)
+beside client _ _ = []
+
+-- an entry of the journal of a program
+abbrev pub ProgramEntry : Type 0
+ProgramEntry = Entered (List ℕ) ℤ ScriptQuestion ProgramTold
+
+-- what entries asked and were told, each beside its place in the journal
+abbrev pub events_in : List (ℕ × ProgramEntry) → List Event
+events_in entries = map (λ x. (x.1.request, x.1.outcome)) entries
+
+-- the lines make these events and have these replies, one line after another
+pub record LinesMake (lines : List CommandLine) (events : List Event) (replies : List LineReply) : Type 0 where
   pub answers : List LineAnswer
   pub made : EachMakes lines answers
-  pub run : IsRun s (events_of answers) t
-  pub written : text ≡ text_for lines answers
+  pub events_are : events ≡ events_of answers
+  pub replies_are : replies ≡ replies_in answers
 
--- the state with no handles and no entries, under the largest limits
-abbrev pub start : ProgramState
-start = nothing (record { pairs = 16777216; entries = 1048576 })
+-- how much the maps and the journal of a script may hold
+abbrev pub largest : Limits
+largest = record { pairs = 16777216; entries = 1048576 }
 
--- the text has the replies of the script in some run of the machine from no handles
+-- a run of the script has this journal and this text: the journal is legal; each line makes the events of its answer, and has its reply;
+-- the entries of each seat are the events of the lines of its client, in their order, and so a seat without lines has none;
+-- and the text has the replies of all lines in the order of the lines
+pub record IsRunOf (script : List CommandLine) (journal : List ProgramEntry) (text : List ℕ) : Type 0 where
+  pub end : ProgramState
+  pub legal : IsLegal program largest journal end
+  pub answers : List LineAnswer
+  pub made : EachMakes script answers
+  pub each : (client : ℕ) → events_in (own client 0 journal) ≡ events_of (beside client script answers)
+  pub written : text ≡ text_for script (replies_in answers)
+
+-- the text may be written for the script
 abbrev pub IsOutputOf : List CommandLine → List ℕ → Type 0
-IsOutputOf script text = (end : ProgramState) × Answers script text start end
+IsOutputOf script text = (journal : List ProgramEntry) × IsRunOf script journal text
+
+-- there are as many replies for each of these clients as it has lines, and no line is another's
+pub record AreRepliesTo (lines : List CommandLine) (clients : List (List LineReply)) : Type 0 where
+  pub known : All (λ line. line.client < length clients) lines
+  pub counts : (client : ℕ) → client < length clients → length (slice_index_or clients client []) ≡ length (lines_by client lines)
+
+-- the text has a reply for each line, and those of each of these clients are its own, in order
+pub record AreMerged (lines : List CommandLine) (clients : List (List LineReply)) (text : List ℕ) : Type 0 where
+  pub replies : List LineReply
+  pub count : length replies ≡ length lines
+  pub each : (client : ℕ) → client < length clients → beside client lines replies ≡ slice_index_or clients client []
+  pub written : text ≡ text_for lines replies
+
+-- the first of what is left of the client's, and what is left then of each client's
+abbrev pub IsNext : List (List LineReply) → ℕ → LineReply → List (List LineReply) → Type 0
+IsNext old client reply new = (rest : List LineReply) × (slice_index_or old client [] ≡ reply ∷ rest) × (new ≡ set old client rest)
+
+-- all lines are one client's
+abbrev pub HasOneClient : List CommandLine → Type 0
+HasOneClient script = (client : ℕ) × All (λ line. line.client ≡ client) script
 
 -- whether the statement asks for some pair that passes, of which there may be several
 abbrev pub is_find : Statement → Bool
@@ -56,6 +114,6 @@ abbrev pub FindsNoPair : List CommandLine → Type 0
 FindsNoPair [] = Unit {0}
 FindsNoPair (line ∷ lines) = (is_find line.statement ≡ false) × FindsNoPair lines
 
--- the text spells a script, and a writer that held the old bytes has its output behind them
+-- the text spells a script, and a writer that held the old bytes has a text behind them that may be written for it
 abbrev pub RunsText : List ℕ → Option (List ℕ) → Option (List ℕ) → Type 0
 RunsText text old new = (script : List CommandLine) × Spells text script × (output : List ℕ) × IsOutputOf script output × Appends old new output

@@ -1,8 +1,8 @@
-//! What statements ask of the table.
+//! What statements ask of the map.
 
-ghost use Rattle.std.specs.Prelude.{◌≡◌, IfOk};
+ghost use Rattle.std.specs.Prelude.{◌≡◌, IfOk, None};
 ghost use Rattle.std.specs.Arc.{arc_value};
-ghost use Rattle.batch_cli.specs.Events.{asked, request_for};
+ghost use Rattle.batch_cli.specs.Events.{asked, or_else_asked, or_else_in, request_for};
 ghost use Rattle.handles.specs.Machine.{freeze, on};
 ghost use Rattle.handles.specs.Views.{command_of};
 
@@ -14,7 +14,7 @@ use std::alloc::{AllocError, Global};
 use std::sync::Arc;
 use versions::NoMemory;
 
-/// What a statement asks of the table.
+/// What a statement asks of the map.
 #[derive(Drop)]
 pub enum Ask {
     /// A call.
@@ -23,11 +23,14 @@ pub enum Ask {
     View(u32),
     /// A query of the map of the handle of this number.
     Job(u32, ScriptQuery),
+    /// The value of the key on the handle, and that it is this one where there is none.
+    GetOrElse(u32, Arc<ByteText>, i64),
 }
 
-/// What the statement asks; of `getorelse`, which may ask twice, the first.
+/// What the statement asks.
 pub fn ask_of(alloc: Global, statement: &Statement) -> Result<Ask, NoMemory>
-    ensures { IfOk result (λ ask. asked ask ≡ request_for statement.now) }
+    ensures request { IfOk result (λ ask. asked ask ≡ request_for statement.now) }
+    ensures or_else { IfOk result (λ ask. or_else_asked ask ≡ or_else_in statement.now) }
 {
     Ok(match statement {
         Statement::Open { handle } => Ask::Call(Call::Open(*handle)),
@@ -57,7 +60,9 @@ pub fn ask_of(alloc: Global, statement: &Statement) -> Result<Ask, NoMemory>
         Statement::RemoveIf { handle, key, value } => {
             on(handle, Command::RemoveIf(key.text()?, held(alloc, value)?))
         }
-        Statement::GetOrElse { handle, key, .. } => on(handle, Command::Get(key.text()?)),
+        Statement::GetOrElse { handle, key, value } => {
+            Ask::GetOrElse(*handle, key.text()?, *value)
+        }
         Statement::Size { handle } => on(handle, Command::Size),
         Statement::Clear { handle } => on(handle, Command::Clear),
         Statement::Pairs { handle } => Ask::View(*handle),
@@ -73,14 +78,16 @@ pub fn ask_of(alloc: Global, statement: &Statement) -> Result<Ask, NoMemory>
 
 /// The command on the handle.
 fn on(handle: &u32, command: Command<ByteText, i64>) -> Ask
-    ensures { asked result ≡ on handle.now (command_of command) }
+    ensures request { asked result ≡ on handle.now (command_of command) }
+    ensures or_else { or_else_asked result ≡ None }
 {
     Ask::Call(Call::On(*handle, command))
 }
 
 /// The query of the map of the handle.
 fn job(handle: &u32, query: ScriptQuery) -> Ask
-    ensures { asked result ≡ freeze handle.now query }
+    ensures request { asked result ≡ freeze handle.now query }
+    ensures or_else { or_else_asked result ≡ None }
 {
     Ask::Job(*handle, query)
 }

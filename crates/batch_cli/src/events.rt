@@ -1,115 +1,109 @@
-//! The events of statements: what each asks of the table, and how that is answered.
+//! The events of statements: what a client asks of the map for each, and how that is answered.
 
-ghost use Rattle.std.specs.Prelude.{◌≡◌, ◌≢◌, IfOk, OnOk, Some, false};
-ghost use Rattle.handles.specs.Views.{lacks_memory, outcome_of, request_of};
-ghost use Rattle.handles.specs.Machine.{view};
-ghost use Rattle.batch_cli.specs.Events.{MayAnswer, MayReply, MayServe, MayStore, asked, reply_to};
+ghost use Rattle.std.specs.Prelude.{◌≡◌, IfOk, OnOk, Some, true};
+ghost use Rattle.std.specs.Arc.{arc_value};
+ghost use Rattle.handles.specs.Machine.{is_entry, view};
+ghost use Rattle.handles.specs.Views.{is_counted, outcome_of, request_of};
+ghost use Rattle.batch_cli.specs.Events.{reply_to};
+ghost use Rattle.batch_cli.specs.Filing.{FilesAnswer, FilesOrElse, FilesReply};
 
 use crate::ask::{Ask, ask_of};
 use crate::jobs::worked;
 use crate::listing::listing_of;
 use crate::query::ScriptQuery;
-use handles::{Call, CallReply, Command, Reply, Table, law_of_answers};
+use handles::{Call, CallReply, Reply};
 use keys::ByteText;
-use script::{Key, LineReply, Statement};
+use locked_map::{Room, Seat, SharedMap};
+use script::{LineReply, Statement};
 use std::alloc::Global;
-use std::sync::Arc;
+use std::sync::{Arc, Wait};
 use versions::{NoMemory, Refusal};
 
-/// The table of a program: its keys are the texts of a script's keys, and it is asked a script's questions.
-pub type ProgramTable = Table<ByteText, i64, ScriptQuery>;
+/// The map of a program: its keys are the texts of a script's keys, and it is asked a script's questions.
+pub type ProgramMap<J> = SharedMap<ByteText, i64, ScriptQuery, J>;
 
-/// Makes the events of the statement on the table, and gives the reply of its line.
-pub fn answer(
+/// The seat of a client of that map.
+pub type ProgramSeat<J> = Seat<ByteText, i64, ScriptQuery, J>;
+
+/// Makes the events of the statement, and gives the reply of its line.
+pub fn answer<J: Room, R: Wait>(
+    rt: &R,
     alloc: Global,
-    table: &mut ProgramTable,
+    map: &ProgramMap<J>,
+    seat: &mut ProgramSeat<J>,
     statement: &Statement,
 ) -> Result<LineReply, NoMemory>
-    ensures { IfOk result (λ reply. MayAnswer table.old statement.now reply table.new) }
+    ensures { IfOk result (λ reply. FilesAnswer seat.old statement.now reply seat.new) }
 {
-    let ask = ask_of(alloc, statement)?;
-    let reply = event(alloc, table, ask)?;
-    match statement {
-        Statement::GetOrElse { handle, key, value } => {
-            or_else(alloc, table, *handle, key, *value, reply)
-        }
-        _ => Ok(reply),
-    }
-}
-
-/// Where a get found nothing, makes the second event of its `getorelse`.
-fn or_else(
-    alloc: Global,
-    table: &mut ProgramTable,
-    handle: u32,
-    key: &Key,
-    value: i64,
-    found: LineReply,
-) -> Result<LineReply, NoMemory>
-    ensures stored { found ≡ LineReply.Absent → IfOk result (λ reply. MayStore table.old handle key.now value reply table.new) }
-    ensures kept { found ≢ LineReply.Absent → IfOk result (λ reply. (reply ≡ found) × (table.new ≡ table.old)) }
-{
-    match found {
-        LineReply::Absent => put_missing(alloc, table, handle, key, value),
-        reply => Ok(reply),
-    }
-}
-
-/// Makes the event, of a job both events, and gives the reply that shows the outcome.
-fn event(alloc: Global, table: &mut ProgramTable, ask: Ask) -> Result<LineReply, NoMemory>
-    ensures { IfOk result (λ reply. MayServe table.old (asked ask) reply table.new) }
-{
-    match ask {
-        Ask::Call(call) => served(alloc, table, call),
-        Ask::View(handle) => listed(alloc, table, handle),
-        Ask::Job(handle, query) => worked(alloc, table, handle, query),
+    match ask_of(alloc, statement)? {
+        Ask::Call(call) => served(rt, map, seat, call),
+        Ask::View(handle) => listed(rt, alloc, map, seat, handle),
+        Ask::Job(handle, query) => worked(rt, alloc, map, seat, handle, query),
+        Ask::GetOrElse(handle, key, value) => found_or_stored(rt, map, seat, handle, key, value),
     }
 }
 
 /// Makes the call, and gives the reply that shows its answer.
-fn served(
-    alloc: Global,
-    table: &mut ProgramTable,
+fn served<J: Room, R: Wait>(
+    rt: &R,
+    map: &ProgramMap<J>,
+    seat: &mut ProgramSeat<J>,
     call: Call<ByteText, i64>,
 ) -> Result<LineReply, NoMemory>
-    ensures { IfOk result (λ reply. MayReply table.old (request_of call) reply table.new) }
+    ensures { IfOk result (λ reply. FilesReply seat.old (request_of call) reply seat.new) }
 {
-    law_of_answers::<ByteText, i64, ScriptQuery>();
-    let answer = table.serve(alloc, call);
+    let answer = map.call(rt, seat, call);
     reply_of(&answer)
 }
 
 /// Views the map of the handle, and gives the reply that lists its pairs.
-fn listed(alloc: Global, table: &mut ProgramTable, handle: u32) -> Result<LineReply, NoMemory>
-    ensures { IfOk result (λ reply. MayReply table.old (view handle) reply table.new) }
+fn listed<J: Room, R: Wait>(
+    rt: &R,
+    alloc: Global,
+    map: &ProgramMap<J>,
+    seat: &mut ProgramSeat<J>,
+    handle: u32,
+) -> Result<LineReply, NoMemory>
+    ensures { IfOk result (λ reply. FilesReply seat.old (view handle) reply seat.new) }
 {
-    match table.view(handle) {
+    match map.view(rt, seat, handle) {
         Ok(view) => Ok(LineReply::Pairs(listing_of(alloc, &view)?)),
         Err(refusal) => refused(refusal),
     }
 }
 
-/// Maps the key to the value where it has none, and gives the reply that tells the value that it has then.
-fn put_missing(
-    alloc: Global,
-    table: &mut ProgramTable,
+/// Asks for the value of the key, stores this one where there is none, and gives the reply that tells the value that
+/// the key has then.
+fn found_or_stored<J: Room, R: Wait>(
+    rt: &R,
+    map: &ProgramMap<J>,
+    seat: &mut ProgramSeat<J>,
     handle: u32,
-    key: &Key,
+    key: Arc<ByteText>,
     value: i64,
 ) -> Result<LineReply, NoMemory>
-    ensures { IfOk result (λ reply. MayStore table.old handle key.now value reply table.new) }
+    ensures { IfOk result (λ reply. FilesOrElse seat.old handle (arc_value key) value reply seat.new) }
 {
-    let command = Command::PutIfAbsent(key.text()?, Arc::new(alloc, value)?);
-    match served(alloc, table, Call::On(handle, command))? {
-        LineReply::Absent => Ok(LineReply::Found(value)),
-        reply => Ok(reply),
+    let make = move || -> i64
+        ensures { result ≡ value }
+    { value };
+    match map.get_or_else_update(rt, seat, handle, key, make) {
+        Ok(value) => Ok(found(&value)),
+        Err(refusal) => refused(refusal),
     }
 }
 
-/// The reply that shows the answer, unless memory was wanting.
+/// The reply that tells the value.
+fn found(value: &Arc<i64>) -> LineReply
+    ensures { result ≡ LineReply.Found value.now.value }
+{
+    LineReply::Found(**value)
+}
+
+/// The reply that shows the answer, if it is an entry of the journal.
 fn reply_of(answer: &Result<CallReply<i64>, Refusal>) -> Result<LineReply, NoMemory>
     ensures shown { IfOk result (λ reply. reply_to (outcome_of answer.now) ≡ Some reply) }
-    ensures memory { IfOk result (λ reply. lacks_memory answer.now ≡ false) }
+    ensures filed { OnOk result (is_counted answer.now ≡ true) }
 {
     match answer {
         Ok(CallReply::Unit) => Ok(LineReply::Done),
@@ -122,13 +116,18 @@ fn reply_of(answer: &Result<CallReply<i64>, Refusal>) -> Result<LineReply, NoMem
     }
 }
 
-/// The reply that tells the refusal, unless memory was wanting.
+/// The reply that tells the refusal, if it is an entry of the journal.
+///
+/// Others than want of memory are never met here: a script is too short to fill the journal, and each job is closed once,
+/// by the client that opened it.
 pub fn refused(refusal: Refusal) -> Result<LineReply, NoMemory>
     ensures shown { IfOk result (λ reply. reply ≡ LineReply.Refused refusal) }
-    ensures memory { OnOk result (refusal ≢ Refusal.NoMemory) }
+    ensures filed { OnOk result (is_entry refusal ≡ true) }
 {
     match refusal {
-        Refusal::NoMemory => Err(NoMemory),
+        Refusal::NoMemory | Refusal::JournalFull | Refusal::NoJob | Refusal::Unfinished => {
+            Err(NoMemory)
+        }
         _ => Ok(LineReply::Refused(refusal)),
     }
 }

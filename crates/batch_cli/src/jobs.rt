@@ -1,56 +1,56 @@
-//! The jobs of bulk verbs: each is a freeze, the work over the whole frozen map, and a finish.
+//! The jobs of bulk verbs: each is a freeze, the work over the whole frozen map with no lock held, and a finish.
 
-ghost use Rattle.std.specs.Prelude.{◌≡◌, IfOk, Some};
+ghost use Rattle.std.specs.Prelude.{◌≡◌, IfOk};
 ghost use Rattle.bulk_ops.specs.Told.{told_of};
-ghost use Rattle.handles.specs.Machine.{finish, freeze, job_at};
-ghost use Rattle.batch_cli.specs.Events.{MayReply, MayServe, told_reply};
+ghost use Rattle.handles.specs.Machine.{finish, freeze};
+ghost use Rattle.batch_cli.specs.Events.{told_reply};
+ghost use Rattle.batch_cli.specs.Filing.{FilesReply, FilesService};
 ghost use Rattle.batch_cli.specs.Queries.{IsPartFor};
 
-use crate::events::{ProgramTable, refused};
+use crate::events::{ProgramMap, ProgramSeat, refused};
 use crate::query::{ScriptPart, ScriptQuery};
 use bulk_ops::{Answer, work};
-use handles::law_of_freezes;
 use iter::parts_follow_intervals;
 use keys::ByteText;
+use locked_map::{Room, Ticket};
 use script::{LineReply, MapKey};
 use splitter::whole;
 use std::alloc::Global;
-use std::sync::Arc;
+use std::sync::{Arc, Wait};
 use versions::{NoMemory, View};
 
 /// Opens a job with the query on the map of the handle, works it and finishes it, and gives the reply that tells the
 /// answer.
-pub fn worked(
+pub fn worked<J: Room, R: Wait>(
+    rt: &R,
     alloc: Global,
-    table: &mut ProgramTable,
+    map: &ProgramMap<J>,
+    seat: &mut ProgramSeat<J>,
     handle: u32,
     query: ScriptQuery,
 ) -> Result<LineReply, NoMemory>
-    ensures { IfOk result (λ reply. MayServe table.old (freeze handle query) reply table.new) }
+    ensures { IfOk result (λ reply. FilesService seat.old (freeze handle query) reply seat.new) }
 {
-    law_of_freezes::<ByteText, i64, ScriptQuery>();
-    let query = Arc::new(alloc, query)?;
-    match table.freeze(handle, Arc::try_clone(&query)?) {
-        Ok((job, view)) => finished(alloc, table, job, view, &query),
+    match map.freeze(rt, seat, handle, Arc::new(alloc, query)?) {
+        Ok(ticket) => finished(rt, alloc, map, seat, ticket),
         Err(refusal) => refused(refusal),
     }
 }
 
 /// Works the query over the map of the open job, and finishes the job.
-fn finished(
+fn finished<J: Room, R: Wait>(
+    rt: &R,
     alloc: Global,
-    table: &mut ProgramTable,
-    job: u64,
-    view: View<ByteText, i64>,
-    query: &ScriptQuery,
+    map: &ProgramMap<J>,
+    seat: &mut ProgramSeat<J>,
+    ticket: Ticket<ByteText, i64, ScriptQuery, J>,
 ) -> Result<LineReply, NoMemory>
-    requires { job_at table.old job ≡ Some (record { query = query.now; frozen = view }) }
-    ensures { IfOk result (λ reply. MayReply table.old (finish job) reply table.new) }
+    ensures { IfOk result (λ reply. FilesReply seat.old (finish ticket.job) reply seat.new) }
 {
-    let part = part_of(alloc, view, query)?;
-    match table.finish(job, part) {
+    let part = part_of(alloc, ticket.view().try_clone()?, ticket.query())?;
+    match map.finish(rt, seat, ticket, part) {
         Ok(answer) => Ok(told(answer)),
-        Err(refusal) => refused(refusal),
+        Err((refusal, _, _)) => refused(refusal),
     }
 }
 

@@ -1,17 +1,17 @@
 //! Laws of scripts and of their runs. Each function says one, and does nothing.
 
 ghost use Rattle.std.specs.Prelude.{◌≡◌, ℕ, List};
-ghost use Rattle.batch_cli.specs.Runs.{FindsNoPair, IsOutputOf};
+ghost use Rattle.batch_cli.specs.Runs.{FindsNoPair, HasOneClient, IsOutputOf};
 ghost use Rattle.script.specs.declared.statement.CommandLine.{CommandLine};
 
 use crate::query::ScriptQuery;
 use handles::law_of_freezes;
 use keys::ByteText;
 
-/// What is written for a script is a function of the script, if no line of it is a `find`, which may be answered any
-/// pair that passes.
+/// What is written for a script of one client is a function of the script, if no line of it is a `find`, which may be
+/// answered any pair that passes.
 pub fn script_has_one_output()
-    ensures { (script : List CommandLine) (one other : List ℕ) → FindsNoPair script → IsOutputOf script one → IsOutputOf script other → one ≡ other }
+    ensures { (script : List CommandLine) (one other : List ℕ) → HasOneClient script → FindsNoPair script → IsOutputOf script one → IsOutputOf script other → one ≡ other }
 {
     law_of_freezes::<ByteText, i64, ScriptQuery>();
 }

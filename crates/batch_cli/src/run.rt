@@ -1,16 +1,28 @@
 //! The run of a script.
 
-ghost use Rattle.std.specs.Prelude.{◌≡◌, IfOk, OnOk, IsErrOf, List, ℕ};
+ghost use Rattle.std.specs.Prelude.{◌≡◌, ◌<◌, ◌≤◌, All, IfOk, IsErrOf, List, slice_index_or, ℕ, vec_len};
 ghost use Rattle.std.specs.Io.KnownBytes.{Appends, Keeps};
-ghost use Rattle.batch_cli.specs.Runs.{IsOutputOf};
+ghost use Rattle.script.specs.Statements.{IsLawfulLine};
+ghost use Rattle.batch_cli.specs.Runs.{IsRunOf};
 
-use crate::events::answer;
-use handles::{Limits, MOST_ENTRIES, Table};
-use script::{CommandLine, Script, push_line};
-use std::alloc::Global;
+use crate::client::ScriptClient;
+use crate::gate::LineGate;
+use crate::merge::{all_of, replies_in_order};
+use crate::query::ScriptQuery;
+use handles::{Limits, MOST_ENTRIES};
+use keys::ByteText;
+use locked_map::{MOST_SEATS, NoJournal, with_clients};
+use script::{CommandLine, Script};
+use std::alloc::{AllocError, Global};
 use std::io::Write;
+use std::sync::Wait;
+use std::thread::Threads;
 use thiserror::Error;
-use versions::{MOST_PAIRS, NoMemory};
+use versions::MOST_PAIRS;
+
+/// The journal of a run: what each client asked and was told, in the order in which it was done. A freeze holds the
+/// question of its line.
+pub type Journal = locked_map::Journal<ByteText, i64, ScriptQuery, Option<i128>>;
 
 /// Why a run failed.
 #[derive(Debug, Drop, Error)]
@@ -29,36 +41,89 @@ const LARGEST: Limits = Limits {
     entries: MOST_ENTRIES,
 };
 
-/// Runs the command lines of all clients in the order of their numbers, and writes a line for each: its number,
-/// a space and its reply. All replies are built before the first is written.
+/// Runs the lines of each client in the order of their numbers, each client on a thread of its own over one map, and
+/// writes a line for each, in the order of all numbers: its number, a space and its reply. All replies are there before the
+/// first is written. It gives the journal of the run.
+///
+/// A client asks the gate before each of its lines. The clients are those from 0 to the greatest number in the script;
+/// one without a line ends at once. A client whose thread cannot be started runs on the caller's after the others.
 ///
 /// # Errors
 ///
 /// Want of memory, with nothing written; a writer that fails.
-pub fn run_script<W: Write>(alloc: Global, script: &Script, writer: &mut W) -> Result<(), RunFault>
-    ensures ok { OnOk result ((text : List ℕ) × IsOutputOf script.now text × Appends (W.contents writer.old) (W.contents writer.new) text) }
+pub fn run_script<R, W, G>(
+    rt: &R,
+    alloc: Global,
+    script: &Script,
+    writer: &mut W,
+    gate: &G,
+) -> Result<Journal, RunFault>
+where
+    R: Threads + Wait + Sync,
+    W: Write,
+    G: LineGate + Sync,
+    ensures ok { IfOk result (λ journal. (text : List ℕ) × IsRunOf script.now journal text × Appends (W.contents writer.old) (W.contents writer.new) text) }
     ensures memory { IsErrOf result RunFault.Memory → Keeps (W.contents writer.old) (W.contents writer.new) }
 {
-    let Ok(replies) = replies_to(alloc, script.lines()) else {
+    let Ok((replies, journal)) = replies_to(rt, alloc, script.lines(), gate) else {
+        // A run is not torn, and so it has no fault of that name.
         return Err(RunFault::Memory);
     };
     match writer.write_all(replies.as_slice()) {
-        Ok(()) => Ok(()),
+        Ok(()) => Ok(journal),
         Err(_) => Err(RunFault::Write),
     }
 }
 
-/// The replies of the lines, run from no handles.
-fn replies_to(alloc: Global, lines: &[CommandLine]) -> Result<Vec<u8>, NoMemory>
-    ensures { IfOk result (λ replies. IsOutputOf lines.now replies.items) }
+/// The replies of the lines, run from no handles, and the journal of that run.
+fn replies_to<R: Threads + Wait + Sync, G: LineGate + Sync>(
+    rt: &R,
+    alloc: Global,
+    lines: &[CommandLine],
+    gate: &G,
+) -> Result<(Vec<u8>, Journal), NoJournal>
+    requires { All IsLawfulLine lines.now }
+    ensures { IfOk result (λ run. IsRunOf lines.now run.1 run.0.items) }
 {
-    let mut table = Table::new(alloc, LARGEST)?;
-    let mut replies = Vec::new(alloc);
-    for line in lines {
-        let reply = answer(alloc, &mut table, &line.statement)?;
-        if push_line(&mut replies, line.number, &reply).is_err() {
-            return Err(NoMemory);
-        }
+    let clients = clients_of(alloc, lines, gate)?;
+    let (outs, closed) = with_clients(rt, alloc, LARGEST, clients)?;
+    let replies = all_of(alloc, outs)?;
+    let text = replies_in_order(alloc, lines, replies.as_slice())?;
+    Ok((text, closed.journal))
+}
+
+/// The clients of the lines, by their numbers.
+fn clients_of<'a, G: LineGate>(
+    alloc: Global,
+    lines: &'a [CommandLine],
+    gate: &'a G,
+) -> Result<Vec<ScriptClient<'a, G>>, AllocError>
+    requires { All IsLawfulLine lines.now }
+    ensures each { IfOk result (λ clients. (k : ℕ) (c : _) → k < vec_len clients → ((slice_index_or clients.items k c).number ≡ k) × ((slice_index_or clients.items k c).lines.now ≡ lines.now)) }
+    ensures all { IfOk result (λ clients. All (λ line. line.client < vec_len clients) lines.now) }
+    ensures most { IfOk result (λ clients. vec_len clients ≤ MOST_SEATS) }
+{
+    let count = count_of(lines);
+    let mut clients = Vec::with_capacity(alloc, count as usize)?;
+    for number in 0..count {
+        clients.push(ScriptClient {
+            number,
+            lines,
+            gate,
+        })?;
     }
-    Ok(replies)
+    Ok(clients)
+}
+
+/// How many clients there are, where the greatest number of a line's is the last one's.
+fn count_of(lines: &[CommandLine]) -> u32
+    requires { All IsLawfulLine lines.now }
+    ensures all { All (λ line. line.client < result) lines.now }
+    ensures most { result ≤ MOST_SEATS }
+{
+    let mut count = 0;
+    for line in lines {
+        count = count.max(line.client + 1);
+    }
+    count
 }

@@ -6,11 +6,14 @@ ghost use Rattle.batch_cli.specs.Runs.{IsOutputOf, RunsText};
 ghost use Rattle.script.specs.Scripts.{HasFault};
 
 use crate::arguments::Options;
+use crate::gate::Free;
 use crate::run::run_script;
 use script::{Script, ScriptFault, parse_script};
 use std::alloc::Global;
 use std::fmt::Display;
 use std::io::Write;
+use std::sync::Wait;
+use std::thread::Threads;
 
 /// Done.
 const DONE: u8 = 0;
@@ -27,7 +30,8 @@ const REFUSED: u8 = 2;
 /// The first part of what it gives is the status of the program: 0 where it is done, 1 where memory or the output
 /// failed, and 2 where the script has a fault, of which nothing was run then. The second is the text of the journal;
 /// no option asks for one yet, so it is none.
-pub fn execute<W: Write, E: Write>(
+pub fn execute<R: Threads + Wait + Sync, W: Write, E: Write>(
+    rt: &R,
     alloc: Global,
     _options: &Options,
     text: &[u8],
@@ -40,18 +44,24 @@ pub fn execute<W: Write, E: Write>(
     ensures statuses { result.0 ≤ 2 }
     ensures journal { result.1 ≡ None }
 {
-    (status_of(alloc, text, out, err), None)
+    (status_of(rt, alloc, text, out, err), None)
 }
 
 /// Reads and runs the script, and gives the status.
-fn status_of<W: Write, E: Write>(alloc: Global, text: &[u8], out: &mut W, err: &mut E) -> u8
+fn status_of<R: Threads + Wait + Sync, W: Write, E: Write>(
+    rt: &R,
+    alloc: Global,
+    text: &[u8],
+    out: &mut W,
+    err: &mut E,
+) -> u8
     ensures done { result ≡ 0 → RunsText text.now (W.contents out.old) (W.contents out.new) }
     ensures refused { result ≡ 2 → HasFault text.now }
     ensures nothing_run { result ≡ 2 → Keeps (W.contents out.old) (W.contents out.new) }
     ensures statuses { result ≤ 2 }
 {
     match parse_script(alloc, text) {
-        Ok(script) => run(alloc, &script, out, err),
+        Ok(script) => run(rt, alloc, &script, out, err),
         Err(ScriptFault::Memory) => {
             tell(err, &ScriptFault::Memory);
             FAILED
@@ -64,12 +74,18 @@ fn status_of<W: Write, E: Write>(alloc: Global, text: &[u8], out: &mut W, err: &
 }
 
 /// Runs the script, and gives the status.
-fn run<W: Write, E: Write>(alloc: Global, script: &Script, out: &mut W, err: &mut E) -> u8
+fn run<R: Threads + Wait + Sync, W: Write, E: Write>(
+    rt: &R,
+    alloc: Global,
+    script: &Script,
+    out: &mut W,
+    err: &mut E,
+) -> u8
     ensures done { result ≡ 0 → (output : List ℕ) × IsOutputOf script.now output × Appends (W.contents out.old) (W.contents out.new) output }
     ensures statuses { result ≤ 1 }
 {
-    match run_script(alloc, script, out) {
-        Ok(()) => DONE,
+    match run_script(rt, alloc, script, out, &Free) {
+        Ok(_journal) => DONE,
         Err(fault) => {
             tell(err, &fault);
             FAILED

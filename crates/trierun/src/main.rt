@@ -8,6 +8,8 @@ use std::fs::File;
 use std::io::{Read, Write};
 use std::process::ExitCode;
 use std::rt::Runtime;
+use std::sync::Wait;
+use std::thread::Threads;
 use std::{env, io};
 
 /// Done, or help was asked for.
@@ -25,7 +27,7 @@ fn main(rt: HostRuntime) -> ExitCode {
 
 /// Does what the words after the program's name ask for, and gives the status. Where standard error fails there is
 /// nowhere to say so, and the status is the same.
-fn status<R: Runtime + AllocGlobal>(rt: &R) -> u8 {
+fn status<R: Runtime + AllocGlobal + Threads + Wait + Sync>(rt: &R) -> u8 {
     match chosen(rt) {
         Ok(options) => run(rt, &options),
         Err(fault) => refuse(rt, &fault),
@@ -71,12 +73,13 @@ fn refuse<R: Runtime + AllocGlobal>(rt: &R, fault: &ArgFault) -> u8 {
 }
 
 /// Runs the script that the options name.
-fn run<R: Runtime + AllocGlobal>(rt: &R, options: &Options) -> u8 {
+fn run<R: Runtime + AllocGlobal + Threads + Wait + Sync>(rt: &R, options: &Options) -> u8 {
     let text = match input(rt, options) {
         Ok(text) => text,
         Err(error) => return unread(rt, options, &error),
     };
     let (status, _journal) = execute(
+        rt,
         rt.alloc(),
         options,
         text.as_slice(),

@@ -1,7 +1,7 @@
 //! Writers and readers that fail.
 use super::{executed, text};
 use crate::{
-    ArgFault, Options, RunFault, ScriptFault, execute, parse_script, read_script, run_script,
+    ArgFault, Free, Options, RunFault, ScriptFault, execute, parse_script, read_script, run_script,
 };
 use std::io;
 use std::io::{Read, Write};
@@ -62,7 +62,7 @@ fn a_writer_that_fails_fails_the_run(rt: HostRuntime) -> Result<(), Fail> {
         };
         let mut err = Vec::new(alloc);
         let options = Options { file: None };
-        let (status, _) = execute(alloc, &options, b"0 open 1\n", &mut out, &mut err);
+        let (status, _) = execute(&rt, alloc, &options, b"0 open 1\n", &mut out, &mut err);
         assert_eq!(rt; status, 1);
         assert_eq!(rt;
             text(alloc, &err)?.as_str(),
@@ -81,7 +81,8 @@ fn a_writer_that_has_room_gets_all(rt: HostRuntime) -> Result<(), Fail> {
         held: Vec::new(alloc),
         most: 100,
     };
-    run_script(alloc, &script, &mut out)?;
+    let journal = run_script(&rt, alloc, &script, &mut out, &Free)?;
+    assert_eq!(rt; journal.len(), 2);
     assert_eq!(rt; text(alloc, &out.held)?.as_str(), "1 ok\n2 count 0\n");
     Ok(())
 }
@@ -95,7 +96,7 @@ fn standard_error_that_fails_changes_no_status(rt: HostRuntime) -> Result<(), Fa
         most: 0,
     };
     let options = Options { file: None };
-    let (status, _) = execute(alloc, &options, b"0", &mut out, &mut err);
+    let (status, _) = execute(&rt, alloc, &options, b"0", &mut out, &mut err);
     assert_eq!(rt; status, 2);
     assert_eq!(rt; out.len(), 0);
     Ok(())
@@ -145,7 +146,7 @@ fn faults_show_as_they_are_printed(rt: HostRuntime) -> Result<(), Fail> {
 
 #[test]
 fn a_script_with_a_fault_is_not_run(rt: HostRuntime) -> Result<(), Fail> {
-    let (status, out, err) = executed(rt.alloc(), b"0 open 1\n0 open")?;
+    let (status, out, err) = executed(&rt, b"0 open 1\n0 open")?;
     assert_eq!(rt; err.as_str(), "line 2: missing field\n");
     assert_eq!(rt; out.as_str(), "");
     assert_eq!(rt; status, 2);

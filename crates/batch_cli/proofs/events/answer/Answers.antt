@@ -1,15 +1,19 @@
-use Rattle.std.proofs.Common.{rules, ◌≡◌, IfOk}
-use Rattle.script.specs.declared.reply.LineReply.TheVariants.{Absent}
-use Rattle.batch_cli.specs.Events.{MayStore}
-use Rattle.batch_cli.proofs.RunLemmas.{done_as_served, or_else_answers}
+use Rattle.std.proofs.Common.{◌≡◌, sym, ap, ◌∙◌, None}
+use Rattle.handles.specs.Machine.{freeze}
+use Rattle.handles.specs.Views.{request_of}
+use Rattle.batch_cli.specs.Events.{asked, or_else_asked, or_else_in, request_for}
+use Rattle.batch_cli.proofs.Filing.{answered_as_served, answered_at_once}
 use Rattle.batch_cli.proofs.events.answer.Goals as goal
 
-pub returns-in-GetOrElse : goal.returns-in-GetOrElse
-returns-in-GetOrElse c =
-    let here = c.in-GetOrElse in
-    let stored : c.in_ok-reply.reply ≡ Absent → IfOk c.or_else.result (λ reply. MayStore c.event.new.table here.handle here.key here.value reply c.or_else.new.table) = search rules in
-    or_else_answers c.args.table.now c.event.new.table c.or_else.new.table c.args.statement.now _ here.handle here.key here.value c.in_ok-reply.reply c.or_else.result here.is c.in_ok-ask.ensures c.in_ok-reply.ensures stored c.or_else.ensures.kept
+pub returns-in-Call : goal.returns-in-Call
+returns-in-Call g c =
+    let request : request_of c.in-Call.call ≡ request_for c.args.statement.now = sym (ap asked c.in-Call.is) ∙ c.in_ok-call.ensures.request in
+    let other : None ≡ or_else_in c.args.statement.now = sym (ap or_else_asked c.in-Call.is) ∙ c.in_ok-call.ensures.or_else in
+    answered_at_once c.args.seat.now c.served.new.seat c.args.statement.now (request_of c.in-Call.call) c.served.result request other c.served.ensures
 
-pub returns-in_default : goal.returns-in_default
-returns-in_default c =
-    done_as_served c.args.table.now c.event.new.table c.args.statement.now _ c.in_ok-reply.reply (λ h k v is absent. c.in_default.not-GetOrElse h k v is) c.in_ok-ask.ensures c.in_ok-reply.ensures
+pub returns-in-Job : goal.returns-in-Job
+returns-in-Job g c =
+    let query = freeze c.in-Job.handle c.in-Job.query in
+    let request : query ≡ request_for c.args.statement.now = sym (ap asked c.in-Job.is) ∙ c.in_ok-call.ensures.request in
+    let other : None ≡ or_else_in c.args.statement.now = sym (ap or_else_asked c.in-Job.is) ∙ c.in_ok-call.ensures.or_else in
+    answered_as_served c.args.seat.now c.worked.new.seat c.args.statement.now query c.worked.result request other c.worked.ensures

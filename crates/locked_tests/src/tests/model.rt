@@ -1,0 +1,412 @@
+//! The machine of handles as a plain program over lists of pairs.
+use super::KEYS;
+use super::entries::{Entered, TestClosed};
+use super::outcomes::{NOTHING, Outcome, Seen, seen_in};
+use super::questions::{Passing, Question};
+use super::requests::{Do, Plain, Request};
+use handles::Limits;
+use std::alloc::{AllocError, Global};
+use std::process::Abort;
+use std::test::Fail;
+use versions::Refusal;
+
+// The last handle number, and how many jobs may be open.
+const LAST: u32 = 1_023;
+
+const MOST_JOBS: usize = 64;
+
+// A key's path word and its value.
+type Row = (u32, u64);
+
+// An open job, with the rows that were frozen.
+#[derive(Drop)]
+struct Job {
+    number: u64,
+    question: Question,
+    rows: Vec<Row>,
+}
+
+/// What a table keeps: the rows of each live handle, and the open jobs.
+#[derive(Drop)]
+pub struct Machine {
+    limits: Limits,
+    live: Vec<(u32, Vec<Row>)>,
+    jobs: Vec<Job>,
+    next: u64,
+    entries: u32,
+}
+
+// Whether the number is no handle's.
+fn is_bad(number: Option<u32>) -> bool {
+    number.is_some_and(|number| number > LAST)
+}
+
+// The handle that is read, written, dropped, frozen or snapshotted.
+fn source(request: Request) -> Option<u32> {
+    match request {
+        Request::Call(Plain::Open(_)) | Request::Finish(_) | Request::Abandon(_) => None,
+        Request::Call(Plain::Snapshot(handle, _) | Plain::Drop(handle)) => Some(handle),
+        Request::Call(Plain::On(handle, _)) => Some(handle),
+        Request::View(handle) | Request::Freeze(handle, _) => Some(handle),
+    }
+}
+
+// The number that is opened or reserved.
+fn wanted(request: Request) -> Option<u32> {
+    match request {
+        Request::Call(Plain::Open(handle) | Plain::Snapshot(_, handle)) => Some(handle),
+        Request::Freeze(_, question) => target(question),
+        _ => None,
+    }
+}
+
+// The handle that is to have the map that is made.
+fn target(question: Question) -> Option<u32> {
+    match question {
+        Question::Filter(_, to) | Question::Zeros(to) => Some(to),
+        _ => None,
+    }
+}
+
+// The value of the key in the rows.
+fn value_of(rows: &[Row], key: u32) -> Option<u64> {
+    for row in rows {
+        if row.0 == key {
+            return Some(row.1);
+        }
+    }
+    None
+}
+
+// What a view of the rows shows.
+fn shown(rows: &[Row]) -> Seen {
+    let mut shown = NOTHING;
+    shown.len = rows.len() as u64;
+    for (value, key) in shown.values.iter_mut().zip(KEYS) {
+        *value = value_of(rows, key);
+    }
+    shown
+}
+
+// Gives the key the value, or none.
+fn set(rows: &mut Vec<Row>, key: u32, value: Option<u64>) -> Result<(), AllocError> {
+    rows.retain(|row| row.0 != key);
+    if let Some(value) = value {
+        rows.push((key, value))?;
+    }
+    Ok(())
+}
+
+// The key of what is done, where it has one.
+fn key_in(what: Do) -> Option<u32> {
+    match what {
+        Do::Get(key) | Do::Remove(key) | Do::RemoveIf(key, _) => Some(key),
+        Do::Put(key, _) | Do::PutIfAbsent(key, _) | Do::Replace(key, _) => Some(key),
+        Do::ReplaceIf(key, _, _) => Some(key),
+        Do::Size | Do::Clear => None,
+    }
+}
+
+// Does this on the rows, and tells of it.
+fn done(rows: &mut Vec<Row>, what: Do) -> Result<Outcome, AllocError> {
+    let old = match key_in(what) {
+        Some(key) => value_of(rows, key),
+        None => None,
+    };
+    let count = rows.len() as u64;
+    match what {
+        Do::Put(key, value) => set(rows, key, Some(value))?,
+        Do::PutIfAbsent(key, value) if old.is_none() => set(rows, key, Some(value))?,
+        Do::Replace(key, value) if old.is_some() => set(rows, key, Some(value))?,
+        Do::ReplaceIf(key, is, value) if old == Some(is) => set(rows, key, Some(value))?,
+        Do::Remove(key) => set(rows, key, None)?,
+        Do::RemoveIf(key, is) if old == Some(is) => set(rows, key, None)?,
+        Do::Clear => rows.clear(),
+        _ => (),
+    }
+    Ok(match what {
+        Do::ReplaceIf(_, is, _) | Do::RemoveIf(_, is) => Outcome::Done(old == Some(is)),
+        Do::Size => Outcome::Size(count),
+        Do::Clear => Outcome::Cleared,
+        _ => Outcome::Old(old),
+    })
+}
+
+// The rows that pass.
+fn passing(alloc: Global, rows: &[Row], test: Passing) -> Result<Vec<Row>, AllocError> {
+    let mut passing = Vec::new(alloc);
+    for row in rows {
+        if test.passes(row.1) {
+            passing.push(*row)?;
+        }
+    }
+    Ok(passing)
+}
+
+// The rows of a map that a job makes for its target.
+fn made(alloc: Global, job: &Job) -> Result<Vec<Row>, AllocError> {
+    if let Question::Filter(test, _) = job.question {
+        return passing(alloc, &job.rows, test);
+    }
+    let mut made = Vec::new(alloc);
+    for row in &job.rows {
+        made.push((row.0, 0))?;
+    }
+    Ok(made)
+}
+
+// The answer of a job that makes no map. Of the rows that a find may give it gives the one that was told.
+fn answer(alloc: Global, job: &Job, told: Outcome) -> Result<Outcome, AllocError> {
+    let all = job.rows.len();
+    Ok(match job.question {
+        Question::Count(test) => Outcome::Count(passing(alloc, &job.rows, test)?.len() as u64),
+        Question::Exists(test) => Outcome::Truth(!passing(alloc, &job.rows, test)?.is_empty()),
+        Question::ForAll(test) => Outcome::Truth(passing(alloc, &job.rows, test)?.len() == all),
+        Question::Find(test) => found(&passing(alloc, &job.rows, test)?, told),
+        _ => {
+            let mut total = 0i128;
+            for row in &job.rows {
+                total = total.wrapping_add(i128::from(row.1));
+            }
+            Outcome::Total(total)
+        }
+    })
+}
+
+// One of the rows, where there are some: the one that was told, if it is among them.
+fn found(rows: &[Row], told: Outcome) -> Outcome {
+    match told {
+        Outcome::Found(Some(row)) if rows.contains(&row) => told,
+        _ => Outcome::Found(rows.first().copied()),
+    }
+}
+
+impl Machine {
+    /// No handles and no jobs.
+    pub fn new(alloc: Global, limits: Limits) -> Machine {
+        Machine {
+            limits,
+            live: Vec::new(alloc),
+            jobs: Vec::new(alloc),
+            next: 0,
+            entries: 0,
+        }
+    }
+
+    /// Makes the request, and gives what it is told. What was told of it elsewhere decides only which row a find gives.
+    pub fn told(
+        &mut self,
+        alloc: Global,
+        request: Request,
+        told: Outcome,
+    ) -> Result<Outcome, AllocError> {
+        let outcome = match self.refusal_of(request) {
+            Some(refusal) => Outcome::Refused(refusal),
+            None => self.granted(alloc, request, told)?,
+        };
+        if outcome.is_entry() {
+            self.entries = self.entries.saturating_add(1);
+        }
+        Ok(outcome)
+    }
+
+    // The rows of a handle that is live.
+    fn rows(&self, handle: u32) -> Option<&Vec<Row>> {
+        for live in &self.live {
+            if live.0 == handle {
+                return Some(&live.1);
+            }
+        }
+        None
+    }
+
+    // The same, to be written.
+    fn rows_mut(&mut self, handle: u32) -> Option<&mut Vec<Row>> {
+        let place = self.live.iter().position(|live| live.0 == handle)?;
+        match self.live.get_mut(place) {
+            Some(live) => Some(&mut live.1),
+            None => None,
+        }
+    }
+
+    // A copy of the rows of a handle.
+    fn copy_of(&self, alloc: Global, handle: u32) -> Result<Vec<Row>, AllocError> {
+        match self.rows(handle) {
+            Some(rows) => Vec::from_slice(alloc, rows),
+            None => Ok(Vec::new(alloc)),
+        }
+    }
+
+    // How many entries there may be besides the ends of the open jobs.
+    fn room(&self) -> u64 {
+        let used = u64::from(self.entries).saturating_add(self.jobs.len() as u64);
+        u64::from(self.limits.entries).saturating_sub(used)
+    }
+
+    // Whether the number is live or is the target of an open job.
+    fn is_taken(&self, handle: u32) -> bool {
+        self.rows(handle).is_some()
+            || self
+                .jobs
+                .iter()
+                .any(|job| target(job.question) == Some(handle))
+    }
+
+    // Whether the job is open.
+    fn is_open(&self, number: u64) -> bool {
+        self.jobs.iter().any(|job| job.number == number)
+    }
+
+    // Whether a new key would be put into a map that is full.
+    fn is_full(&self, request: Request) -> bool {
+        let (handle, key) = match request {
+            Request::Call(Plain::On(handle, Do::Put(key, _))) => (handle, key),
+            Request::Call(Plain::On(handle, Do::PutIfAbsent(key, _))) => (handle, key),
+            _ => return false,
+        };
+        match self.rows(handle) {
+            Some(rows) => {
+                rows.len() as u64 >= self.limits.pairs && value_of(rows, key).is_none()
+            }
+            None => false,
+        }
+    }
+
+    // The first reason to refuse the request.
+    fn refusal_of(&self, request: Request) -> Option<Refusal> {
+        let (source, wanted) = (source(request), wanted(request));
+        if let Request::Finish(job) | Request::Abandon(job) = request {
+            return if self.is_open(job) {
+                None
+            } else {
+                Some(Refusal::NoJob)
+            };
+        }
+        if self.room() < 2 {
+            return Some(Refusal::JournalFull);
+        }
+        if is_bad(source) || is_bad(wanted) {
+            return Some(Refusal::BadNumber);
+        }
+        if source.is_some_and(|handle| self.rows(handle).is_none()) {
+            return Some(Refusal::NoHandle);
+        }
+        if wanted.is_some_and(|handle| self.is_taken(handle)) {
+            return Some(Refusal::Taken);
+        }
+        if matches!(request, Request::Freeze(_, _)) && self.jobs.len() >= MOST_JOBS {
+            return Some(Refusal::TooManyJobs);
+        }
+        if self.is_full(request) {
+            return Some(Refusal::Full);
+        }
+        None
+    }
+
+    // A request that nothing refuses.
+    fn granted(
+        &mut self,
+        alloc: Global,
+        request: Request,
+        told: Outcome,
+    ) -> Result<Outcome, AllocError> {
+        match request {
+            Request::Call(call) => self.call(alloc, call),
+            Request::View(handle) => {
+                let rows = self.copy_of(alloc, handle)?;
+                Ok(Outcome::View(shown(&rows)))
+            }
+            Request::Freeze(handle, question) => self.freeze(alloc, handle, question),
+            Request::Finish(job) => self.finish(alloc, job, told),
+            Request::Abandon(job) => {
+                self.jobs.retain(|open| open.number != job);
+                Ok(Outcome::Abandoned)
+            }
+        }
+    }
+
+    fn call(&mut self, alloc: Global, call: Plain) -> Result<Outcome, AllocError> {
+        match call {
+            Plain::Open(handle) => self.live.push((handle, Vec::new(alloc)))?,
+            Plain::Snapshot(handle, to) => {
+                let rows = self.copy_of(alloc, handle)?;
+                self.live.push((to, rows))?;
+            }
+            Plain::Drop(handle) => self.live.retain(|live| live.0 != handle),
+            Plain::On(handle, what) => {
+                if let Some(rows) = self.rows_mut(handle) {
+                    return done(rows, what);
+                }
+            }
+        }
+        Ok(Outcome::Unit)
+    }
+
+    fn freeze(
+        &mut self,
+        alloc: Global,
+        handle: u32,
+        question: Question,
+    ) -> Result<Outcome, AllocError> {
+        let number = self.next;
+        let rows = self.copy_of(alloc, handle)?;
+        let told = Outcome::Frozen(number, shown(&rows));
+        self.jobs.push(Job {
+            number,
+            question,
+            rows,
+        })?;
+        self.next = number.saturating_add(1);
+        Ok(told)
+    }
+
+    fn finish(&mut self, alloc: Global, number: u64, told: Outcome) -> Result<Outcome, AllocError> {
+        let Some(place) = self.jobs.iter().position(|job| job.number == number) else {
+            return Ok(Outcome::Refused(Refusal::NoJob));
+        };
+        let job = self.jobs.remove(place);
+        match target(job.question) {
+            Some(to) => {
+                let rows = made(alloc, &job)?;
+                let count = rows.len() as u64;
+                self.live.push((to, rows))?;
+                Ok(Outcome::Made(count))
+            }
+            None => answer(alloc, &job, told),
+        }
+    }
+
+    // The table has the same handles, each with the same pairs, and the same open jobs and number of entries.
+    fn assert_like(&self, rt: &impl Abort, closed: &TestClosed) -> Result<(), Fail> {
+        for (handle, place) in (0u32..).zip(closed.table.places()) {
+            let here = match place {
+                Some(version) => Some(seen_in(&version.view()?)),
+                None => None,
+            };
+            let there = self.rows(handle).map(|rows| shown(rows));
+            assert_eq!(rt; here, there, "handle {handle}");
+        }
+        for job in 0..=self.next {
+            let is_open = closed.table.foresee_abandon(job).is_ok();
+            assert_eq!(rt; is_open, self.is_open(job), "job {job}");
+        }
+        assert_eq!(rt; closed.table.entries(), self.entries);
+        Ok(())
+    }
+}
+
+/// The plain program is told the same of each entry's request, one after another, and comes to the same table.
+pub fn assert_replayed(
+    rt: &impl Abort,
+    alloc: Global,
+    limits: Limits,
+    closed: &TestClosed,
+    entries: &[Entered],
+) -> Result<(), Fail> {
+    let mut machine = Machine::new(alloc, limits);
+    for entry in entries {
+        let told = machine.told(alloc, entry.request, entry.outcome)?;
+        assert_eq!(rt; told, entry.outcome, "{entry:?}");
+    }
+    machine.assert_like(rt, closed)
+}
