@@ -6,7 +6,7 @@ ghost use Rattle.locked_map.specs.Journals.{Entered, IsLegal, own};
 ghost use Rattle.locked_map.specs.Seats.{AllFresh, fresh, pairs};
 
 use crate::closed::Closed;
-use crate::lending::MOST_SEATS;
+use crate::lending::{MOST_SEATS, closed_under};
 use crate::room::{Entries, Room};
 use crate::seat::Seat;
 use crate::shared_map::SharedMap;
@@ -59,13 +59,17 @@ pub enum NoJournal {
 }
 
 impl From<NoMemory> for NoJournal {
-    fn from(_: NoMemory) -> NoJournal {
+    fn from(_: NoMemory) -> NoJournal
+        ensures { result ≡ NoJournal.NoMemory }
+    {
         NoJournal::NoMemory
     }
 }
 
 impl From<AllocError> for NoJournal {
-    fn from(_: AllocError) -> NoJournal {
+    fn from(_: AllocError) -> NoJournal
+        ensures { result ≡ NoJournal.NoMemory }
+    {
         NoJournal::NoMemory
     }
 }
@@ -152,13 +156,9 @@ where
     let jobs = seated::<K, V, Q, J, C>(alloc, clients)?;
     let ended = run_all(rt, &map, jobs)?;
     let (outs, seats) = parted(alloc, ended)?;
-    let Ok(closed) = map.close(seats) else {
+    let Ok(closed) = closed_under(map, limits, seats) else {
         return Err(NoJournal::Torn);
     };
-    // A lock's type tells nothing of the limits of what lies under it, so they are looked at here.
-    if closed.table.limits() != limits {
-        return Err(NoJournal::Torn);
-    }
     Ok((outs, closed))
 }
 

@@ -1,8 +1,11 @@
 //! A map with its seats, lent to whoever uses it.
-ghost use Rattle.std.specs.Prelude.{◌≡◌, ◌≤◌, ℕ, IfErr, IfOk, vec_len};
+ghost use Rattle.std.specs.Prelude.{◌≡◌, ◌≤◌, ℕ, IfErr, IfOk, List, vec_len};
 ghost use Rattle.std.specs.Thread.{IsSync};
-ghost use Rattle.locked_map.specs.Seats.{AllFresh};
+ghost use Rattle.handles.specs.Views.{machine};
+ghost use Rattle.locked_map.specs.Closings.{IsClosedWith};
+ghost use Rattle.locked_map.specs.Seats.{AllFresh, Seated};
 
+use crate::closed::{Closed, Torn};
 use crate::room::{Entries, Room};
 use crate::seat::Seat;
 use crate::shared_map::SharedMap;
@@ -20,37 +23,43 @@ pub const MOST_SEATS: u32 = 64;
 
 /// What is done with a map, whichever map it is.
 pub trait Use<K: PathKey, V: Eq, Q: Asks<K, V>> {
+    ghost use Rattle.bulk_ops.specs.Answers as plain;
+
     /// What it comes to.
     type Out;
 
     /// What it asks of its caller, with this number of seats.
     ghost needs: { Self → ℕ → Type 0 };
 
-    /// What it tells its caller.
-    ghost gives: { Self → Self.Out → Type 0 };
+    /// What it tells its caller of the seats that it leaves, and of what it comes to.
+    ghost gives: { Self → List (Seated K V Q (plain.Told K V Q.Item)) → Self.Out → Type 0 };
 
-    /// Does it, with the map and all its seats, which have filed nothing yet.
+    /// Does it, with the map and all its seats, which have filed nothing yet. The map is closed with the seats that it
+    /// leaves.
     fn run<J: Room + Send + Sync, R: Threads + Wait + Sync>(
         self,
         rt: &R,
         alloc: Global,
-        map: SharedMap<K, V, Q, J>,
-        seats: Vec<Seat<K, V, Q, J>>,
+        map: &SharedMap<K, V, Q, J>,
+        seats: &mut Vec<Seat<K, V, Q, J>>,
     ) -> Self::Out
         requires sync { IsSync R.row }
-        requires needs { needs self (vec_len seats) }
-        requires fresh { AllFresh seats.items }
-        ensures { gives self result };
+        requires needs { needs self (vec_len seats.old) }
+        requires fresh { AllFresh seats.old.items }
+        ensures gives { gives self seats.new.items result };
 }
 
-/// Makes a map with this number of seats, and lends it to the user. For want of memory the user comes back.
+/// Makes a map with this number of seats, lends it to the user, and closes it with the seats that the user leaves. It gives
+/// what the user came to, and the journal with the table that it leads to; that is `Torn` where `SharedMap::close` is.
+///
+/// For want of memory the user comes back, and has done nothing.
 pub fn with<K, V, Q, U, R>(
     rt: &R,
     alloc: Global,
     seats: u32,
     limits: Limits,
     user: U,
-) -> Result<U::Out, (NoMemory, U)>
+) -> Result<(U::Out, Result<Closed<K, V, Q>, Torn>), (NoMemory, U)>
 where
     K: PathKey + Drop,
     V: Eq + Drop,
@@ -64,7 +73,7 @@ where
     requires least_seats { 1 ≤ seats }
     requires most_seats { seats ≤ MOST_SEATS }
     requires needs { U.needs user seats }
-    ensures out { IfOk result (U.gives user) }
+    ensures used { IfOk result (λ r. (seats : List _) × U.gives user seats r.0 × IfOk r.1 (λ c. IsClosedWith (machine K.cmp V.eq Q.target_of Q.answered) limits seats c.journal c.table)) }
     ensures back { IfErr result (λ e. e.1 ≡ user) }
 {
     let Ok(entries) = Entries::new(alloc) else {
@@ -81,7 +90,7 @@ fn lent<K, V, Q, J, U, R>(
     seats: u32,
     limits: Limits,
     user: U,
-) -> Result<U::Out, (NoMemory, U)>
+) -> Result<(U::Out, Result<Closed<K, V, Q>, Torn>), (NoMemory, U)>
 where
     K: PathKey + Drop,
     V: Eq + Drop,
@@ -95,16 +104,38 @@ where
     requires least_entries { 2 ≤ limits.entries }
     requires most_entries { limits.entries ≤ MOST_ENTRIES }
     requires needs { U.needs user seats }
-    ensures out { IfOk result (U.gives user) }
+    ensures used { IfOk result (λ r. (seats : List _) × U.gives user seats r.0 × IfOk r.1 (λ c. IsClosedWith (machine K.cmp V.eq Q.target_of Q.answered) limits seats c.journal c.table)) }
     ensures back { IfErr result (λ e. e.1 ≡ user) }
 {
-    let Ok(seats) = fresh_seats(alloc, seats) else {
+    let Ok(mut seats) = fresh_seats(alloc, seats) else {
         return Err((NoMemory, user));
     };
     let Ok(map) = SharedMap::<K, V, Q, J>::new(alloc, entries, limits) else {
         return Err((NoMemory, user));
     };
-    Ok(user.run(rt, alloc, map, seats))
+    let out = user.run(rt, alloc, &map, &mut seats);
+    Ok((out, closed_under(map, limits, seats)))
+}
+
+/// Closes the map that was made under these limits.
+pub(crate) fn closed_under<K, V, Q, J>(
+    map: SharedMap<K, V, Q, J>,
+    limits: Limits,
+    seats: Vec<Seat<K, V, Q, J>>,
+) -> Result<Closed<K, V, Q>, Torn>
+where
+    K: PathKey + Drop,
+    V: Eq + Drop,
+    Q: Asks<K, V> + Drop,
+    J: Room,
+    ensures { IfOk result (λ c. IsClosedWith (machine K.cmp V.eq Q.target_of Q.answered) limits seats.items c.journal c.table) }
+{
+    let closed = map.close(seats)?;
+    // A lock's type tells nothing of the limits of what lies under it, so they are looked at here.
+    if closed.table.limits() != limits {
+        return Err(Torn);
+    }
+    Ok(closed)
 }
 
 // Seats with the numbers from 0.

@@ -26,10 +26,10 @@ impl Sign {
         self.given.store(true, Ordering::SeqCst);
     }
 
-    // Waits until it is given. Where the turns run out, it is missed.
+    // Waits until it is given. Where the turns run out, it is missed, and nobody waits for it any more.
     fn wait(&self) {
         for _ in 0..MOST_TURNS {
-            if self.given.load(Ordering::SeqCst) {
+            if self.given.load(Ordering::SeqCst) || self.is_missed() {
                 return;
             }
             thread::yield_now();

@@ -1,7 +1,7 @@
 //! A value that is made where there is none.
 ghost use Rattle.std.specs.Prelude.{⊤};
 
-use super::entries::{TestClosed, assert_filed, entries_of, value_at};
+use super::entries::{assert_filed, entries_of, value_at};
 use super::making::{get_or_store, make};
 use super::outcomes::Outcome;
 use super::questions::Query;
@@ -24,41 +24,40 @@ type Got = (bool, Result<u64, Refusal>);
 struct Getting;
 
 impl Use<ChosenKey, u64, Query> for Getting {
-    type Out = Result<(Vec<Got>, Option<TestClosed>), Refusal>;
+    type Out = Result<Vec<Got>, Refusal>;
 
     ghost needs = { λ _ _. ⊤ };
 
-    ghost gives = { λ _ _. ⊤ };
+    ghost gives = { λ _ _ _. ⊤ };
 
     fn run<J: Room + Send + Sync, R: Threads + Wait + Sync>(
         self,
         rt: &R,
         alloc: Global,
-        map: SharedMap<ChosenKey, u64, Query, J>,
-        mut seats: Vec<Seat<ChosenKey, u64, Query, J>>,
-    ) -> Result<(Vec<Got>, Option<TestClosed>), Refusal>
-        ensures { ⊤ }
-    {
+        map: &SharedMap<ChosenKey, u64, Query, J>,
+        seats: &mut Vec<Seat<ChosenKey, u64, Query, J>>,
+    ) -> Result<Vec<Got>, Refusal> {
         let Some(seat) = seats.first_mut() else {
             return Err(Refusal::NoWorker);
         };
         let mut tickets = Vec::new(alloc);
         for request in [open(1), put(A, 9)] {
-            make(rt, alloc, &map, seat, &mut tickets, request)?;
+            make(rt, alloc, map, seat, &mut tickets, request)?;
         }
         let mut got = Vec::new(alloc);
         for (handle, key) in [(1, A), (1, B), (2, A)] {
-            got.push(get_or_store(rt, alloc, &map, seat, handle, key, 7)?)?;
+            got.push(get_or_store(rt, alloc, map, seat, handle, key, 7)?)?;
         }
-        Ok((got, map.close(seats).ok()))
+        Ok(got)
     }
 }
 
 #[test]
 fn a_value_is_made_only_for_an_absent_key(rt: HostRuntime) -> Result<(), Fail> {
     let out = with(&rt, rt.alloc(), 1, LARGEST, Getting);
-    let (got, closed) = out.ok().ok_or("a map is made")??;
-    let closed = closed.ok_or("the map is closed")?;
+    let (out, closed) = out.ok().ok_or("a map is made")?;
+    let got = out?;
+    let closed = closed.ok().ok_or("the map is closed")?;
     let answers = [
         (false, Ok(9)),
         (true, Ok(7)),

@@ -1,7 +1,7 @@
 //! Calls with requests for memory refused: the first, the second and so on, until a call meets no refusal.
 ghost use Rattle.std.specs.Prelude.{⊤};
 
-use super::entries::{TestClosed, entries_of};
+use super::entries::entries_of;
 use super::making::{TestMap, TestSeat, TestTicket, make, taken};
 use super::model::assert_replayed;
 use super::questions::{ALL, EVEN, Query, Question, query_of, worked};
@@ -74,50 +74,45 @@ struct Wanting {
     tried: Tried,
 }
 
-// How often what was tried was refused, and what is left of the map where it was closed.
-type Wanted = (u32, Option<TestClosed>);
-
 impl Use<ChosenKey, u64, Query> for Wanting {
-    type Out = Result<Wanted, Refusal>;
+    type Out = Result<u32, Refusal>;
 
     ghost needs = { λ _ _. ⊤ };
 
-    ghost gives = { λ _ _. ⊤ };
+    ghost gives = { λ _ _ _. ⊤ };
 
     fn run<J: Room + Send + Sync, R: Threads + Wait + Sync>(
         self,
         rt: &R,
         alloc: Global,
-        map: SharedMap<ChosenKey, u64, Query, J>,
-        mut seats: Vec<Seat<ChosenKey, u64, Query, J>>,
-    ) -> Result<Wanted, Refusal>
-        ensures { ⊤ }
-    {
+        map: &SharedMap<ChosenKey, u64, Query, J>,
+        seats: &mut Vec<Seat<ChosenKey, u64, Query, J>>,
+    ) -> Result<u32, Refusal> {
         let Some(seat) = seats.first_mut() else {
             return Err(Refusal::NoWorker);
         };
         let mut tickets = Vec::new(alloc);
         for request in self.before {
-            make(rt, alloc, &map, seat, &mut tickets, request)?;
+            make(rt, alloc, map, seat, &mut tickets, request)?;
         }
         let refused = match self.tried {
-            Tried::GetOrStore(key, value) => get_or_store(rt, alloc, &map, seat, key, value)?,
-            Tried::Ask(Request::Call(plain)) => call(rt, alloc, &map, seat, plain)?,
-            Tried::Ask(Request::View(handle)) => view(rt, alloc, &map, seat, handle)?,
+            Tried::GetOrStore(key, value) => get_or_store(rt, alloc, map, seat, key, value)?,
+            Tried::Ask(Request::Call(plain)) => call(rt, alloc, map, seat, plain)?,
+            Tried::Ask(Request::View(handle)) => view(rt, alloc, map, seat, handle)?,
             Tried::Ask(Request::Freeze(handle, question)) => {
-                freeze(rt, alloc, &map, seat, handle, question)?
+                freeze(rt, alloc, map, seat, handle, question)?
             }
             Tried::Ask(Request::Finish(job)) => {
                 let ticket = taken(&mut tickets, job).ok_or(Refusal::NoJob)?;
                 let part = worked(alloc, ticket.view(), ticket.query())?;
-                finish(rt, alloc, &map, seat, ticket, part)?
+                finish(rt, alloc, map, seat, ticket, part)?
             }
             Tried::Ask(Request::Abandon(job)) => {
                 let ticket = taken(&mut tickets, job).ok_or(Refusal::NoJob)?;
-                abandon(rt, alloc, &map, seat, ticket)?
+                abandon(rt, alloc, map, seat, ticket)?
             }
         };
-        Ok((refused, map.close(seats).ok()))
+        Ok(refused)
     }
 }
 
@@ -305,9 +300,10 @@ fn assert_refused<R: AllocGlobal + Abort + Threads + Wait + Sync>(
         tried,
     };
     let out = with(rt, alloc, 1, LARGEST, script);
-    let (refused, closed) = out.ok().ok_or("a map is made")??;
+    let (out, closed) = out.ok().ok_or("a map is made")?;
+    let refused = out?;
     assert!(rt; refused > 0, "{tried:?} is never refused");
-    let closed = closed.ok_or("the map is closed")?;
+    let closed = closed.ok().ok_or("the map is closed")?;
     let entries = entries_of(alloc, &closed)?;
     assert_replayed(rt, alloc, LARGEST, &closed, &entries)?;
     let made = entries.len().saturating_sub(before.len());

@@ -54,30 +54,28 @@ struct Script {
 }
 
 impl Use<ChosenKey, u64, Query> for Script {
-    type Out = Result<Played, Refusal>;
+    type Out = Result<Vec<Outcome>, Refusal>;
 
     ghost needs = { λ _ _. ⊤ };
 
-    ghost gives = { λ _ _. ⊤ };
+    ghost gives = { λ _ _ _. ⊤ };
 
     fn run<J: Room + Send + Sync, R: Threads + Wait + Sync>(
         self,
         rt: &R,
         alloc: Global,
-        map: SharedMap<ChosenKey, u64, Query, J>,
-        mut seats: Vec<Seat<ChosenKey, u64, Query, J>>,
-    ) -> Result<Played, Refusal>
-        ensures { ⊤ }
-    {
+        map: &SharedMap<ChosenKey, u64, Query, J>,
+        seats: &mut Vec<Seat<ChosenKey, u64, Query, J>>,
+    ) -> Result<Vec<Outcome>, Refusal> {
         let mut outcomes = Vec::new(alloc);
         let mut tickets = Vec::new(alloc);
         for step in self.steps {
-            if let Some(outcome) = take_step(rt, alloc, &map, &mut seats, &mut tickets, step)? {
+            if let Some(outcome) = take_step(rt, alloc, map, seats, &mut tickets, step)? {
                 outcomes.push(outcome)?;
             }
         }
-        arrange(&mut seats, self.ending);
-        Ok((outcomes, map.close(seats).ok()))
+        arrange(seats, self.ending);
+        Ok(outcomes)
     }
 }
 
@@ -143,7 +141,7 @@ pub fn played<R: AllocGlobal + Abort + Threads + Wait + Sync>(
     let steps = Vec::from_slice(rt.alloc(), steps)?;
     let script = Script { steps, ending };
     match with(rt, rt.alloc(), seats, limits, script) {
-        Ok(out) => Ok(out?),
+        Ok((outcomes, closed)) => Ok((outcomes?, closed.ok())),
         Err(_) => Err(Fail::new("no memory for a map")),
     }
 }

@@ -26,28 +26,26 @@ impl Use<ChosenKey, u64, Query> for Viewing {
 
     ghost needs = { λ _ _. ⊤ };
 
-    ghost gives = { λ _ _. ⊤ };
+    ghost gives = { λ _ _ _. ⊤ };
 
     fn run<J: Room + Send + Sync, R: Threads + Wait + Sync>(
         self,
         rt: &R,
         alloc: Global,
-        map: SharedMap<ChosenKey, u64, Query, J>,
-        mut seats: Vec<Seat<ChosenKey, u64, Query, J>>,
-    ) -> Result<Viewed, Refusal>
-        ensures { ⊤ }
-    {
+        map: &SharedMap<ChosenKey, u64, Query, J>,
+        seats: &mut Vec<Seat<ChosenKey, u64, Query, J>>,
+    ) -> Result<Viewed, Refusal> {
         let Some(seat) = seats.first_mut() else {
             return Err(Refusal::NoWorker);
         };
         let mut told = Vec::new(alloc);
         let mut tickets = Vec::new(alloc);
         for request in [open(1), put(A, 4)] {
-            told.push(make(rt, alloc, &map, seat, &mut tickets, request)?)?;
+            told.push(make(rt, alloc, map, seat, &mut tickets, request)?)?;
         }
         let view = map.view(rt, seat, 1)?;
         for request in [put(A, 5), put(B, 6), drop_handle(1)] {
-            told.push(make(rt, alloc, &map, seat, &mut tickets, request)?)?;
+            told.push(make(rt, alloc, map, seat, &mut tickets, request)?)?;
         }
         Ok((told, view))
     }
@@ -56,7 +54,9 @@ impl Use<ChosenKey, u64, Query> for Viewing {
 #[test]
 fn a_view_outlives_writes_and_its_map(rt: HostRuntime) -> Result<(), Fail> {
     let out = with(&rt, rt.alloc(), 1, LARGEST, Viewing);
-    let (told, view) = out.ok().ok_or("a map is made")??;
+    let (out, closed) = out.ok().ok_or("a map is made")?;
+    let (told, view) = out?;
+    drop(closed);
     let wanted = [
         Outcome::Unit,
         Outcome::Old(None),

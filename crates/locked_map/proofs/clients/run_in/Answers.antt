@@ -1,7 +1,5 @@
 use Rattle.std.proofs.Common.{rules, ◌≡◌, ◌<◌, length, vec_len, slice_index_or, ap, subst, sym, ◌∙◌}
 use Rattle.std.proofs.lemmas.List.{get_or-map, length-map}
-use Rattle.handles.specs.Views.{machine}
-use Rattle.locked_map.specs.Journals.{IsLegal}
 use Rattle.locked_map.specs.Seats.{pairs}
 use Rattle.locked_map.proofs.Seating.{moved, some_of}
 use Rattle.locked_map.proofs.clients.run_in.Goals as goal
@@ -29,13 +27,12 @@ returns-clause-each g c k client o h =
     let counted : k < vec_len c.in_ok-ended.ended = subst (λ n. k < n) (sym c.in_ok-ended.ensures.len) begun in
     let back : k < length ended = search rules in
     let held : k < length c.in_ok-outs.seats.items = subst (λ n. k < n) (sym (ap length seats ∙ length-map ended (λ e. e.seat))) back in
-    let filed : k < vec_len c.in_ok-outs.seats = search rules in
     let e = some_of ended k back in
     let b = some_of jobs k there in
     let s = e.seat in
     moved g.C.Client.gives _ _ _ _ _ _
     (sym (get_or-map (λ b. b.client) jobs k b client there) ∙ ap (λ xs. slice_index_or xs k client) same)
-    (ap (λ x. pairs x.list) (sym (get_or-map (λ e. e.seat) ended k e s back) ∙ ap (λ xs. slice_index_or xs k s) (sym seats)) ∙ sym (c.in-Ok.ensures.own k s filed))
+    (ap (λ x. pairs x.list) (sym (get_or-map (λ e. e.seat) ended k e s back) ∙ ap (λ xs. slice_index_or xs k s) (sym seats)) ∙ sym (c.in-Ok.ensures.each k s held))
     (sym (get_or-map (λ e. e.out) ended k e o back) ∙ ap (λ xs. slice_index_or xs k o) (sym outs))
     (c.in_ok-ended.ensures.each k b e begun)
 
@@ -50,9 +47,4 @@ returns-clause-seats g c k d h =
     let begins : vec_len c.in_ok-jobs.jobs ≡ length jobs = search rules in
     let clients : length c.args.clients.items ≡ vec_len c.args.clients = search rules in
     let all : vec_len c.in_ok-outs.seats ≡ vec_len c.args.clients = seats ∙ back ∙ ends ∙ c.in_ok-ended.ensures.len ∙ begins ∙ begun ∙ clients in
-    subst (λ n. (slice_index_or c.in-Ok.closed.journal k d).seat < n) all (c.in-Ok.ensures.seats k d h)
-
-pub returns-clause-legal : goal.returns-clause-legal
-returns-clause-legal g c =
-    let same : c.in-Ok.closed.table.limits ≡ c.args.limits = search rules in
-    subst (λ limits. IsLegal (machine g.K.Ord.cmp g.V.PartialEq.eq g.Q.Asks.target_of g.Q.Asks.answered) limits c.in-Ok.closed.journal c.in-Ok.closed.table) same c.in-Ok.ensures.legal
+    subst (λ n. (slice_index_or c.in-Ok.closed.journal k d).seat < n) (sym seats ∙ all) (c.in-Ok.ensures.known k d h)

@@ -1,0 +1,12 @@
+-- What a map leaves that is closed.
+use Rattle.std.specs.Prelude.{◌≡◌, ℕ, ◌<◌, All, List, length, slice_index_or}
+use Rattle.handles.specs.declared.limits.Limits.{Limits}
+use Rattle.handles.specs.Machine.{Kind, State}
+use Rattle.locked_map.specs.Journals.{Entered, IsLegal, own}
+use Rattle.locked_map.specs.Seats.{Seated, pairs}
+
+-- a map under these limits was closed with these seats: its journal is legal and leads to this state, no entry is of another seat, and those of each seat are what it filed
+pub record IsClosedWith {K V Q A B : Type 0} (kind : Kind K V Q A B) (limits : Limits) (seats : List (Seated K V Q B)) (journal : List (Entered K V Q B)) (t : State K V Q) : Type 0 where
+  pub legal : IsLegal kind limits journal t
+  pub known : All (λ e. e.seat < length seats) journal
+  pub each : (k : ℕ) (s : Seated K V Q B) → k < length seats → own k 0 journal ≡ pairs (slice_index_or seats k s).list
