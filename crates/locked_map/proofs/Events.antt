@@ -39,14 +39,14 @@ module _ {K V Q A I Z : Type 0} (kind : Kind K V Q A (plain.Told K V I)) (t : Sh
 
 module _ {K V Q A I : Type 0} (kind : Kind K V Q A (plain.Told K V I)) (t : Shelves) where
   -- an event that was filed under the lock is what its call adds to the seat
-  pub event_adds : (x y : Standing K V Q (plain.Told K V I)) (n floor next : ℕ) (full : Bool) (unknown : Option ℕ) (fs fs' : List (Filed K V Q I)) (f : Filed K V Q I) (r : Request K V Q) (o : Outcome K V (plain.Told K V I)) (old : Seated K V Q (plain.Told K V I))
+  pub event_adds : (x y : Standing K V Q (plain.Told K V I)) (caller n floor next : ℕ) (full : Bool) (unknown : Option ℕ) (fs fs' : List (Filed K V Q I)) (f : Filed K V Q I) (r : Request K V Q) (o : Outcome K V (plain.Told K V I)) (old : Seated K V Q (plain.Told K V I))
       → record { number = n; floor = floor; list = placed_all fs; full = full; unknown = unknown } ≡ old → fs' ≡ fs ++ f ∷ [] → f.floor ≡ floor → next ≡ f.place + 1
-      → Files kind t x n r o f.token f.place y → Adds old r o (record { number = n; floor = next; list = placed_all fs'; full = full; unknown = unknown })
-  event_adds x y n floor next full unknown fs fs' f r o old view is beside behind files =
+      → caller ≡ n → Files kind t x caller r o f.token f.place y → Adds old r o (record { number = n; floor = next; list = placed_all fs'; full = full; unknown = unknown })
+  event_adds x y caller n floor next full unknown fs fs' f r o old view is beside behind same files =
       let at : ℕ → Seated K V Q (plain.Told K V I) = λ k. record { number = n; floor = k; list = placed_all fs'; full = full; unknown = unknown } in
       let was : Seated K V Q (plain.Told K V I) = record { number = n; floor = floor; list = placed_all fs; full = full; unknown = unknown } in
       subst (λ (s : Seated K V Q (plain.Told K V I)). Adds s r o (at next)) view
-      (filed_adds was (at next) r o f.place files.filed (ap at behind ∙ seat_with_entry n floor full unknown fs fs' f r o is beside files.entry))
+      (filed_adds was (at next) r o f.place files.filed (ap at behind ∙ seat_with_entry n floor full unknown fs fs' f r o is beside (files.entry ∙ ap (λ k. record { seat = k; request = r; outcome = o }) same)))
 
 module _ {K V Q A I : Type 0} (kind : Kind K V Q A (plain.Told K V I)) (t : Shelves) where
   -- the tokens beside open jobs after a freeze, where they stood in an equal list

@@ -1,18 +1,18 @@
 -- What was foreseen is what the table's call then did.
-use Rattle.std.proofs.Common.{◌≡◌, ◌+◌, true, false, None, refl, sym, subst}
+use Rattle.std.proofs.Common.{◌≡◌, ◌+◌, ◌∙◌, true, false, None, Some, ap, refl, sym, subst}
 use Rattle.std.specs.Prelude.{Result, Ok, Err, IfErr, IsErrAnd, if◌then◌else◌}
 use Rattle.versions.specs.declared.refusal.Refusal.{Refusal}
 use Rattle.versions.specs.declared.refusal.Refusal.TheVariants.{NoHandle, Taken, Full, NoJob, Unfinished, NoWorker, TooManyJobs, JournalFull, NoMemory, BadNumber}
 use Rattle.handles.specs.declared.call.Call.{Call}
 use Rattle.handles.specs.declared.call.Call.TheVariants.{Open, Snapshot, Drop, On}
-use Rattle.handles.specs.Machine.{Kind, State, Request, is_freeze, job_of, Outcome, refused, is_entry, Step}
+use Rattle.handles.specs.Machine.{Kind, State, Request, is_freeze, job_of, Outcome, made, replied, viewed, frozen, finished, unfinished, refused, refusal, worked, is_entry, Step}
 use Rattle.handles.specs.declared.call_reply.CallReply.{CallReply}
 use Rattle.handles.specs.declared.call_reply.CallReply.TheVariants.{Unit, Reply}
 use Rattle.handles.specs.Views.{IsStep, Foresees, call_outcome, is_counted, lacks_memory, request_of}
 use Rattle.handles.specs.Laws.{ForeseenIsStep, is_settled_by_state}
 use Rattle.locked_map.specs.Answers.{answered, IsUnfiled}
 use Rattle.locked_map.specs.Journals.{is_filed}
-use Rattle.locked_map.proofs.Refusing.{never_unfinished}
+use Rattle.locked_map.proofs.Refusing.{both_ways, never_unfinished}
 
 module _ {K V Q A B : Type 0} (kind : Kind K V Q A B) where
   -- the state that a refusal which is due leaves
@@ -70,12 +70,29 @@ module _ {K V Q A B : Type 0} (kind : Kind K V Q A B) where
   unfiled s r shown NoWorker sees out = cc
   unfiled s r shown TooManyJobs sees out = cc
   unfiled s r shown JournalFull sees out = sees
-  unfiled s r shown NoMemory sees out = tt
+  unfiled s r shown NoMemory sees out = λ e is. both_ways e (refusal kind s r) is sees
   unfiled s r shown BadNumber sees out = cc
 
   -- why what was foreseen makes no entry
   pub unfiled_as_foreseen : {T : Type 0} (s : State K V Q) (r : Request K V Q) (shown : T → Outcome K V B) (a : Result T Refusal) (e : Refusal) → Foresees kind s r shown a → a ≡ Err e → is_entry e ≡ false → IsUnfiled kind s r e
   unfiled_as_foreseen {T = T} s r shown a e sees is out = unfiled s r shown e (subst (λ (x : Result T Refusal). Foresees kind s r shown x) is sees) out
+
+  -- a refusal that is due is that of the step's outcome
+  due_of_step : (s t : State K V Q) (r : Request K V Q) (o : Outcome K V B) → Step kind s r o t → is_filed o ≡ true → (e : Refusal) → refusal kind s r ≡ Some e → is_entry e ≡ true
+  due_of_step s t r (refused f) step filed e is = let both : Some e ≡ Some f = sym is ∙ step.0 in let same : e ≡ f = cc in ap is_entry same ∙ filed
+  due_of_step s t r made step filed e is = both_ways e (refusal kind s r) is step.0
+  due_of_step s t r (replied y) step filed e is = both_ways e (refusal kind s r) is step.0
+  due_of_step s t r (viewed m) step filed e is = both_ways e (refusal kind s r) is step.0
+  due_of_step s t r (frozen j m) step filed e is = both_ways e (refusal kind s r) is step.0
+  due_of_step s t r (finished b) step filed e is = both_ways e (refusal kind s r) is step.0
+  due_of_step s t r unfinished step filed e is = cc
+  due_of_step s t r worked step filed e is = cc
+
+  -- where memory is wanting for what was foreseen, no refusal was due that is no entry
+  pub wanting_as_foreseen : {T : Type 0} (s : State K V Q) (r : Request K V Q) (shown : T → Outcome K V B) (a : Result T Refusal) → ((x : T) → is_filed (shown x) ≡ true) → Foresees kind s r shown a → is_counted a ≡ true → IsUnfiled kind s r NoMemory
+  wanting_as_foreseen s r shown a all sees counts =
+      let step = foreseen_step s r shown a sees counts in
+      due_of_step s step.0 r (answered shown a) step.1 (filed_as_counted shown a all counts)
 
 module _ {K V : Type 0} where
   -- a call is neither a freeze, nor the end of a job

@@ -1,11 +1,11 @@
 -- How what is asked and told appears to the machine.
-use Rattle.std.specs.Prelude.{◌≡◌, Result, Ok, Err, Some}
+use Rattle.std.specs.Prelude.{◌≡◌, Result, Ok, Err, Some, true}
 use Rattle.std.specs.Arc.{arc_value}
 use Rattle.versions.specs.declared.refusal.Refusal.{Refusal}
 use Rattle.versions.specs.declared.refusal.Refusal.TheVariants.{NoJob, JournalFull, NoMemory}
 use Rattle.bulk_ops.specs.Answers as plain
 use Rattle.bulk_ops.specs.Told.{told_of}
-use Rattle.handles.specs.Machine.{Kind, State, Request, view, freeze, finish, abandon, Outcome, made, viewed, frozen, finished, refused, refusal}
+use Rattle.handles.specs.Machine.{Kind, State, Request, view, freeze, finish, abandon, Outcome, made, viewed, frozen, finished, refused, refusal, is_entry}
 use Rattle.handles.specs.Views.{request_of, call_outcome}
 use Rattle.locked_map.specs.declared.asked.Asked.{Asked}
 use Rattle.locked_map.specs.declared.asked.Asked.TheVariants as asks
@@ -39,9 +39,9 @@ abbrev pub answered_or : {K V B T E : Type 0} → (T → Outcome K V B) → (E �
 answered_or shown refusal_in (Ok x) = shown x
 answered_or shown refusal_in (Err e) = refused (refusal_in e)
 
--- why a call makes no entry: memory was wanting, or one of the refusals was due that are no entries
+-- why a call makes no entry: one of the refusals was due that are no entries; or memory was wanting, and none of these was due
 abbrev pub IsUnfiled : {K V Q A B : Type 0} → Kind K V Q A B → State K V Q → Request K V Q → Refusal → Type 0
-IsUnfiled kind s r NoMemory = Unit {0}
+IsUnfiled kind s r NoMemory = (e : Refusal) → refusal kind s r ≡ Some e → is_entry e ≡ true
 IsUnfiled kind s r JournalFull = refusal kind s r ≡ Some JournalFull
 IsUnfiled kind s r NoJob = refusal kind s r ≡ Some NoJob
 IsUnfiled kind s r e = ⊥

@@ -1,5 +1,5 @@
 //! How an event is filed: what was foreseen, the entry's token, and what the event gives.
-ghost use Rattle.std.specs.Prelude.{◌≡◌, ◌<◌, Err, IfErr, IfOk, OnOk, Some, true, false, vec_capacity, vec_len};
+ghost use Rattle.std.specs.Prelude.{◌≡◌, ◌<◌, Err, IfErr, IfOk, IsTrue, OnOk, Some, true, false, vec_capacity, vec_len};
 ghost use Rattle.std.specs.Arc.{arc_value};
 ghost use Rattle.boxcar.specs.Table.{Shows};
 ghost use Rattle.bulk_ops.specs.Answers as plain;
@@ -8,6 +8,7 @@ ghost use Rattle.handles.specs.Views.{is_counted, lacks_memory};
 ghost use Rattle.locked_map.specs.Tokens.{entry_at};
 
 use crate::asked::Asked;
+use crate::caller::Caller;
 use crate::entry::Entry;
 use crate::room::{Entries, Token};
 use crate::told::Told;
@@ -16,7 +17,7 @@ use handles::Table;
 use hash_path::PathKey;
 use std::alloc::Global;
 use std::sync::{Arc, Wait};
-use versions::{NoMemory, Refusal};
+use versions::{NoMemory, Refusal, View};
 
 /// An event that was made and filed: the token of its entry, the entry's place in the journal, and what is answered.
 #[derive(Drop)]
@@ -25,6 +26,12 @@ pub(crate) struct Event<K: PathKey, V, Q, I, A> {
     pub(crate) place: u64,
     pub(crate) answer: A,
 }
+
+/// A freeze that was made and filed, and the token of its entry once more.
+pub(crate) type Opened<K, V, Q, I> = (
+    Event<K, V, Q, I, Result<(u64, View<K, V>), Refusal>>,
+    Arc<Token<K, V, Q, I>>,
+);
 
 /// The answer that was foreseen, where it makes an entry.
 pub(crate) fn to_be_filed<T: Drop>(
@@ -92,22 +99,24 @@ pub(crate) fn placed_finish<K: PathKey + Drop, V: Eq + Drop, Q: Asks<K, V> + Dro
     entries: &Entries<K, V, Q, Q::Item>,
     table: &Table<K, V, Q>,
     journal: &mut Vec<Arc<Token<K, V, Q, Q::Item>>>,
-    seat: u32,
+    caller: Caller,
     job: u64,
     part: &Q::Part,
 ) -> Result<(Arc<Token<K, V, Q, Q::Item>>, Arc<Token<K, V, Q, Q::Item>>), NoMemory>
     requires { (asking : Job K V Q) → job_at table.now job ≡ Some asking → Q.answers asking.query asking.frozen part.now }
+    ensures room { OnOk result (IsTrue caller.has_room) }
     ensures spare { OnOk result (vec_len journal.new < vec_capacity journal.new) }
     ensures items { journal.new.items ≡ journal.old.items }
     ensures shown { IfOk result (λ r. Shows entries.now (arc_value r.0)) }
-    ensures entry { IfOk result (λ r. entry_at r.0 ≡ record { seat = seat; request = finish job; outcome = finished (plain.told (Q.answer_of part.now)) }) }
+    ensures entry { IfOk result (λ r. entry_at r.0 ≡ record { seat = caller.seat; request = finish job; outcome = finished (plain.told (Q.answer_of part.now)) }) }
     ensures same { IfOk result (λ r. arc_value r.1 ≡ arc_value r.0) }
 {
+    caller.room()?;
     // the job is open: only memory may be wanting
     let Ok(answer) = table.foresee_finish(job, part) else {
         return Err(NoMemory);
     };
     journal.reserve(1)?;
-    let entry = Entry::new(seat, Asked::Finish(job), Told::Answer(answer));
+    let entry = Entry::new(caller.seat, Asked::Finish(job), Told::Answer(answer));
     placed(rt, alloc, entries, entry)
 }

@@ -7,6 +7,7 @@
 #![tactic(auto)]
 
 mod asked;
+mod caller;
 mod clients;
 mod closed;
 mod closing;

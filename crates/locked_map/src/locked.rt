@@ -1,5 +1,5 @@
 //! What lies under the lock.
-ghost use Rattle.std.specs.Prelude.{◌≡◌, ◌≤◌, ◌<◌, ◌+◌, ◌^◌, ◌⊎◌, ◌++◌, ◌∷◌, [], IfErr, IfOk, IsTrue, MatchResult, OnErr, OnOk, Some, filter, vec_capacity, vec_len};
+ghost use Rattle.std.specs.Prelude.{◌≡◌, ◌≤◌, ◌<◌, ◌+◌, ◌^◌, ◌⊎◌, ◌++◌, ◌∷◌, [], IfErr, IfOk, IsTrue, MatchResult, OnErr, OnOk, Some, filter, true, vec_capacity, vec_len};
 ghost use Rattle.std.specs.Arc.{arc_value};
 ghost use Rattle.boxcar.specs.Table.{Shows};
 ghost use Rattle.bulk_ops.specs.Answers as plain;
@@ -11,17 +11,17 @@ ghost use Rattle.locked_map.specs.Journals.{IsLegal};
 ghost use Rattle.locked_map.specs.Kept.{Files, WasOpenedBy, is_other, opened_by};
 ghost use Rattle.locked_map.specs.Tokens.{AllShown, entries_of};
 
-use crate::asked::{Asked, copy_of_call};
+mod filed_calls;
+
+use crate::asked::Asked;
+use crate::caller::Caller;
 use crate::entry::Entry;
-use crate::filing::{Event, lacks_memory, placed, placed_finish, to_be_filed};
+use crate::filing::{Event, Opened, placed, placed_finish, to_be_filed};
 use crate::frozen::{Frozen, beside, close};
 use crate::room::{Entries, Room, Token};
-use crate::told::{Told, told_of_call, told_of_freeze, told_of_view};
+use crate::told::Told;
 use bulk_ops::{Answer, Asks};
-use handles::{
-    Call, CallReply, Limits, MOST_ENTRIES, Table, law_of_foresight, law_of_freezes,
-    law_of_open_jobs,
-};
+use handles::{Call, CallReply, Limits, MOST_ENTRIES, Table};
 use hash_path::PathKey;
 use std::alloc::Global;
 use std::marker::{Model, PhantomData};
@@ -72,158 +72,118 @@ impl<K: PathKey + Drop, V: Eq + Drop, Q: Asks<K, V> + Drop, J: Room> Locked<K, V
 
     /// Makes the call, and files it.
     ///
-    /// It makes no entry where it is refused as `JournalFull` or `NoMemory`, and leaves all as it was then.
-    #[tactic(auto, using(crate::proofs::Foresight::unfiled_as_foreseen))]
+    /// It makes no entry where it is refused as `JournalFull` or `NoMemory`, and leaves all as it was then. It is refused as
+    /// `NoMemory` only where no other refusal that is no entry is due.
     pub(crate) fn call<R: Wait>(
         &mut self,
         rt: &R,
         alloc: Global,
         entries: &Entries<K, V, Q, Q::Item>,
-        seat: u32,
+        caller: Caller,
         call: Call<K, V>,
     ) -> Result<Event<K, V, Q, Q::Item, Result<CallReply<V>, Refusal>>, Refusal>
         requires { entries.now ≡ J.table }
-        ensures filed { IfOk result (λ e. Files (machine K.cmp V.eq Q.target_of Q.answered) J.table self.old seat (request_of call) (answered call_outcome e.answer) e.token e.place self.new) }
+        ensures filed { IfOk result (λ e. Files (machine K.cmp V.eq Q.target_of Q.answered) J.table self.old caller.seat (request_of call) (answered call_outcome e.answer) e.token e.place self.new) }
         ensures shown { IfOk result (λ e. Shows J.table (arc_value e.token)) }
         ensures fits { IfOk result (λ e. e.place + 1 < 2 ^ 64) }
+        ensures room { OnOk result (IsTrue caller.has_room) }
         ensures unfiled { IfErr result (λ e. IsUnfiled (machine K.cmp V.eq Q.target_of Q.answered) self.old.state (request_of call) e) }
         ensures err { OnErr result (self.new ≡ self.old) }
     {
         let answer = to_be_filed(self.table.foresee_serve(&call))?;
-        let told = told_of_call(&answer)?;
-        let asked = Asked::Call(copy_of_call::<K, V, Q>(&call)?);
-        self.journal.reserve(1)?;
-        let place = self.journal.len() as u64;
-        let (token, mine) = placed(rt, alloc, entries, Entry::new(seat, asked, told))?;
-        if lacks_memory(&self.table.serve(alloc, call)) {
-            return Err(Refusal::NoMemory);
+        match self.file_call(rt, alloc, entries, caller, call, answer) {
+            Ok(event) => Ok(event),
+            Err(NoMemory) => Err(Refusal::NoMemory),
         }
-        law_of_foresight::<K, V, Q>();
-        law_of_open_jobs::<K, V, Q>();
-        self.journal.push_reserved(mine);
-        Ok(Event {
-            token,
-            place,
-            answer,
-        })
     }
 
     /// Shows the map of the handle, and files that.
     ///
-    /// It makes no entry where it is refused as `JournalFull` or `NoMemory`, and leaves all as it was then.
-    #[tactic(auto, using(crate::proofs::Foresight::unfiled_as_foreseen))]
+    /// It makes no entry where it is refused as `JournalFull` or `NoMemory`, and leaves all as it was then. It is refused as
+    /// `NoMemory` only where no other refusal that is no entry is due.
     pub(crate) fn view<R: Wait>(
         &mut self,
         rt: &R,
         alloc: Global,
         entries: &Entries<K, V, Q, Q::Item>,
-        seat: u32,
+        caller: Caller,
         handle: u32,
     ) -> Result<Event<K, V, Q, Q::Item, Result<View<K, V>, Refusal>>, Refusal>
         requires { entries.now ≡ J.table }
-        ensures filed { IfOk result (λ e. Files (machine K.cmp V.eq Q.target_of Q.answered) J.table self.old seat (view handle) (answered view_outcome e.answer) e.token e.place self.new) }
+        ensures filed { IfOk result (λ e. Files (machine K.cmp V.eq Q.target_of Q.answered) J.table self.old caller.seat (view handle) (answered view_outcome e.answer) e.token e.place self.new) }
         ensures shown { IfOk result (λ e. Shows J.table (arc_value e.token)) }
         ensures fits { IfOk result (λ e. e.place + 1 < 2 ^ 64) }
+        ensures room { OnOk result (IsTrue caller.has_room) }
         ensures unfiled { IfErr result (λ e. IsUnfiled (machine K.cmp V.eq Q.target_of Q.answered) self.old.state (view handle) e) }
         ensures err { OnErr result (self.new ≡ self.old) }
     {
         let answer = to_be_filed(self.table.foresee_view(handle))?;
-        let told = told_of_view(&answer)?;
-        self.journal.reserve(1)?;
-        let place = self.journal.len() as u64;
-        let entry = Entry::new(seat, Asked::View(handle), told);
-        let (token, mine) = placed(rt, alloc, entries, entry)?;
-        if lacks_memory(&self.table.view(handle)) {
-            return Err(Refusal::NoMemory);
+        match self.file_view(rt, alloc, entries, caller, handle, answer) {
+            Ok(event) => Ok(event),
+            Err(NoMemory) => Err(Refusal::NoMemory),
         }
-        law_of_foresight::<K, V, Q>();
-        law_of_open_jobs::<K, V, Q>();
-        self.journal.push_reserved(mine);
-        Ok(Event {
-            token,
-            place,
-            answer,
-        })
     }
 
     /// Opens a job with the query on the handle's map, and files that. The token of its entry stands beside the job, and
     /// is given once more.
     ///
-    /// It makes no entry where it is refused as `JournalFull` or `NoMemory`, and leaves all as it was then.
-    #[tactic(auto, using(crate::proofs::Foresight::unfiled_as_foreseen))]
+    /// It makes no entry where it is refused as `JournalFull` or `NoMemory`, and leaves all as it was then. It is refused as
+    /// `NoMemory` only where no other refusal that is no entry is due.
     pub(crate) fn freeze<R: Wait>(
         &mut self,
         rt: &R,
         alloc: Global,
         entries: &Entries<K, V, Q, Q::Item>,
-        seat: u32,
+        caller: Caller,
         handle: u32,
         query: Arc<Q>,
-    ) -> Result<
-        (
-            Event<K, V, Q, Q::Item, Result<(u64, View<K, V>), Refusal>>,
-            Arc<Token<K, V, Q, Q::Item>>,
-        ),
-        Refusal,
-    >
+    ) -> Result<Opened<K, V, Q, Q::Item>, Refusal>
         requires { entries.now ≡ J.table }
-        ensures filed { IfOk result (λ r. Files (machine K.cmp V.eq Q.target_of Q.answered) J.table self.old seat (freeze handle query.value) (answered frozen_outcome r.0.answer) r.0.token r.0.place self.new) }
+        ensures filed { IfOk result (λ r. Files (machine K.cmp V.eq Q.target_of Q.answered) J.table self.old caller.seat (freeze handle query.value) (answered frozen_outcome r.0.answer) r.0.token r.0.place self.new) }
         ensures shown { IfOk result (λ r. Shows J.table (arc_value r.0.token) × (arc_value r.1 ≡ arc_value r.0.token)) }
         ensures fits { IfOk result (λ r. r.0.place + 1 < 2 ^ 64) }
+        ensures room { OnOk result (IsTrue caller.has_room) }
         ensures unfiled { IfErr result (λ e. IsUnfiled (machine K.cmp V.eq Q.target_of Q.answered) self.old.state (freeze handle query.value) e) }
         ensures err { OnErr result (self.new ≡ self.old) }
     {
         let answer = to_be_filed(self.table.foresee_freeze(handle, &query))?;
-        let told = told_of_freeze(&answer)?;
-        let asked = Asked::Freeze(handle, Arc::try_clone(&query)?);
-        self.journal.reserve(1)?;
-        self.freezes.reserve(1)?;
-        let place = self.journal.len() as u64;
-        let (token, mine) = placed(rt, alloc, entries, Entry::new(seat, asked, told))?;
-        let opener = Arc::try_clone(&token)?;
-        let again = Arc::try_clone(&token)?;
-        if lacks_memory(&self.table.freeze(handle, query)) {
-            return Err(Refusal::NoMemory);
+        match self.file_freeze(rt, alloc, entries, caller, handle, query, answer) {
+            Ok(made) => Ok(made),
+            Err(NoMemory) => Err(Refusal::NoMemory),
         }
-        law_of_foresight::<K, V, Q>();
-        law_of_freezes::<K, V, Q>();
-        set_beside(&mut self.freezes, &answer, opener);
-        self.journal.push_reserved(mine);
-        let event = Event {
-            token,
-            place,
-            answer,
-        };
-        Ok((event, again))
     }
 
     /// Closes the job without an answer, where it was opened by the entry of this token, and files that.
     ///
-    /// It makes no entry where it is refused as `NoJob` or `NoMemory`, and leaves all as it was then.
+    /// It makes no entry where it is refused as `NoJob` or `NoMemory`, and leaves all as it was then. It is refused as
+    /// `NoMemory` only where that entry opened the job.
     pub(crate) fn abandon<R: Wait>(
         &mut self,
         rt: &R,
         alloc: Global,
         entries: &Entries<K, V, Q, Q::Item>,
-        seat: u32,
+        caller: Caller,
         job: u64,
         opener: &Token<K, V, Q, Q::Item>,
     ) -> Result<Event<K, V, Q, Q::Item, ()>, Refusal>
         requires table { entries.now ≡ J.table }
         requires shown { Shows J.table opener.now }
-        ensures filed { IfOk result (λ e. Files (machine K.cmp V.eq Q.target_of Q.answered) J.table self.old seat (abandon job) made e.token e.place self.new) }
+        ensures filed { IfOk result (λ e. Files (machine K.cmp V.eq Q.target_of Q.answered) J.table self.old caller.seat (abandon job) made e.token e.place self.new) }
         ensures shown { IfOk result (λ e. Shows J.table (arc_value e.token)) }
         ensures fits { IfOk result (λ e. e.place + 1 < 2 ^ 64) }
         ensures opened { OnOk result (WasOpenedBy self.old.state job opener.now.value) }
+        ensures room { OnOk result (IsTrue caller.has_room) }
         ensures unfiled { IfErr result (λ e. (e ≡ Refusal.NoJob) ⊎ (e ≡ Refusal.NoMemory)) }
+        ensures due { IfErr result (λ e. e ≡ Refusal.NoMemory → WasOpenedBy self.old.state job opener.now.value) }
         ensures err { OnErr result (self.new ≡ self.old) }
     {
         if !self.was_opened_by(entries, job, opener) {
             return Err(Refusal::NoJob);
         }
+        caller.room()?;
         self.journal.reserve(1)?;
         let place = self.journal.len() as u64;
-        let entry = Entry::new(seat, Asked::Abandon(job), Told::Abandoned);
+        let entry = Entry::new(caller.seat, Asked::Abandon(job), Told::Abandoned);
         let (token, mine) = placed(rt, alloc, entries, entry)?;
         // the job is open, so that nothing is refused
         let _ = self.table.abandon(job);
@@ -239,13 +199,13 @@ impl<K: PathKey + Drop, V: Eq + Drop, Q: Asks<K, V> + Drop, J: Room> Locked<K, V
     /// Closes the job by the part's answer, where it was opened by the entry of this token, and files that.
     ///
     /// It makes no entry where it is refused as `NoJob` or `NoMemory`. It hands the part back then, and leaves all as it
-    /// was.
+    /// was. It is refused as `NoMemory` only where that entry opened the job.
     pub(crate) fn finish<R: Wait>(
         &mut self,
         rt: &R,
         alloc: Global,
         entries: &Entries<K, V, Q, Q::Item>,
-        seat: u32,
+        caller: Caller,
         job: u64,
         opener: &Token<K, V, Q, Q::Item>,
         part: Q::Part,
@@ -253,12 +213,14 @@ impl<K: PathKey + Drop, V: Eq + Drop, Q: Asks<K, V> + Drop, J: Room> Locked<K, V
         requires table { entries.now ≡ J.table }
         requires shown { Shows J.table opener.now }
         requires part { (asking : Job K V Q) → opened_by opener.now.value ≡ Some (job, asking) → Q.answers asking.query asking.frozen part }
-        ensures filed { IfOk result (λ e. Files (machine K.cmp V.eq Q.target_of Q.answered) J.table self.old seat (finish job) (finished_outcome e.answer) e.token e.place self.new) }
+        ensures filed { IfOk result (λ e. Files (machine K.cmp V.eq Q.target_of Q.answered) J.table self.old caller.seat (finish job) (finished_outcome e.answer) e.token e.place self.new) }
         ensures shown { IfOk result (λ e. Shows J.table (arc_value e.token)) }
         ensures fits { IfOk result (λ e. e.place + 1 < 2 ^ 64) }
         ensures opened { OnOk result (WasOpenedBy self.old.state job opener.now.value) }
+        ensures room { OnOk result (IsTrue caller.has_room) }
         ensures told { IfOk result (λ e. told_of e.answer ≡ plain.told (Q.answer_of part)) }
         ensures unfiled { IfErr result (λ e. (e.0 ≡ Refusal.NoJob) ⊎ (e.0 ≡ Refusal.NoMemory)) }
+        ensures due { IfErr result (λ e. e.0 ≡ Refusal.NoMemory → WasOpenedBy self.old.state job opener.now.value) }
         ensures back { IfErr result (λ e. e.1 ≡ part) }
         ensures err { OnErr result (self.new ≡ self.old) }
     {
@@ -267,7 +229,7 @@ impl<K: PathKey + Drop, V: Eq + Drop, Q: Asks<K, V> + Drop, J: Room> Locked<K, V
         }
         let place = self.journal.len() as u64;
         let journal = &mut self.journal;
-        let placed = placed_finish(rt, alloc, entries, &self.table, journal, seat, job, &part);
+        let placed = placed_finish(rt, alloc, entries, &self.table, journal, caller, job, &part);
         let Ok((token, mine)) = placed else {
             return Err((Refusal::NoMemory, part));
         };

@@ -12,6 +12,7 @@ ghost use Rattle.locked_map.specs.Tickets.{ticket_outcome};
 
 mod get_or_else;
 
+use crate::caller::Caller;
 use crate::closed::{Closed, Torn};
 use crate::closing::{are_borne_out, are_of_seats};
 use crate::filed::file;
@@ -71,12 +72,11 @@ impl<K: PathKey + Drop, V: Eq + Drop, Q: Asks<K, V> + Drop, J: Room> SharedMap<K
         ensures adds { Adds seat.old (request_of call) (answered call_outcome result) seat.new }
         ensures told { IfOk result (λ reply. MayBeTold (machine K.cmp V.eq Q.target_of Q.answered) (request_of call) (call_outcome reply)) }
     {
-        seat.list.reserve(1)?;
-        let number = seat.number;
+        let caller = Caller::new(seat.number, &mut seat.list);
         let made = self
             .locked
             .lock(rt)
-            .call(rt, self.alloc, &self.entries, number, call);
+            .call(rt, self.alloc, &self.entries, caller, call);
         match made {
             Ok(
                 Event {
@@ -104,12 +104,11 @@ impl<K: PathKey + Drop, V: Eq + Drop, Q: Asks<K, V> + Drop, J: Room> SharedMap<K
     ) -> Result<View<K, V>, Refusal>
         ensures { Adds seat.old (view handle) (answered view_outcome result) seat.new }
     {
-        seat.list.reserve(1)?;
-        let number = seat.number;
+        let caller = Caller::new(seat.number, &mut seat.list);
         let made = self
             .locked
             .lock(rt)
-            .view(rt, self.alloc, &self.entries, number, handle);
+            .view(rt, self.alloc, &self.entries, caller, handle);
         match made {
             Ok(
                 Event {
@@ -139,13 +138,12 @@ impl<K: PathKey + Drop, V: Eq + Drop, Q: Asks<K, V> + Drop, J: Room> SharedMap<K
         ensures adds { Adds seat.old (freeze handle query.value) (answered ticket_outcome result) seat.new }
         ensures query { IfOk result (λ ticket. ticket.query ≡ query.value) }
     {
-        seat.list.reserve(1)?;
         let kept = Arc::try_clone(&query)?;
-        let number = seat.number;
+        let caller = Caller::new(seat.number, &mut seat.list);
         let made = self
             .locked
             .lock(rt)
-            .freeze(rt, self.alloc, &self.entries, number, handle, query);
+            .freeze(rt, self.alloc, &self.entries, caller, handle, query);
         match made {
             Ok(
                 (
@@ -188,15 +186,12 @@ impl<K: PathKey + Drop, V: Eq + Drop, Q: Asks<K, V> + Drop, J: Room> SharedMap<K
         ensures adds { Adds seat.old (abandon ticket.job) (answered_or unit_outcome (λ e. e.0) result) seat.new }
         ensures ticket { IfErr result (λ e. e.1 ≡ ticket) }
     {
-        if seat.list.reserve(1).is_err() {
-            return Err((Refusal::NoMemory, ticket));
-        }
-        let number = seat.number;
+        let caller = Caller::new(seat.number, &mut seat.list);
         let made = self.locked.lock(rt).abandon(
             rt,
             self.alloc,
             &self.entries,
-            number,
+            caller,
             ticket.job,
             &ticket.token,
         );
@@ -236,15 +231,12 @@ impl<K: PathKey + Drop, V: Eq + Drop, Q: Asks<K, V> + Drop, J: Room> SharedMap<K
         ensures ticket { IfErr result (λ e. e.1 ≡ ticket) }
         ensures part { IfErr result (λ e. e.2 ≡ part) }
     {
-        if seat.list.reserve(1).is_err() {
-            return Err((Refusal::NoMemory, ticket, part));
-        }
-        let number = seat.number;
+        let caller = Caller::new(seat.number, &mut seat.list);
         let made = self.locked.lock(rt).finish(
             rt,
             self.alloc,
             &self.entries,
-            number,
+            caller,
             ticket.job,
             &ticket.token,
             part,

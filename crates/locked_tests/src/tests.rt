@@ -1,5 +1,6 @@
 //! What seats of a shared map are told, by hand and beside a plain program.
 mod clients;
+mod due;
 mod ends;
 mod entries;
 mod getting;

@@ -27,21 +27,21 @@ const STEP: usize = 16;
 // How often something is tried at most.
 const TRIES: u32 = 2_048;
 
-// How many entries there are before something is tried: as many as the first bucket of the vector of entries has, and as
-// a seat's list and the journal have room for. So each of them has to grow.
-const ENTRIES: usize = 32;
+/// How many entries there are before something is tried: as many as the first bucket of the vector of entries has, and as
+/// a seat's list and the journal have room for. So each of them has to grow.
+pub const ENTRIES: usize = 32;
 
-// All memory is taken but for some bytes of a block.
+/// All memory is taken but for some bytes of a block.
 #[derive(Drop)]
-struct Shortage {
+pub struct Shortage {
     taken: Vec<Vec<u8>>,
     eaten: Vec<u8>,
     bytes: usize,
 }
 
 impl Shortage {
-    // No memory is left.
-    fn new(alloc: Global) -> Result<Shortage, AllocError> {
+    /// No memory is left.
+    pub fn new(alloc: Global) -> Result<Shortage, AllocError> {
         let eaten = Vec::with_capacity(alloc, BLOCK)?;
         Ok(Shortage {
             taken: take_all(alloc)?,
@@ -256,8 +256,8 @@ fn get_or_store<J: Room, R: Wait>(
     Err(Refusal::NoMemory)
 }
 
-// The first request, what is put for it, and so many sizes that there are as many entries as there are to be.
-fn filled(alloc: Global, first: &[Request]) -> Result<Vec<Request>, AllocError> {
+/// The first request, what is put for it, and so many sizes that there are as many entries as there are to be.
+pub fn filled(alloc: Global, first: &[Request]) -> Result<Vec<Request>, AllocError> {
     let mut requests = Vec::from_slice(alloc, first)?;
     for _ in first.len()..ENTRIES {
         requests.push(on(1, Do::Size))?;

@@ -17,8 +17,8 @@ returns-in-Ok-clause-adds g c =
     let f : Filed g.row.K.Denot g.row.V.Denot g.row.Q.Denot g.row.Q-Item.Denot = record { token = c.in-Ok.field-0.token; place = c.in-Ok.field-0.place; floor = s.floor } in
     let is : c.file.new.list.items ≡ s.list.items ++ f ∷ [] = search rules in
     let after : Seated g.row.K.Denot g.row.V.Denot g.row.Q.Denot (plain.Told g.row.K.Denot g.row.V.Denot g.row.Q-Item.Denot) = record { number = s.number; floor = c.file.new.floor; list = placed_all c.file.new.list.items; full = s.full; unknown = s.unknown } in
-    let adds : Adds c.args.seat.now r (finished (told_of c.in-Ok.field-0.answer)) after = event_adds kind g.J.Room.table _ _ s.number s.floor c.file.new.floor s.full s.unknown s.list.items c.file.new.list.items f r (finished (told_of c.in-Ok.field-0.answer)) c.args.seat.now
-    c.seat.view_is is refl c.file.ensures.floor c.in-Ok.ensures.filed in
+    let adds : Adds c.args.seat.now r (finished (told_of c.in-Ok.field-0.answer)) after = event_adds kind g.J.Room.table _ _ c.new-caller.result.seat s.number s.floor c.file.new.floor s.full s.unknown s.list.items c.file.new.list.items f r (finished (told_of c.in-Ok.field-0.answer)) c.args.seat.now
+    c.seat.view_is is refl c.file.ensures.floor c.new-caller.ensures.seat c.in-Ok.ensures.filed in
     subst (λ t. Adds c.args.seat.now (finish t.job) (finished (told_of c.in-Ok.field-0.answer)) after) c.ticket.view_is adds
 
 pub returns-in-Err-clause-adds : goal.returns-in-Err-clause-adds

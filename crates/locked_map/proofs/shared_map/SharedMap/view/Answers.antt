@@ -14,8 +14,8 @@ returns-in-Ok g c =
     let r : Request g.row.K.Denot g.row.V.Denot g.row.Q.Denot = view c.args.handle in
     let f : Filed g.row.K.Denot g.row.V.Denot g.row.Q.Denot g.row.Q-Item.Denot = record { token = c.in-Ok.field-0.token; place = c.in-Ok.field-0.place; floor = s.floor } in
     let is : c.file.new.list.items ≡ s.list.items ++ f ∷ [] = search rules in
-    event_adds kind g.J.Room.table _ _ s.number s.floor c.file.new.floor s.full s.unknown s.list.items c.file.new.list.items f r (answered view_outcome c.in-Ok.field-0.answer) c.args.seat.now
-    c.seat.view_is is refl c.file.ensures.floor c.in-Ok.ensures.filed
+    event_adds kind g.J.Room.table _ _ c.new-caller.result.seat s.number s.floor c.file.new.floor s.full s.unknown s.list.items c.file.new.list.items f r (answered view_outcome c.in-Ok.field-0.answer) c.args.seat.now
+    c.seat.view_is is refl c.file.ensures.floor c.new-caller.ensures.seat c.in-Ok.ensures.filed
 
 pub returns-in-Err : goal.returns-in-Err
 returns-in-Err g c =
