@@ -16,7 +16,7 @@ use trie_map::TrieMap;
 const CALLS: u32 = 400_000;
 
 /// How many of them are one put and gets else.
-const CALLS_OF_A_PUT: u32 = 10;
+pub const CALLS_OF_A_PUT: u32 = 10;
 
 /// How many threads write while views are taken, and how many views.
 const WRITERS: u32 = 4;
@@ -53,7 +53,7 @@ pub fn mixed<R: Runtime + AllocGlobal + Threads + Wait + Sync>(
 }
 
 /// A key of its own with the same bytes, as a map takes it in.
-fn copied(alloc: Global, key: &ByteText) -> Result<ByteText, Fault> {
+pub fn copied(alloc: Global, key: &ByteText) -> Result<ByteText, Fault> {
     Ok(ByteText::from_slice(alloc, key.as_bytes())?)
 }
 
@@ -78,7 +78,7 @@ fn one_round<R: Runtime + AllocGlobal + Threads + Wait + Sync>(
 }
 
 /// The next number of no order: xorshift.
-fn next(state: u64) -> u64 {
+pub fn next(state: u64) -> u64 {
     let state = state ^ (state << 13);
     let state = state ^ (state >> 7);
     state ^ (state << 17)

@@ -2,12 +2,14 @@
 
 use crate::arguments::{Arguments, arguments_of};
 use crate::fault::Fault;
+use crate::locked::locked_calls;
 use crate::maps::{Map, empty, get_all, keys, put_all, remove_all, shuffled, snapshot_all};
 use crate::memory::{resident_bytes, show_bytes};
 use crate::merges::merge_all;
 use crate::mixed::mixed;
 use crate::questions::{Question, ask, count, exists, filter, fold_sum, map_values, told};
 use crate::stopwatch::Best;
+use crate::views::view_reads;
 use crate::walks::{cut_all, walk_all};
 use combiner::Bulk;
 use generation::Source;
@@ -42,7 +44,9 @@ pub fn run<R: Runtime + AllocGlobal + Threads + Wait + Sync>(rt: &R) -> Result<(
     snapshot(rt, rounds, keys.as_slice())?;
     remove(rt, rounds, keys.as_slice())?;
     merge(rt, rounds, keys.as_slice())?;
-    mixed(rt, rounds, keys.as_slice())
+    mixed(rt, rounds, keys.as_slice())?;
+    locked_calls(rt, rounds, keys.as_slice())?;
+    view_reads(rt, rounds, keys.as_slice())
 }
 
 /// Puts all keys into an empty map, and counts the time.
