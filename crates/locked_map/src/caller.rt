@@ -32,10 +32,6 @@ impl Caller {
     pub(crate) fn room(self) -> Result<(), NoMemory>
         ensures { MatchResult result (λ _. IsTrue self.has_room) (λ _. self.has_room ≡ false) }
     {
-        if self.has_room {
-            Ok(())
-        } else {
-            Err(NoMemory)
-        }
+        if self.has_room { Ok(()) } else { Err(NoMemory) }
     }
 }
