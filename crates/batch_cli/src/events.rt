@@ -1,6 +1,6 @@
 //! The events of statements: what a client asks of the map for each, and how that is answered.
 
-ghost use Rattle.std.specs.Prelude.{◌≡◌, IfOk, OnOk, Some, true};
+ghost use Rattle.std.specs.Prelude.{◌≡◌, IfOk, OnErr, OnOk, Some, false, true};
 ghost use Rattle.std.specs.Arc.{arc_value};
 ghost use Rattle.handles.specs.Machine.{is_entry, view};
 ghost use Rattle.handles.specs.Views.{is_counted, outcome_of, request_of};
@@ -104,6 +104,7 @@ fn found(value: &Arc<i64>) -> LineReply
 fn reply_of(answer: &Result<CallReply<i64>, Refusal>) -> Result<LineReply, NoMemory>
     ensures shown { IfOk result (λ reply. reply_to (outcome_of answer.now) ≡ Some reply) }
     ensures filed { OnOk result (is_counted answer.now ≡ true) }
+    ensures unfiled { OnErr result (is_counted answer.now ≡ false) }
 {
     match answer {
         Ok(CallReply::Unit) => Ok(LineReply::Done),
@@ -123,6 +124,7 @@ fn reply_of(answer: &Result<CallReply<i64>, Refusal>) -> Result<LineReply, NoMem
 pub fn refused(refusal: Refusal) -> Result<LineReply, NoMemory>
     ensures shown { IfOk result (λ reply. reply ≡ LineReply.Refused refusal) }
     ensures filed { OnOk result (is_entry refusal ≡ true) }
+    ensures unfiled { OnErr result (is_entry refusal ≡ false) }
 {
     match refusal {
         Refusal::NoMemory | Refusal::JournalFull | Refusal::NoJob | Refusal::Unfinished => {
