@@ -12,8 +12,8 @@ use Rattle.handles.specs.Machine.{finish, frozen, is_entry, made, on, replied, v
 use Rattle.handles.specs.Views.{call_outcome, is_counted, outcome_of}
 use Rattle.handles.specs.declared.call_reply.CallReply.{CallReply}
 use Rattle.handles.specs.declared.call_reply.CallReply.TheVariants as call_replies
-use Rattle.locked_map.specs.Answers.{answered}
-use Rattle.locked_map.specs.Journals.{is_filed}
+use Rattle.journal.specs.Answers.{answered}
+use Rattle.journal.specs.Journals.{is_filed}
 use Rattle.locked_map.specs.Seats.{Adds, with_entry}
 use Rattle.locked_map.specs.Getting.{AnswersGet, AnswersPut, GetsOrElse}
 use Rattle.script.specs.declared.statement.Statement.{Statement}

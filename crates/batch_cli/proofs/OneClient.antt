@@ -5,7 +5,7 @@ use Rattle.std.proofs.lemmas.Bool.Decides.{nat_tests}
 use Rattle.std.proofs.lemmas.Simd.{map-map}
 use Rattle.std.specs.Prelude.{All, map}
 use Rattle.handles.specs.Machine.{nothing, Run}
-use Rattle.locked_map.specs.Journals.{own, requests_in, outcomes_in}
+use Rattle.journal.specs.Journals.{own, requests_in, outcomes_in}
 use Rattle.script.specs.declared.statement.CommandLine.{CommandLine}
 use Rattle.batch_cli.specs.Events.{program, ProgramState, Event, IsRun}
 use Rattle.batch_cli.specs.Runs.{LineAnswer, EachMakes, events_of, beside, ProgramEntry, events_in, largest, IsRunOf}

@@ -1,27 +1,21 @@
 -- A run of a script, from what each client came to.
-use Rattle.std.proofs.Common.{Global, Vec, ◌≡◌, ◌==◌, ◌+◌, ◌<◌, ◌≤◌, ◌∙◌, ℕ, zero, Bool, false, arith, cond, length, List, suc, [], ◌∷◌, ◌++◌, inl, inr, Ok, Result, IfOk, map, refl, slice_index_or, sym, ap, subst, take}
+use Rattle.std.proofs.Common.{Global, Vec, ◌≡◌, ◌==◌, ◌+◌, ◌<◌, ◌≤◌, ◌∙◌, ℕ, Bool, false, arith, cond, length, List, suc, [], ◌∷◌, ◌++◌, inl, inr, Ok, Result, IfOk, map, refl, slice_index_or, sym, ap, subst, take}
 use Rattle.std.specs.Prelude.{All}
 use Rattle.std.proofs.lemmas.Bool.{cases_lt}
 use Rattle.std.proofs.lemmas.Bool.Decides.{nat_tests}
 use Rattle.std.proofs.lemmas.List.{get_or-map, length-map}
 use Rattle.std.proofs.lemmas.List.Elements.{All-head, All-more, All-tail}
-use Rattle.locked_map.specs.Journals.{IsLegal, own}
+use Rattle.journal.specs.Journals.{IsLegal, own}
 use Rattle.script.specs.declared.statement.CommandLine.{CommandLine}
 use Rattle.script.specs.declared.reply.LineReply.{LineReply}
 use Rattle.batch_cli.specs.Events.{program, Event, ProgramState}
 use Rattle.batch_cli.specs.Runs.{AreMerged, AreRepliesTo, EachMakes, IsRunOf, LineAnswer, LinesMake, ProgramEntry, events_in, largest, lines_by, replies_in, text_for}
+use Rattle.locked_map.proofs.Seating.{listed_more, some_of}
 use Rattle.batch_cli.proofs.Assembled.{assembled, no_events_of}
 
 -- the clients of one line more are below a greater number
 pub known_more : (lines : List CommandLine) (i : ℕ) (count new : ℕ) (line : CommandLine) → i < length lines → line ≡ slice_index_or lines i line → line.client < new → count ≤ new → All (λ l. l.client < count) (take i lines) → All (λ l. l.client < new) (take (i + 1) lines)
 known_more lines i count new line lt is below le all = All-more (λ l. l.client < new) lines i line lt (λ k d h. omega (arith, all k d h, le)) (subst (λ x. x.client < new) is below)
-
--- what holds of each element of a list, by its place, and of one more
-listed_more : {X : Type 0} (P : ℕ → X → Type 0) (xs : List X) (y : X) → P (length xs) y → ((k : ℕ) (d : X) → k < length xs → P k (slice_index_or xs k d)) → (k : ℕ) (d : X) → k < length (xs ++ y ∷ []) → P k (slice_index_or (xs ++ y ∷ []) k d)
-listed_more P [] y is h zero d l = is
-listed_more P [] y is h (suc k) d l = absurd (omega arith)
-listed_more P (x ∷ xs) y is h zero d l = h 0 d (omega arith)
-listed_more P (x ∷ xs) y is h (suc k) d l = listed_more (λ n. P (suc n)) xs y is (λ k d l. h (suc k) d (omega arith)) k d (omega arith)
 
 -- the clients have their places for numbers, and these lines
 abbrev pub AreClients : {C : Type 0} → (C → ℕ) → (C → List CommandLine) → List CommandLine → List C → Type 0
@@ -32,11 +26,6 @@ no_clients number asked lines clients none = rw none (λ k c l. absurd (omega ar
 
 pub one_client_more : {C : Type 0} (number : C → ℕ) (asked : C → List CommandLine) (lines : List CommandLine) (clients new : List C) (c : C) → new ≡ clients ++ c ∷ [] → number c ≡ length clients → asked c ≡ lines → AreClients number asked lines clients → AreClients number asked lines new
 one_client_more number asked lines clients new c is numbered asks h = rw is (listed_more (λ k x. (number x ≡ k) × (asked x ≡ lines)) clients c (numbered, asks) h)
-
--- an element of a list that has some
-some_of : {X : Type 0} (xs : List X) (k : ℕ) → k < length xs → X
-some_of [] k h = absurd (omega arith)
-some_of (x ∷ xs) k h = x
 
 -- what a client gives, told of its number and of all lines
 told_of_lines : {E : Type 0} (n k : ℕ) (asked lines : List CommandLine) (events : List Event) (out : Result (Vec LineReply Global) E) → n ≡ k → asked ≡ lines

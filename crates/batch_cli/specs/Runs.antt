@@ -3,7 +3,7 @@ use Rattle.std.specs.Prelude.{◌≡◌, ◌<◌, ◌==◌, ℕ, ℤ, Bool, true
 use Rattle.std.specs.Io.KnownBytes.{Appends}
 use Rattle.std.specs.List.{flat_map}
 use Rattle.handles.specs.declared.limits.Limits.{Limits}
-use Rattle.locked_map.specs.Journals.{Entered, IsLegal, own}
+use Rattle.journal.specs.Journals.{Entered, IsLegal, own}
 use Rattle.script.specs.Replies.{line_text}
 use Rattle.script.specs.Scripts.{Spells}
 use Rattle.batch_cli.specs.Events.{program, ProgramState, ProgramTold, Event, Makes}

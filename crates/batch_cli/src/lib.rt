@@ -23,6 +23,7 @@ mod status;
 mod words;
 
 pub use arguments::{ArgFault, Options};
+pub use client::ScriptClient;
 pub use gate::{Free, LineGate};
 pub use input::read_script;
 pub use laws::script_has_one_output;
@@ -35,6 +36,3 @@ pub use script::{
 };
 pub use status::execute;
 pub use words::options;
-
-#[cfg(test)]
-mod tests;

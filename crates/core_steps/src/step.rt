@@ -1,10 +1,8 @@
 //! What a core may be asked.
 ghost use Rattle.std.specs.Prelude.{◌≡◌, IfOk};
-ghost use Rattle.handles.specs.Views.{command_of, request_of};
 ghost use Rattle.core_steps.specs.Steps.{asked_by};
 
-use handles::{Call, Command};
-use hash_path::PathKey;
+use handles::Call;
 use std::sync::Arc;
 use trie_node::NoMemory;
 
@@ -37,7 +35,7 @@ impl<K: Drop, V: Drop, Q: Drop> Step<K, V, Q> {
         ensures { IfOk result (λ step. asked_by step ≡ asked_by self.now) }
     {
         Ok(match self {
-            Step::Call(call) => Step::Call(copy_of_call::<K, V, Q>(call)?),
+            Step::Call(call) => Step::Call(call.try_clone::<Q>()?),
             Step::View(handle) => Step::View(*handle),
             Step::Freeze(handle, query) => Step::Freeze(*handle, Arc::try_clone(query)?),
             Step::Finish(job) => Step::Finish(*job),
@@ -48,43 +46,4 @@ impl<K: Drop, V: Drop, Q: Drop> Step<K, V, Q> {
             Step::Work(job, worker) => Step::Work(*job, *worker),
         })
     }
-}
-
-// The same call.
-fn copy_of_call<K: Drop, V: Drop, Q>(call: &Call<K, V>) -> Result<Call<K, V>, NoMemory>
-    ensures { IfOk result (λ copy. request_of {Q = Q} copy ≡ request_of call.now) }
-{
-    Ok(match call {
-        Call::Open(handle) => Call::Open(*handle),
-        Call::Snapshot(handle, to) => Call::Snapshot(*handle, *to),
-        Call::Drop(handle) => Call::Drop(*handle),
-        Call::On(handle, command) => Call::On(*handle, copy_of_command(command)?),
-    })
-}
-
-// The same command.
-fn copy_of_command<K: Drop, V: Drop>(command: &Command<K, V>) -> Result<Command<K, V>, NoMemory>
-    ensures { IfOk result (λ copy. command_of copy ≡ command_of command.now) }
-{
-    Ok(match command {
-        Command::Get(key) => Command::Get(Arc::try_clone(key)?),
-        Command::Put(key, value) => Command::Put(Arc::try_clone(key)?, Arc::try_clone(value)?),
-        Command::PutIfAbsent(key, value) => {
-            Command::PutIfAbsent(Arc::try_clone(key)?, Arc::try_clone(value)?)
-        }
-        Command::Replace(key, value) => {
-            Command::Replace(Arc::try_clone(key)?, Arc::try_clone(value)?)
-        }
-        Command::ReplaceIf(key, old, value) => Command::ReplaceIf(
-            Arc::try_clone(key)?,
-            Arc::try_clone(old)?,
-            Arc::try_clone(value)?,
-        ),
-        Command::Remove(key) => Command::Remove(Arc::try_clone(key)?),
-        Command::RemoveIf(key, value) => {
-            Command::RemoveIf(Arc::try_clone(key)?, Arc::try_clone(value)?)
-        }
-        Command::Size => Command::Size,
-        Command::Clear => Command::Clear,
-    })
 }

@@ -1,6 +1,5 @@
 //! What the tests ask of whole maps: each question as a plain value, as a query over closures, and its plain answers.
 
-ghost use Rattle.std.specs.Prelude.{◌≡◌, pos};
 ghost use Rattle.bulk_ops.specs.Queries.{IsReady};
 
 use crate::maps::Row;
@@ -8,6 +7,7 @@ use bulk_ops::{PairFn, Query, Stored, StoredTest};
 use combiner::Sum;
 use std::alloc::{AllocError, Global};
 use test_keys::ChosenKey;
+use test_queries::{Values, Zero, stored_values, stored_zero};
 
 /// A value from the least to the most passes.
 #[derive(Clone, Copy, Debug, PartialEq, Eq)]
@@ -41,45 +41,6 @@ impl PairFn<ChosenKey, u64, bool> for Within {
     }
 }
 
-/// Each pair's new value is zero.
-#[derive(Drop)]
-pub struct Zero;
-
-impl PairFn<ChosenKey, u64, u64> for Zero {
-    ghost use Rattle.std.specs.Prelude.{◌≡◌};
-
-    ghost can = { λ t. Unit {0} };
-
-    ghost gives = { λ t k v r. r ≡ 0 };
-
-    fn answer(&self, _key: &ChosenKey, _value: &u64) -> u64 {
-        0
-    }
-}
-
-/// Each pair's item is its value.
-#[derive(Drop)]
-pub struct Values;
-
-impl PairFn<ChosenKey, u64, i128> for Values {
-    ghost use Rattle.std.specs.Prelude.{◌≡◌, pos};
-
-    ghost can = { λ t. Unit {0} };
-
-    ghost gives = { λ t k v r. r ≡ pos v };
-
-    fn answer(&self, _key: &ChosenKey, value: &u64) -> i128 {
-        item_of(*value)
-    }
-}
-
-// The range of a number is known where it is passed by value.
-fn item_of(value: u64) -> i128
-    ensures { result ≡ pos value }
-{
-    value as i128
-}
-
 /// A query of the tests.
 pub type Asked = Query<ChosenKey, u64, Within, Zero, Sum, Values>;
 
@@ -110,8 +71,8 @@ pub fn query_of(ask: Ask) -> Asked
         Ask::ForAll(test) => Query::ForAll(stored(test)),
         Ask::Find(test) => Query::Find(stored(test)),
         Ask::Filter(test, to) => Query::Filter(stored(test), to),
-        Ask::Zeros(to) => Query::MapValues(Stored::new(Zero), to),
-        Ask::Total => Query::Fold(Sum, Stored::new(Values)),
+        Ask::Zeros(to) => Query::MapValues(stored_zero(), to),
+        Ask::Total => Query::Fold(Sum, stored_values()),
     }
 }
 

@@ -7,7 +7,7 @@ use crate::plans::{Do, Plan};
 use core_steps::Move;
 use handles::Limits;
 use std::alloc::Global;
-use test_keys::ChosenKey;
+use test_keys::{ChosenKey, Random};
 
 /// Words that part at each level, some of them at several.
 const WORDS: [u32; 16] = [
@@ -47,22 +47,6 @@ const MIXES: [Mix; 5] = [
     [70, 5, 8, 3, 4, 1, 4, 5],
     [20, 5, 20, 15, 20, 5, 5, 10],
 ];
-
-/// A linear congruential generator.
-#[derive(Drop)]
-pub struct Random(pub u64);
-
-impl Random {
-    /// A number below a bound.
-    pub fn next(&mut self, below: u32) -> u32 {
-        let state = self
-            .0
-            .wrapping_mul(6_364_136_223_846_793_005)
-            .wrapping_add(1_442_695_040_888_963_407);
-        self.0 = state;
-        ((state >> 33) as u32).checked_rem(below).unwrap_or(0)
-    }
-}
 
 /// How the steps of one list are chosen.
 #[derive(Drop)]

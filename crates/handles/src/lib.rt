@@ -8,6 +8,7 @@
 mod call;
 mod call_reply;
 mod command;
+mod copying;
 mod demand;
 mod jobs;
 mod laws;

@@ -1,13 +1,15 @@
 -- What a call adds to its seat.
 use Rattle.std.proofs.Common.{◌≡◌, ℕ, ◌+◌, Bool, true, List, [], ◌∷◌, ◌++◌, Option, sym, ap, ◌∙◌, ◌⊎◌, inl, inr, subst}
 use Rattle.std.proofs.lemmas.List.{map-append}
+use Rattle.boxcar.specs.Table.{Shelves}
 use Rattle.bulk_ops.specs.Answers as plain
 use Rattle.versions.specs.declared.refusal.Refusal.{Refusal}
 use Rattle.versions.specs.declared.refusal.Refusal.TheVariants.{NoHandle, Taken, Full, NoJob, Unfinished, NoWorker, TooManyJobs, JournalFull, NoMemory, BadNumber}
 use Rattle.handles.specs.Machine.{Kind, State, Request, job_of, Outcome, made, replied, viewed, frozen, finished, unfinished, refused, worked}
-use Rattle.locked_map.specs.Answers.{IsUnfiled}
-use Rattle.locked_map.specs.Journals.{is_filed}
-use Rattle.locked_map.specs.Tokens.{entry_at}
+use Rattle.journal.specs.Answers.{IsUnfiled}
+use Rattle.journal.specs.Journals.{is_filed}
+use Rattle.journal.specs.Tokens.{entry_at}
+use Rattle.journal.specs.Kept.{Standing, Files}
 use Rattle.locked_map.specs.Seats.{Seated, Placed, placed, placed_all, with_entry, marked_by, marked_unknown, Adds}
 use Rattle.locked_map.specs.declared.filed.Filed.{Filed}
 
@@ -62,3 +64,14 @@ module _ {K V Q I : Type 0} where
       ap seated (ap placed_all is ∙ map-append placed fs (f ∷ [])
       ∙ ap (λ x. placed_all fs ++ record { place = f.place; floor = x; entry = entry_at f.token } ∷ []) beside
       ∙ ap (λ e. placed_all fs ++ record { place = f.place; floor = floor; entry = e } ∷ []) entry)
+
+module _ {K V Q A I : Type 0} (kind : Kind K V Q A (plain.Told K V I)) (t : Shelves) where
+  -- an event that was filed under the lock is what its call adds to the seat
+  pub event_adds : (x y : Standing K V Q (plain.Told K V I)) (caller n floor next : ℕ) (full : Bool) (unknown : Option ℕ) (fs fs' : List (Filed K V Q I)) (f : Filed K V Q I) (r : Request K V Q) (o told : Outcome K V (plain.Told K V I)) (old : Seated K V Q (plain.Told K V I))
+      → record { number = n; floor = floor; list = placed_all fs; full = full; unknown = unknown } ≡ old → fs' ≡ fs ++ f ∷ [] → f.floor ≡ floor → next ≡ f.place + 1
+      → caller ≡ n → Files kind t x caller r o f.token f.place y → told ≡ o → Adds old r told (record { number = n; floor = next; list = placed_all fs'; full = full; unknown = unknown })
+  event_adds x y caller n floor next full unknown fs fs' f r o told old view is beside behind same files is_told =
+      let at : ℕ → Seated K V Q (plain.Told K V I) = λ k. record { number = n; floor = k; list = placed_all fs'; full = full; unknown = unknown } in
+      let was : Seated K V Q (plain.Told K V I) = record { number = n; floor = floor; list = placed_all fs; full = full; unknown = unknown } in
+      subst (λ (s : Seated K V Q (plain.Told K V I)). Adds s r told (at next)) view
+      (subst (λ p. Adds was r p (at next)) (sym is_told) (filed_adds was (at next) r o f.place files.filed (ap at behind ∙ seat_with_entry n floor full unknown fs fs' f r o is beside (files.entry ∙ ap (λ k. record { seat = k; request = r; outcome = o }) same))))

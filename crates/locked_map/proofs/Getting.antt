@@ -12,7 +12,7 @@ use Rattle.handles.specs.declared.call_reply.CallReply.{CallReply}
 use Rattle.handles.specs.declared.call_reply.CallReply.TheVariants as call_replies
 use Rattle.handles.specs.Machine.{Kind, State, Request, on, Outcome, replied, refused, Step, held_by}
 use Rattle.handles.specs.Views.{call_outcome, reply_of}
-use Rattle.locked_map.specs.Answers.{answered}
+use Rattle.journal.specs.Answers.{answered}
 use Rattle.locked_map.specs.Seats.{Seated, Adds}
 use Rattle.locked_map.specs.Getting.{MayBeTold, TellsValue, AnswersPut, PutsOrFinds, AnswersGet, GetsOrElse}
 

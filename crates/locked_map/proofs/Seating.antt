@@ -1,22 +1,22 @@
 -- Seats of clients, before and after they ran.
-use Rattle.std.proofs.Common.{◌≡◌, ℕ, zero, suc, ◌<◌, length, arith, List, [], ◌∷◌, ◌++◌, ap, subst, ◌∙◌, map, get_or}
+use Rattle.std.proofs.Common.{◌≡◌, ℕ, zero, suc, ◌<◌, length, arith, List, [], ◌∷◌, ◌++◌, ap, subst, ◌∙◌, map, slice_index_or}
 use Rattle.std.proofs.lemmas.List.{map-append}
 use Rattle.std.specs.Prelude.{Result, Ok, Err, IfOk}
 use Rattle.locked_map.specs.Seats.{Seated, AllFresh, fresh}
 
--- a list whose elements are those of a function, with one element more
-pub listed_more : {X : Type 0} (f : ℕ → X) (xs : List X) (y : X) → y ≡ f (length xs) → ((k : ℕ) (d : X) → k < length xs → get_or xs k d ≡ f k) → (k : ℕ) (d : X) → k < length (xs ++ y ∷ []) → get_or (xs ++ y ∷ []) k d ≡ f k
-listed_more f [] y is h zero d l = is
-listed_more f [] y is h (suc k) d l = absurd (omega arith)
-listed_more f (x ∷ xs) y is h zero d l = h 0 d (omega arith)
-listed_more f (x ∷ xs) y is h (suc k) d l = listed_more (λ n. f (suc n)) xs y is (λ k d l. h (suc k) d (omega arith)) k d (omega arith)
+-- what holds of each element of a list at its place, with one element more
+pub listed_more : {X : Type 0} (P : ℕ → X → Type 0) (xs : List X) (y : X) → P (length xs) y → ((k : ℕ) (d : X) → k < length xs → P k (slice_index_or xs k d)) → (k : ℕ) (d : X) → k < length (xs ++ y ∷ []) → P k (slice_index_or (xs ++ y ∷ []) k d)
+listed_more P [] y is h zero d l = is
+listed_more P [] y is h (suc k) d l = absurd (omega arith)
+listed_more P (x ∷ xs) y is h zero d l = h 0 d (omega arith)
+listed_more P (x ∷ xs) y is h (suc k) d l = listed_more (λ n. P (suc n)) xs y is (λ k d l. h (suc k) d (omega arith)) k d (omega arith)
 
 pub maps_more : {A B : Type 0} (f : A → B) (xs ys : List A) (y : A) → ys ≡ xs ++ y ∷ [] → map f ys ≡ map f xs ++ f y ∷ []
 maps_more f xs ys y is = ap (map f) is ∙ map-append f xs (y ∷ [])
 
 -- one seat more
 pub fresh_more : {K V Q B : Type 0} (seats : List (Seated K V Q B)) (s : Seated K V Q B) → s ≡ fresh (length seats) → AllFresh seats → AllFresh (seats ++ s ∷ [])
-fresh_more seats s is all = listed_more fresh seats s is all
+fresh_more seats s is all = listed_more (λ k x. x ≡ fresh k) seats s is all
 
 -- three things may be exchanged for equal ones
 pub moved : {A B C : Type 0} (P : A → B → C → Type 0) (a a' : A) (b b' : B) (c c' : C) → a ≡ a' → b ≡ b' → c ≡ c' → P a b c → P a' b' c'

@@ -2,8 +2,8 @@
 use Rattle.std.proofs.Common.{◌≡◌, ℕ, Option, Some, ap, sym, ◌∙◌, subst, unwrap_or}
 use Rattle.versions.specs.Map.{Map}
 use Rattle.handles.specs.Machine.{Job}
-use Rattle.locked_map.specs.Journals.{Entered}
-use Rattle.locked_map.specs.Kept.{opened_by}
+use Rattle.journal.specs.Journals.{Entered}
+use Rattle.journal.specs.Kept.{opened_by}
 
 -- what answers a ticket's query for its map answers the job that the ticket's entry opened
 pub ticket_answers : {K V Q B P : Type 0} (answers : Q → Map K V → P → Type 0) (n : ℕ) (q : Q) (m : Map K V) (e : Entered K V Q B) (x : Job K V Q) (p : P)

@@ -7,9 +7,9 @@ use Rattle.std.specs.declared.sync.Arc.{Arc}
 use Rattle.std.specs.Arc.{arc_value}
 use Rattle.boxcar.specs.Table.{Shelves, Where, Shows}
 use Rattle.bulk_ops.specs.Answers as plain
-use Rattle.locked_map.specs.Journals.{Entered, own}
+use Rattle.journal.specs.Journals.{Entered, own}
 use Rattle.locked_map.specs.declared.filed.Filed.{Filed}
-use Rattle.locked_map.specs.Tokens.{entry_at, entries_of}
+use Rattle.journal.specs.Tokens.{entry_at, entries_of}
 use Rattle.locked_map.specs.Seats.{placed_all, AllOf, AboveFloors, pairs}
 
 abbrev Entry : Type 0 → Type 0 → Type 0 → Type 0 → Type 0

@@ -2,7 +2,7 @@
 use Rattle.std.specs.Prelude.{◌≡◌, ℕ, ◌<◌, All, List, length, slice_index_or}
 use Rattle.handles.specs.declared.limits.Limits.{Limits}
 use Rattle.handles.specs.Machine.{Kind, State}
-use Rattle.locked_map.specs.Journals.{Entered, IsLegal, own}
+use Rattle.journal.specs.Journals.{Entered, IsLegal, own}
 use Rattle.locked_map.specs.Seats.{Seated, pairs}
 
 -- a map under these limits was closed with these seats: its journal is legal and leads to this state, no entry is of another seat, and those of each seat are what it filed

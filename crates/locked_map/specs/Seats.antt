@@ -6,8 +6,8 @@ use Rattle.bulk_ops.specs.Answers as plain
 use Rattle.versions.specs.declared.refusal.Refusal.{Refusal}
 use Rattle.versions.specs.declared.refusal.Refusal.TheVariants.{NoJob, JournalFull, NoMemory}
 use Rattle.handles.specs.Machine.{Request, job_of, Outcome, refused}
-use Rattle.locked_map.specs.Journals.{Entered}
-use Rattle.locked_map.specs.Tokens.{entry_at}
+use Rattle.journal.specs.Journals.{Entered}
+use Rattle.journal.specs.Tokens.{entry_at}
 use Rattle.locked_map.specs.declared.filed.Filed.{Filed}
 
 -- an entry at its place in the journal, with the floor that its seat had

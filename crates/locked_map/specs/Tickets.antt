@@ -6,9 +6,9 @@ use Rattle.boxcar.specs.Table.{Shelves, Where, Shows}
 use Rattle.bulk_ops.specs.Answers as plain
 use Rattle.versions.specs.Map.{Map}
 use Rattle.handles.specs.Machine.{Outcome, frozen}
-use Rattle.locked_map.specs.Journals.{Entered}
-use Rattle.locked_map.specs.Tokens.{entry_at}
-use Rattle.locked_map.specs.Kept.{opened_by}
+use Rattle.journal.specs.Journals.{Entered}
+use Rattle.journal.specs.Tokens.{entry_at}
+use Rattle.journal.specs.Kept.{opened_by}
 
 -- a ticket: the number of its job, its query, and the map that the freeze recorded
 pub record Ticketed (K V Q : Type 0) : Type 0 where

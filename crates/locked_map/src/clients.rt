@@ -2,17 +2,17 @@
 ghost use Rattle.std.specs.Prelude.{◌≡◌, ℕ, ◌<◌, ◌≤◌, [], All, List, IfOk, map, slice_index_or, vec_len};
 ghost use Rattle.std.specs.Thread.{IsSync};
 ghost use Rattle.handles.specs.Views.{machine};
-ghost use Rattle.locked_map.specs.Journals.{Entered, IsLegal, own};
+ghost use Rattle.journal.specs.Journals.{Entered, IsLegal, own};
 ghost use Rattle.locked_map.specs.Seats.{AllFresh, fresh, pairs};
 
 use crate::closed::Closed;
 use crate::lending::{MOST_SEATS, closed_under};
-use crate::room::{Entries, Room};
 use crate::seat::Seat;
 use crate::shared_map::SharedMap;
 use bulk_ops::Asks;
 use handles::{Limits, MOST_ENTRIES};
 use hash_path::PathKey;
+use journal::{Entries, Room};
 use std::alloc::{AllocError, Global};
 use std::marker::Brand;
 use std::sync::Wait;

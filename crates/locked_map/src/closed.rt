@@ -1,8 +1,8 @@
 //! What is left of a map that was closed.
-use crate::journal::Journal;
 use bulk_ops::Asks;
 use handles::Table;
 use hash_path::PathKey;
+use journal::Journal;
 
 /// A seat's list is not what the journal has of it, or a mark of a seat does not hold.
 #[derive(Clone, Copy, Debug, PartialEq, Eq)]

@@ -1,15 +1,15 @@
 //! The tests by which a map is closed. They take no memory.
 ghost use Rattle.std.specs.Prelude.{◌≡◌, ◌<◌, ℕ, All, IsTrue, None, Some, slice_index_or, true, vec_len};
 ghost use Rattle.handles.specs.Machine.{job_at, room};
-ghost use Rattle.locked_map.specs.Journals.{own};
+ghost use Rattle.journal.specs.Journals.{own};
 ghost use Rattle.locked_map.specs.Seats.{AboveFloors, pairs};
-ghost use Rattle.locked_map.specs.Tokens.{AllShown, entries_of};
+ghost use Rattle.journal.specs.Tokens.{AllShown, entries_of};
 
-use crate::room::{Entries, Room, Token};
 use crate::seat::Seat;
 use bulk_ops::Asks;
 use handles::Table;
 use hash_path::PathKey;
+use journal::{Entries, Room, Token};
 use std::sync::Arc;
 use versions::Refusal;
 
@@ -93,9 +93,9 @@ pub(crate) fn are_of_seats<K: PathKey + Drop, V: Drop, Q: Drop, I: Drop>(
     true
 }
 
-/// Whether the seat was told the truth where it was answered `JournalFull` or `NoJob`: the journal is full, and the job
-/// is not open.
-pub(crate) fn marks_hold<K: PathKey + Drop, V: Eq + Drop, Q: Asks<K, V> + Drop, J: Room>(
+// Whether the seat was told the truth where it was answered `JournalFull` or `NoJob`: the journal is full, and the job
+// is not open.
+fn marks_hold<K: PathKey + Drop, V: Eq + Drop, Q: Asks<K, V> + Drop, J: Room>(
     table: &Table<K, V, Q>,
     seat: &Seat<K, V, Q, J>,
 ) -> bool

@@ -1,8 +1,8 @@
 //! What a seat has filed.
 ghost use Rattle.std.specs.Prelude.{◌≡◌, ◌+◌, ◌<◌, ◌^◌, ◌++◌, ◌∷◌, [], vec_capacity, vec_len};
 
-use crate::room::Token;
 use hash_path::PathKey;
+use journal::{Event, Token};
 use std::sync::Arc;
 
 /// An entry of a seat: its token, its place in the journal, and the floor that the seat had.
@@ -13,22 +13,28 @@ pub struct Filed<K: PathKey, V, Q, I> {
     pub(crate) floor: u64,
 }
 
-/// Adds the entry to a seat's list, and sets the seat's floor behind it.
-pub(crate) fn file<K: PathKey + Drop, V: Drop, Q: Drop, I: Drop>(
+/// Adds the event's entry to a seat's list, sets the seat's floor behind it, and gives what is answered.
+pub(crate) fn file<K: PathKey + Drop, V: Drop, Q: Drop, I: Drop, A>(
     list: &mut Vec<Filed<K, V, Q, I>>,
     floor: &mut u64,
-    token: Arc<Token<K, V, Q, I>>,
-    place: u64,
-)
+    event: Event<K, V, Q, I, A>,
+) -> A
     requires spare { vec_len list.old < vec_capacity list.old }
-    requires place { place + 1 < 2 ^ 64 }
-    ensures list { list.new.items ≡ list.old.items ++ record { token = token; place = place; floor = floor.old } ∷ [] }
-    ensures floor { floor.new ≡ place + 1 }
+    requires place { event.place + 1 < 2 ^ 64 }
+    ensures list { list.new.items ≡ list.old.items ++ record { token = event.token; place = event.place; floor = floor.old } ∷ [] }
+    ensures floor { floor.new ≡ event.place + 1 }
+    ensures answer { result ≡ event.answer }
 {
+    let Event {
+        token,
+        place,
+        answer,
+    } = event;
     list.push_reserved(Filed {
         token,
         place,
         floor: *floor,
     });
     *floor = place + 1;
+    answer
 }

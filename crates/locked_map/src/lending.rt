@@ -6,12 +6,12 @@ ghost use Rattle.locked_map.specs.Closings.{IsClosedWith};
 ghost use Rattle.locked_map.specs.Seats.{AllFresh, Seated};
 
 use crate::closed::{Closed, Torn};
-use crate::room::{Entries, Room};
 use crate::seat::Seat;
 use crate::shared_map::SharedMap;
 use bulk_ops::Asks;
 use handles::{Limits, MOST_ENTRIES};
 use hash_path::PathKey;
+use journal::{Entries, Room};
 use std::alloc::Global;
 use std::marker::Brand;
 use std::sync::Wait;

@@ -6,33 +6,20 @@
 //! seat's list is what the journal has of the seat, and gives the journal. Views are read with no lock.
 #![tactic(auto)]
 
-mod asked;
-mod caller;
 mod clients;
 mod closed;
 mod closing;
-mod entry;
 mod filed;
-mod filing;
-mod frozen;
-mod journal;
 mod lending;
-mod locked;
-mod room;
 mod seat;
 mod shared_map;
 mod ticket;
-mod told;
 
-pub use asked::Asked;
 pub use clients::{Client, NoJournal, with_clients};
 pub use closed::{Closed, Torn};
-pub use entry::Entry;
 pub use filed::Filed;
-pub use journal::Journal;
+pub use journal::{Asked, Entry, Journal, Room, Told};
 pub use lending::{MOST_SEATS, Use, with};
-pub use room::{Entries, Room, Token};
 pub use seat::Seat;
 pub use shared_map::SharedMap;
 pub use ticket::Ticket;
-pub use told::Told;

@@ -3,9 +3,9 @@ ghost use Rattle.std.specs.Prelude.{◌≡◌};
 ghost use Rattle.locked_map.specs.Seats.{fresh, marked_by, met};
 
 use crate::filed::Filed;
-use crate::room::Room;
 use bulk_ops::Asks;
 use hash_path::PathKey;
+use journal::Room;
 use std::alloc::Global;
 use std::marker::{Model, PhantomData};
 use versions::Refusal;

@@ -4,27 +4,23 @@ ghost use Rattle.bulk_ops.specs.Answers as plain;
 ghost use Rattle.bulk_ops.specs.Told.{told_of};
 ghost use Rattle.handles.specs.Machine.{abandon, finish, freeze, job_at, room, view};
 ghost use Rattle.handles.specs.Views.{call_outcome, finished_outcome, machine, request_of, unit_outcome, view_outcome};
-ghost use Rattle.locked_map.specs.Answers.{answered, answered_or};
+ghost use Rattle.journal.specs.Answers.{answered, answered_or};
 ghost use Rattle.locked_map.specs.Getting.{MayBeTold};
-ghost use Rattle.locked_map.specs.Journals.{IsLegal, own};
+ghost use Rattle.journal.specs.Journals.{IsLegal, own};
 ghost use Rattle.locked_map.specs.Seats.{AboveFloors, Adds, pairs};
 ghost use Rattle.locked_map.specs.Tickets.{ticket_outcome};
 
 mod get_or_else;
 
-use crate::caller::Caller;
 use crate::closed::{Closed, Torn};
 use crate::closing::{are_borne_out, are_of_seats};
 use crate::filed::file;
-use crate::filing::Event;
-use crate::journal::Journal;
-use crate::locked::Locked;
-use crate::room::{Entries, Room};
 use crate::seat::Seat;
 use crate::ticket::Ticket;
 use bulk_ops::{Answer, Asks};
 use handles::{Call, CallReply, Limits, MOST_ENTRIES};
 use hash_path::PathKey;
+use journal::{Caller, Entries, Journal, JournaledTable, Room};
 use std::alloc::Global;
 use std::marker::PhantomData;
 use std::sync::{Arc, Mutex, Wait};
@@ -38,7 +34,7 @@ use versions::{MOST_PAIRS, NoMemory, Refusal, View};
 pub struct SharedMap<K: PathKey, V: Eq, Q: Asks<K, V>, J: Room> {
     pub(crate) alloc: Global,
     entries: Entries<K, V, Q, Q::Item>,
-    locked: Mutex<Locked<K, V, Q, J>>,
+    table: Mutex<JournaledTable<K, V, Q, J>>,
     pub ghost named: { entries ≡ J.table },
 }
 
@@ -58,7 +54,7 @@ impl<K: PathKey + Drop, V: Eq + Drop, Q: Asks<K, V> + Drop, J: Room> SharedMap<K
         Ok(SharedMap {
             alloc,
             entries,
-            locked: Mutex::new(Locked::new(alloc, limits)?),
+            table: Mutex::new(JournaledTable::new(alloc, limits)?),
         })
     }
 
@@ -74,20 +70,11 @@ impl<K: PathKey + Drop, V: Eq + Drop, Q: Asks<K, V> + Drop, J: Room> SharedMap<K
     {
         let caller = Caller::new(seat.number, &mut seat.list);
         let made = self
-            .locked
+            .table
             .lock(rt)
             .call(rt, self.alloc, &self.entries, caller, call);
         match made {
-            Ok(
-                Event {
-                    token,
-                    place,
-                    answer,
-                },
-            ) => {
-                file(&mut seat.list, &mut seat.floor, token, place);
-                answer
-            }
+            Ok(event) => file(&mut seat.list, &mut seat.floor, event),
             Err(refusal) => {
                 seat.mark(refusal, None);
                 Err(refusal)
@@ -106,20 +93,11 @@ impl<K: PathKey + Drop, V: Eq + Drop, Q: Asks<K, V> + Drop, J: Room> SharedMap<K
     {
         let caller = Caller::new(seat.number, &mut seat.list);
         let made = self
-            .locked
+            .table
             .lock(rt)
             .view(rt, self.alloc, &self.entries, caller, handle);
         match made {
-            Ok(
-                Event {
-                    token,
-                    place,
-                    answer,
-                },
-            ) => {
-                file(&mut seat.list, &mut seat.floor, token, place);
-                answer
-            }
+            Ok(event) => file(&mut seat.list, &mut seat.floor, event),
             Err(refusal) => {
                 seat.mark(refusal, None);
                 Err(refusal)
@@ -141,21 +119,12 @@ impl<K: PathKey + Drop, V: Eq + Drop, Q: Asks<K, V> + Drop, J: Room> SharedMap<K
         let kept = Arc::try_clone(&query)?;
         let caller = Caller::new(seat.number, &mut seat.list);
         let made = self
-            .locked
+            .table
             .lock(rt)
             .freeze(rt, self.alloc, &self.entries, caller, handle, query);
         match made {
-            Ok(
-                (
-                    Event {
-                        token,
-                        place,
-                        answer,
-                    },
-                    opener,
-                ),
-            ) => {
-                file(&mut seat.list, &mut seat.floor, token, place);
+            Ok((event, opener)) => {
+                let answer = file(&mut seat.list, &mut seat.floor, event);
                 match answer {
                     Ok((job, view)) => Ok(Ticket {
                         job,
@@ -187,7 +156,7 @@ impl<K: PathKey + Drop, V: Eq + Drop, Q: Asks<K, V> + Drop, J: Room> SharedMap<K
         ensures ticket { IfErr result (λ e. e.1 ≡ ticket) }
     {
         let caller = Caller::new(seat.number, &mut seat.list);
-        let made = self.locked.lock(rt).abandon(
+        let made = self.table.lock(rt).abandon(
             rt,
             self.alloc,
             &self.entries,
@@ -196,14 +165,8 @@ impl<K: PathKey + Drop, V: Eq + Drop, Q: Asks<K, V> + Drop, J: Room> SharedMap<K
             &ticket.token,
         );
         match made {
-            Ok(
-                Event {
-                    token,
-                    place,
-                    answer: _,
-                },
-            ) => {
-                file(&mut seat.list, &mut seat.floor, token, place);
+            Ok(event) => {
+                file(&mut seat.list, &mut seat.floor, event);
                 Ok(())
             }
             Err(refusal) => {
@@ -232,7 +195,7 @@ impl<K: PathKey + Drop, V: Eq + Drop, Q: Asks<K, V> + Drop, J: Room> SharedMap<K
         ensures part { IfErr result (λ e. e.2 ≡ part) }
     {
         let caller = Caller::new(seat.number, &mut seat.list);
-        let made = self.locked.lock(rt).finish(
+        let made = self.table.lock(rt).finish(
             rt,
             self.alloc,
             &self.entries,
@@ -242,16 +205,7 @@ impl<K: PathKey + Drop, V: Eq + Drop, Q: Asks<K, V> + Drop, J: Room> SharedMap<K
             part,
         );
         match made {
-            Ok(
-                Event {
-                    token,
-                    place,
-                    answer,
-                },
-            ) => {
-                file(&mut seat.list, &mut seat.floor, token, place);
-                Ok(answer)
-            }
+            Ok(event) => Ok(file(&mut seat.list, &mut seat.floor, event)),
             Err((refusal, part)) => {
                 seat.mark(refusal, Some(ticket.job));
                 Err((refusal, ticket, part))
@@ -275,9 +229,9 @@ impl<K: PathKey + Drop, V: Eq + Drop, Q: Asks<K, V> + Drop, J: Room> SharedMap<K
         let SharedMap {
             alloc: _,
             entries,
-            locked,
+            table,
         } = self;
-        let (table, tokens) = locked.into_inner().into_parts();
+        let (table, tokens) = table.into_inner().into_parts();
         if !are_borne_out(&entries, &tokens, &table, &seats) {
             return Err(Torn);
         }
@@ -286,7 +240,7 @@ impl<K: PathKey + Drop, V: Eq + Drop, Q: Asks<K, V> + Drop, J: Room> SharedMap<K
         }
         Ok(Closed {
             table,
-            journal: Journal { entries, tokens },
+            journal: Journal::new(entries, tokens),
         })
     }
 }

@@ -2,9 +2,9 @@
 ghost use Rattle.std.specs.Prelude.{◌≡◌};
 ghost use Rattle.locked_map.specs.Tickets.{Ticketed};
 
-use crate::room::{Room, Token};
 use bulk_ops::Asks;
 use hash_path::PathKey;
+use journal::{Room, Token};
 use std::marker::{Model, PhantomData};
 use std::sync::Arc;
 use versions::View;

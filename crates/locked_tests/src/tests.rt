@@ -14,6 +14,7 @@ mod questions;
 mod random;
 mod replay;
 mod requests;
+mod rows;
 mod script;
 mod torn;
 mod views;

@@ -50,6 +50,46 @@ fn take_all_of(alloc: Global, taken: &mut Vec<Vec<u8>>, size: usize) {
     }
 }
 
+/// How many bytes a shortage can give.
+const BLOCK: usize = 122_880;
+
+/// All memory is taken but for some bytes next to one another, so that a call can be tried with no memory, with a little,
+/// and so on.
+#[derive(Drop)]
+pub struct Shortage {
+    taken: Vec<Vec<u8>>,
+    eaten: Vec<u8>,
+    given: usize,
+}
+
+impl Shortage {
+    /// No memory is left.
+    ///
+    /// # Errors
+    ///
+    /// There is no memory for the list of what is taken.
+    pub fn new(alloc: Global) -> Result<Shortage, AllocError> {
+        let eaten = Vec::with_capacity(alloc, BLOCK)?;
+        Ok(Shortage {
+            taken: take_all(alloc)?,
+            eaten,
+            given: 0,
+        })
+    }
+
+    /// Gives so many bytes more, next to those that were given. There are 122,880 in all.
+    ///
+    /// # Errors
+    ///
+    /// What is left of those bytes could not be kept.
+    pub fn give(&mut self, alloc: Global, bytes: usize) -> Result<(), AllocError> {
+        self.given = self.given.saturating_add(bytes);
+        self.eaten = Vec::new(alloc);
+        self.eaten = Vec::with_capacity(alloc, BLOCK.saturating_sub(self.given))?;
+        Ok(())
+    }
+}
+
 /// So many pairs of blocks of the two sizes in turn, the last of the first size. Taken before all memory, each that
 /// is dropped then is room for one request of its size.
 ///

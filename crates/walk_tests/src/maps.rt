@@ -5,7 +5,7 @@ use std::alloc::Global;
 use std::collections::BTreeMap;
 use std::sync::Arc;
 use std::test::Fail;
-use test_keys::ChosenKey;
+use test_keys::{ChosenKey, Random};
 use trie_node::Stamp;
 use versions::Version;
 
@@ -34,22 +34,6 @@ const WORDS: [u32; 16] = [
     0xe70c_2de5,
     0xe60c_2c52,
 ];
-
-/// A linear congruential generator.
-#[derive(Drop)]
-pub struct Random(pub u64);
-
-impl Random {
-    /// A number below a bound.
-    pub fn next(&mut self, below: u32) -> u32 {
-        let state = self
-            .0
-            .wrapping_mul(6_364_136_223_846_793_005)
-            .wrapping_add(1_442_695_040_888_963_407);
-        self.0 = state;
-        ((state >> 33) as u32).checked_rem(below).unwrap_or(0)
-    }
-}
 
 /// A map of up to `MOST_KEYS` keys, and its rows in the order of a walk.
 pub fn random_map(alloc: Global, random: &mut Random) -> Result<(Map, Vec<Row>), Fail> {

@@ -4,11 +4,11 @@ ghost use Rattle.std.specs.Arc.{arc_value};
 ghost use Rattle.locked_map.specs.Getting.{GetsOrElse, PutsOrFinds, TellsValue};
 
 use super::SharedMap;
-use crate::room::Room;
 use crate::seat::Seat;
 use bulk_ops::Asks;
 use handles::{Call, CallReply, Command, Reply};
 use hash_path::PathKey;
+use journal::Room;
 use std::sync::{Arc, Wait};
 use versions::Refusal;
 

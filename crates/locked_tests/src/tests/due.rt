@@ -2,7 +2,7 @@
 ghost use Rattle.std.specs.Prelude.{⊤};
 
 use super::making::make;
-use super::memory::{Shortage, filled};
+use super::memory::filled;
 use super::questions::{ALL, Query, Question, query_of};
 use super::requests::{Do, Plain, Request, call_of, open};
 use super::{A, assert_is};
@@ -12,7 +12,7 @@ use std::alloc::Global;
 use std::sync::{Arc, Wait};
 use std::test::Fail;
 use std::thread::Threads;
-use test_keys::ChosenKey;
+use test_keys::{ChosenKey, Shortage};
 use versions::Refusal;
 
 // As many entries as are made before, with one to spare: a journal is full when fewer than two are left.

@@ -16,12 +16,10 @@ use std::process::Abort;
 use std::sync::{Arc, Wait};
 use std::test::Fail;
 use std::thread::Threads;
-use test_keys::{ChosenKey, take_all};
+use test_keys::{ChosenKey, Shortage};
 use versions::Refusal;
 
-// The block that is kept from all memory, and how many bytes of it are given after each refusal.
-const BLOCK: usize = 65_536;
-
+// How many bytes are given after each refusal.
 const STEP: usize = 16;
 
 // How often something is tried at most.
@@ -30,34 +28,6 @@ const TRIES: u32 = 2_048;
 /// How many entries there are before something is tried: as many as the first bucket of the vector of entries has, and as
 /// a seat's list and the journal have room for. So each of them has to grow.
 pub const ENTRIES: usize = 32;
-
-/// All memory is taken but for some bytes of a block.
-#[derive(Drop)]
-pub struct Shortage {
-    taken: Vec<Vec<u8>>,
-    eaten: Vec<u8>,
-    bytes: usize,
-}
-
-impl Shortage {
-    /// No memory is left.
-    pub fn new(alloc: Global) -> Result<Shortage, AllocError> {
-        let eaten = Vec::with_capacity(alloc, BLOCK)?;
-        Ok(Shortage {
-            taken: take_all(alloc)?,
-            eaten,
-            bytes: 0,
-        })
-    }
-
-    // Gives so many bytes more, next to those that were given.
-    fn give(&mut self, alloc: Global, bytes: usize) -> Result<(), AllocError> {
-        self.bytes = self.bytes.saturating_add(bytes);
-        self.eaten = Vec::new(alloc);
-        self.eaten = Vec::with_capacity(alloc, BLOCK.saturating_sub(self.bytes))?;
-        Ok(())
-    }
-}
 
 // What is tried with no memory, with a little, and so on.
 #[derive(Clone, Copy, Debug, PartialEq, Eq)]

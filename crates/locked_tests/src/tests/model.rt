@@ -1,9 +1,9 @@
 //! The machine of handles as a plain program over lists of pairs.
-use super::KEYS;
 use super::entries::{Entered, TestClosed};
-use super::outcomes::{NOTHING, Outcome, Seen, seen_in};
-use super::questions::{Passing, Question};
+use super::outcomes::{Outcome, seen_in};
+use super::questions::Question;
 use super::requests::{Do, Plain, Request};
+use super::rows::{Row, answer, done, made, shown, value_of};
 use handles::Limits;
 use std::alloc::{AllocError, Global};
 use std::process::Abort;
@@ -14,9 +14,6 @@ use versions::Refusal;
 const LAST: u32 = 1_023;
 
 const MOST_JOBS: usize = 64;
-
-// A key's path word and its value.
-type Row = (u32, u64);
 
 // An open job, with the rows that were frozen.
 #[derive(Drop)]
@@ -65,119 +62,6 @@ fn target(question: Question) -> Option<u32> {
     match question {
         Question::Filter(_, to) | Question::Zeros(to) => Some(to),
         _ => None,
-    }
-}
-
-// The value of the key in the rows.
-fn value_of(rows: &[Row], key: u32) -> Option<u64> {
-    for row in rows {
-        if row.0 == key {
-            return Some(row.1);
-        }
-    }
-    None
-}
-
-// What a view of the rows shows.
-fn shown(rows: &[Row]) -> Seen {
-    let mut shown = NOTHING;
-    shown.len = rows.len() as u64;
-    for (value, key) in shown.values.iter_mut().zip(KEYS) {
-        *value = value_of(rows, key);
-    }
-    shown
-}
-
-// Gives the key the value, or none.
-fn set(rows: &mut Vec<Row>, key: u32, value: Option<u64>) -> Result<(), AllocError> {
-    rows.retain(|row| row.0 != key);
-    if let Some(value) = value {
-        rows.push((key, value))?;
-    }
-    Ok(())
-}
-
-// The key of what is done, where it has one.
-fn key_in(what: Do) -> Option<u32> {
-    match what {
-        Do::Get(key) | Do::Remove(key) | Do::RemoveIf(key, _) => Some(key),
-        Do::Put(key, _) | Do::PutIfAbsent(key, _) | Do::Replace(key, _) => Some(key),
-        Do::ReplaceIf(key, _, _) => Some(key),
-        Do::Size | Do::Clear => None,
-    }
-}
-
-// Does this on the rows, and tells of it.
-fn done(rows: &mut Vec<Row>, what: Do) -> Result<Outcome, AllocError> {
-    let old = match key_in(what) {
-        Some(key) => value_of(rows, key),
-        None => None,
-    };
-    let count = rows.len() as u64;
-    match what {
-        Do::Put(key, value) => set(rows, key, Some(value))?,
-        Do::PutIfAbsent(key, value) if old.is_none() => set(rows, key, Some(value))?,
-        Do::Replace(key, value) if old.is_some() => set(rows, key, Some(value))?,
-        Do::ReplaceIf(key, is, value) if old == Some(is) => set(rows, key, Some(value))?,
-        Do::Remove(key) => set(rows, key, None)?,
-        Do::RemoveIf(key, is) if old == Some(is) => set(rows, key, None)?,
-        Do::Clear => rows.clear(),
-        _ => (),
-    }
-    Ok(match what {
-        Do::ReplaceIf(_, is, _) | Do::RemoveIf(_, is) => Outcome::Done(old == Some(is)),
-        Do::Size => Outcome::Size(count),
-        Do::Clear => Outcome::Cleared,
-        _ => Outcome::Old(old),
-    })
-}
-
-// The rows that pass.
-fn passing(alloc: Global, rows: &[Row], test: Passing) -> Result<Vec<Row>, AllocError> {
-    let mut passing = Vec::new(alloc);
-    for row in rows {
-        if test.passes(row.1) {
-            passing.push(*row)?;
-        }
-    }
-    Ok(passing)
-}
-
-// The rows of a map that a job makes for its target.
-fn made(alloc: Global, job: &Job) -> Result<Vec<Row>, AllocError> {
-    if let Question::Filter(test, _) = job.question {
-        return passing(alloc, &job.rows, test);
-    }
-    let mut made = Vec::new(alloc);
-    for row in &job.rows {
-        made.push((row.0, 0))?;
-    }
-    Ok(made)
-}
-
-// The answer of a job that makes no map. Of the rows that a find may give it gives the one that was told.
-fn answer(alloc: Global, job: &Job, told: Outcome) -> Result<Outcome, AllocError> {
-    let all = job.rows.len();
-    Ok(match job.question {
-        Question::Count(test) => Outcome::Count(passing(alloc, &job.rows, test)?.len() as u64),
-        Question::Exists(test) => Outcome::Truth(!passing(alloc, &job.rows, test)?.is_empty()),
-        Question::ForAll(test) => Outcome::Truth(passing(alloc, &job.rows, test)?.len() == all),
-        Question::Find(test) => found(&passing(alloc, &job.rows, test)?, told),
-        _ => {
-            let mut total = 0i128;
-            for row in &job.rows {
-                total = total.wrapping_add(i128::from(row.1));
-            }
-            Outcome::Total(total)
-        }
-    })
-}
-
-// One of the rows, where there are some: the one that was told, if it is among them.
-fn found(rows: &[Row], told: Outcome) -> Outcome {
-    match told {
-        Outcome::Found(Some(row)) if rows.contains(&row) => told,
-        _ => Outcome::Found(rows.first().copied()),
     }
 }
 
@@ -367,12 +251,12 @@ impl Machine {
         let job = self.jobs.remove(place);
         match target(job.question) {
             Some(to) => {
-                let rows = made(alloc, &job)?;
+                let rows = made(alloc, &job.rows, job.question)?;
                 let count = rows.len() as u64;
                 self.live.push((to, rows))?;
                 Ok(Outcome::Made(count))
             }
-            None => answer(alloc, &job, told),
+            None => answer(alloc, &job.rows, job.question, told),
         }
     }
 

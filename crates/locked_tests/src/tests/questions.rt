@@ -1,5 +1,5 @@
 //! What the tests ask of whole maps: each question as a plain value, and as a query over closures.
-ghost use Rattle.std.specs.Prelude.{◌≡◌, IfOk, pos};
+ghost use Rattle.std.specs.Prelude.{IfOk};
 
 use bulk_ops::{PairFn, Part, Stored, StoredTest, work};
 use combiner::{Bulk, Sum};
@@ -7,6 +7,7 @@ use iter::parts_follow_intervals;
 use splitter::whole;
 use std::alloc::Global;
 use test_keys::ChosenKey;
+use test_queries::{Values, Zero, stored_values, stored_zero};
 use versions::{NoMemory, View};
 
 /// Which values pass: the even ones, and the odd ones where this says so.
@@ -38,45 +39,6 @@ impl PairFn<ChosenKey, u64, bool> for Passing {
     fn answer(&self, _key: &ChosenKey, value: &u64) -> bool {
         self.odd || *value % 2 == 0
     }
-}
-
-/// Each pair's new value is zero.
-#[derive(Drop)]
-pub struct Zero;
-
-impl PairFn<ChosenKey, u64, u64> for Zero {
-    ghost use Rattle.std.specs.Prelude.{◌≡◌};
-
-    ghost can = { λ t. Unit {0} };
-
-    ghost gives = { λ t k v r. r ≡ 0 };
-
-    fn answer(&self, _key: &ChosenKey, _value: &u64) -> u64 {
-        0
-    }
-}
-
-/// Each pair's item is its value.
-#[derive(Drop)]
-pub struct Values;
-
-impl PairFn<ChosenKey, u64, i128> for Values {
-    ghost use Rattle.std.specs.Prelude.{◌≡◌, pos};
-
-    ghost can = { λ t. Unit {0} };
-
-    ghost gives = { λ t k v r. r ≡ pos v };
-
-    fn answer(&self, _key: &ChosenKey, value: &u64) -> i128 {
-        item_of(*value)
-    }
-}
-
-// The range of a number is known where it is passed by value.
-fn item_of(value: u64) -> i128
-    ensures { result ≡ pos value }
-{
-    value as i128
 }
 
 /// A query of the tests.
@@ -114,8 +76,8 @@ pub fn query_of(question: Question) -> Query {
         Question::ForAll(test) => Query::ForAll(stored(test)),
         Question::Find(test) => Query::Find(stored(test)),
         Question::Filter(test, to) => Query::Filter(stored(test), to),
-        Question::Zeros(to) => Query::MapValues(Stored::new(Zero), to),
-        Question::Total => Query::Fold(Sum, Stored::new(Values)),
+        Question::Zeros(to) => Query::MapValues(stored_zero(), to),
+        Question::Total => Query::Fold(Sum, stored_values()),
     }
 }
 

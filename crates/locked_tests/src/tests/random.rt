@@ -12,7 +12,7 @@ use std::alloc::Global;
 use std::sync::atomic::{AtomicU64, Ordering};
 use std::sync::{Arc, Wait};
 use std::thread::Threads;
-use test_keys::ChosenKey;
+use test_keys::{ChosenKey, Random};
 use versions::Refusal;
 
 // How many calls a client makes.
@@ -23,19 +23,14 @@ const VALUES: u32 = 6;
 
 const FIRST_MADE: u32 = 1_000;
 
-/// A linear congruential generator.
+/// Random requests.
 #[derive(Drop)]
-pub struct Random(pub u64);
+pub struct Draws(pub Random);
 
-impl Random {
+impl Draws {
     /// A number below a bound.
-    pub fn next(&mut self, below: u32) -> u32 {
-        let state = self
-            .0
-            .wrapping_mul(6_364_136_223_846_793_005)
-            .wrapping_add(1_442_695_040_888_963_407);
-        self.0 = state;
-        ((state >> 33) as u32).checked_rem(below).unwrap_or(0)
+    fn next(&mut self, below: u32) -> u32 {
+        self.0.next(below)
     }
 
     fn key(&mut self) -> u32 {
@@ -131,7 +126,7 @@ pub struct Note {
 #[derive(Drop)]
 pub struct Player {
     pub number: u32,
-    pub random: Random,
+    pub draws: Draws,
     /// Of so many calls it closes its first job by one, its second by one, and so on.
     pub jobs: u32,
     /// Goes on with each look at it.
@@ -185,8 +180,8 @@ impl Player {
         tickets: &mut Vec<TestTicket<J>>,
         made: u64,
     ) -> Result<Vec<Exchange>, Refusal> {
-        if self.random.next(12) == 0 {
-            let (handle, key) = (self.random.handle(), self.random.key());
+        if self.draws.next(12) == 0 {
+            let (handle, key) = (self.draws.handle(), self.draws.key());
             let got = get_or_store(rt, alloc, map, seat, handle, key, made)?;
             return exchanges_of_get(alloc, handle, key, made, got);
         }
@@ -199,10 +194,10 @@ impl Player {
 
     // Closes one of the jobs whose tickets these are, or does something else.
     fn next_request<J: Room>(&mut self, tickets: &[TestTicket<J>]) -> Request {
-        let place = self.random.next(self.jobs) as usize;
+        let place = self.draws.next(self.jobs) as usize;
         match tickets.get(place) {
-            Some(ticket) => self.random.end(ticket.job()),
-            None => self.random.request(),
+            Some(ticket) => self.draws.end(ticket.job()),
+            None => self.draws.request(),
         }
     }
 }

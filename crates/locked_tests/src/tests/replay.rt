@@ -3,7 +3,7 @@ use super::LARGEST;
 use super::entries::{Entered, entries_of};
 use super::model::assert_replayed;
 use super::outcomes::Outcome;
-use super::random::{Note, Player, Random};
+use super::random::{Draws, Note, Player};
 use handles::{Limits, MOST_ENTRIES};
 use locked_map::{MOST_SEATS, with_clients};
 use std::alloc::{AllocError, Global};
@@ -12,6 +12,7 @@ use std::sync::atomic::AtomicU64;
 use std::sync::{Arc, Wait};
 use std::test::Fail;
 use std::thread::Threads;
+use test_keys::Random;
 use versions::{MOST_PAIRS, Refusal};
 
 // How many clients there are, and how often they run under each limits.
@@ -48,7 +49,7 @@ fn clients_of(alloc: Global, round: u32, jobs: u32) -> Result<Vec<Player>, Alloc
         let seed = u64::from(round.wrapping_mul(CLIENTS).wrapping_add(number));
         clients.push(Player {
             number,
-            random: Random(seed.wrapping_mul(0x9e37_79b9_7f4a_7c15)),
+            draws: Draws(Random(seed.wrapping_mul(0x9e37_79b9_7f4a_7c15))),
             jobs,
             clock: Arc::try_clone(&clock)?,
         })?;

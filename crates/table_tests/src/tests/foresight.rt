@@ -17,7 +17,7 @@ use std::alloc::Global;
 use std::process::Abort;
 use std::sync::Arc;
 use std::test::Fail;
-use test_keys::{ChosenKey, take_all};
+use test_keys::{ChosenKey, Random, take_all};
 use versions::{Refusal, View};
 
 // Limits that a random run meets.
@@ -29,28 +29,12 @@ const SMALL: Limits = Limits {
 // How many calls a random run makes.
 const CALLS: u32 = 1_400;
 
-// A linear congruential generator.
-#[derive(Drop)]
-struct Random(u64);
-
-impl Random {
-    // A number below a bound.
-    fn next(&mut self, below: u32) -> u32 {
-        let state = self
-            .0
-            .wrapping_mul(6_364_136_223_846_793_005)
-            .wrapping_add(1_442_695_040_888_963_407);
-        self.0 = state;
-        ((state >> 33) as u32).checked_rem(below).unwrap_or(0)
+// One of four handles, or, seldom, a number that is none.
+fn drawn_handle(random: &mut Random) -> u32 {
+    if random.next(16) == 0 {
+        return 1024;
     }
-
-    // One of four handles, or, seldom, a number that is none.
-    fn handle(&mut self) -> u32 {
-        if self.next(16) == 0 {
-            return 1024;
-        }
-        self.next(4)
-    }
+    random.next(4)
 }
 
 // A call that has a twin.
@@ -164,16 +148,16 @@ fn drawn_command(alloc: Global, random: &mut Random) -> Result<Command<ChosenKey
 // A count of the pairs with the value 1, or the map of them for the handle of a number.
 fn drawn_query(alloc: Global, random: &mut Random) -> Result<Arc<Asked>, Refusal> {
     if random.next(8) == 0 {
-        return filter_of(alloc, 1, random.handle());
+        return filter_of(alloc, 1, drawn_handle(random));
     }
     count_of(alloc, 1)
 }
 
 fn drawn_call(alloc: Global, random: &mut Random) -> Result<Drawn, Refusal> {
-    let handle = random.handle();
+    let handle = drawn_handle(random);
     Ok(match random.next(16) {
         0 => Drawn::Serve(Call::Open(handle)),
-        1 => Drawn::Serve(Call::Snapshot(handle, random.handle())),
+        1 => Drawn::Serve(Call::Snapshot(handle, drawn_handle(random))),
         2 => Drawn::Serve(Call::Drop(handle)),
         3 => Drawn::View(handle),
         4 => Drawn::Abandon(u64::from(random.next(128))),

@@ -2,7 +2,7 @@
 //! branch and a long bucket.
 
 use super::memory::{MOST_GIVEN, ONE, TWO, assert_same, spare_blocks, take_all};
-use super::random::{KEYS, Random, WORDS, assert_holds, in_walk_order};
+use super::random::{KEYS, WORDS, assert_holds, in_walk_order};
 use super::{Trie, branch, key, pairs, put_in, trie_of};
 use crate::held::Held;
 use crate::outline::outline_of;
@@ -11,7 +11,7 @@ use std::collections::BTreeMap;
 use std::process::Abort;
 use std::sync::Arc;
 use std::test::Fail;
-use test_keys::ChosenKey;
+use test_keys::{ChosenKey, Random};
 use trie_node::{Stamp, size};
 
 // Keys whose words differ in their last digit alone.

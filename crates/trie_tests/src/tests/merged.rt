@@ -1,7 +1,7 @@
 ghost use Rattle.std.specs.Prelude.{◌<◌};
 
 use super::memory::{BRANCH, assert_same};
-use super::random::{KEYS, Random, WORDS, assert_holds, in_walk_order};
+use super::random::{KEYS, WORDS, assert_holds, in_walk_order};
 use super::{Trie, branch, key, pairs, put, trie_of};
 use crate::held::Held;
 use crate::outline::{Line, outline_of};
@@ -9,7 +9,7 @@ use std::alloc::{AllocError, Global};
 use std::collections::BTreeMap;
 use std::process::Abort;
 use std::test::Fail;
-use test_keys::{ChosenKey, take_all};
+use test_keys::{ChosenKey, Random, take_all};
 use trie_node::{Node, Stamp, union_of_maps, unions_of_maps};
 
 // The merged root has these nodes and pairs.

@@ -6,7 +6,7 @@ use std::alloc::{AllocError, Global};
 use std::collections::BTreeMap;
 use std::process::Abort;
 use std::test::Fail;
-use test_keys::ChosenKey;
+use test_keys::{ChosenKey, Random};
 use trie_node::{Stamp, size};
 
 // Few words, so that buckets and branches that are drawn up are frequent.
@@ -23,22 +23,6 @@ pub(super) const WORDS: [u32; 8] = [
 
 // How many keys have one word.
 pub(super) const KEYS: u32 = 3;
-
-// A linear congruential generator.
-#[derive(Drop)]
-pub(super) struct Random(pub u64);
-
-impl Random {
-    // A number below a bound.
-    pub fn next(&mut self, below: u32) -> u32 {
-        let state = self
-            .0
-            .wrapping_mul(6_364_136_223_846_793_005)
-            .wrapping_add(1_442_695_040_888_963_407);
-        self.0 = state;
-        ((state >> 33) as u32).checked_rem(below).unwrap_or(0)
-    }
-}
 
 // The pairs of a map in the order of their positions.
 pub(super) fn in_walk_order(

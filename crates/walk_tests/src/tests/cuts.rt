@@ -1,13 +1,13 @@
 //! Random maps cut into pieces.
 
 use super::{MAPS, assert_gives};
-use crate::maps::{Map, Random, random_map};
+use crate::maps::{Map, random_map};
 use crate::plain::{Row, cut_point, rows_between};
 use splitter::{Cut, Piece, cut, whole};
 use std::alloc::Global;
 use std::process::Abort;
 use std::test::Fail;
-use test_keys::ChosenKey;
+use test_keys::{ChosenKey, Random};
 use trie_node::NoMemory;
 
 type Part = Piece<ChosenKey, i64>;

@@ -1,12 +1,12 @@
 //! Walks and cuts with every request for memory refused.
 
 use super::{Walk, row_of};
-use crate::maps::{Random, random_map};
+use crate::maps::random_map;
 use crate::plain::{Row, cut_point};
 use iter::{pairs, pairs_of};
 use splitter::{Cut, Piece, cut, whole};
 use std::test::Fail;
-use test_keys::{ChosenKey, take_all};
+use test_keys::{ChosenKey, Random, take_all};
 use trie_node::NoMemory;
 
 // The last pair of a walk and the number of its pairs, where the walk was made.

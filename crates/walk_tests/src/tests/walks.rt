@@ -1,12 +1,13 @@
 //! Walks over random maps.
 
 use super::{MAPS, Walk, assert_gives};
-use crate::maps::{Random, random_map};
+use crate::maps::random_map;
 use crate::plain::{Row, nodes_between};
 use iter::{pairs, pairs_of};
 use std::alloc::{AllocError, Global};
 use std::process::Abort;
 use std::test::Fail;
+use test_keys::Random;
 
 #[test]
 fn walks_list_random_maps(rt: HostRuntime) -> Result<(), Fail> {

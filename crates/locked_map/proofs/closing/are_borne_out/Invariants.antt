@@ -1,9 +1,9 @@
 use Rattle.std.proofs.Common.{◌≡◌, ℕ, ◌<◌, get_or}
 use Rattle.std.specs.Prelude.{None, Some, true}
 use Rattle.handles.specs.Machine.{job_at, room}
-use Rattle.locked_map.specs.Tokens.{entries_of}
+use Rattle.journal.specs.Tokens.{entries_of}
 use Rattle.locked_map.specs.Seats.{AboveFloors, pairs}
-use Rattle.locked_map.specs.Journals.{own}
+use Rattle.journal.specs.Journals.{own}
 use Rattle.locked_map.proofs.closing.are_borne_out.Given as goal
 
 -- the seats so far have their numbers, the journal bears their lists out, and their marks hold

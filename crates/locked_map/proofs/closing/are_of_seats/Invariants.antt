@@ -1,5 +1,5 @@
 use Rattle.std.proofs.Common.{◌<◌, All, take}
-use Rattle.locked_map.specs.Tokens.{entries_of}
+use Rattle.journal.specs.Tokens.{entries_of}
 use Rattle.locked_map.proofs.closing.are_of_seats.Given as goal
 
 -- the entries so far are of these seats

@@ -1,5 +1,5 @@
 use Rattle.std.proofs.Common.{rules, ◌≡◌, ◌∷◌, ◌<◌, ◌≤◌, length}
-use Rattle.locked_map.specs.Tokens.{entry_at, AllShown}
+use Rattle.journal.specs.Tokens.{entry_at, AllShown}
 use Rattle.locked_map.proofs.Walk.{walks_skip, walks_take, head_shown, item_shown}
 use Rattle.locked_map.proofs.closing.is_borne_out.Goals.{then-of-seat+in-Some+else-filed-place+else-filed+else-index, else-of-seat}
 use Rattle.locked_map.proofs.closing.is_borne_out.Goals as goal

@@ -1,7 +1,7 @@
 use Rattle.std.proofs.Common.{rules, ◌≡◌, ◌<◌, length, subst, sym, vec_len}
 use Rattle.std.specs.Prelude.{All}
 use Rattle.handles.specs.Views.{machine}
-use Rattle.locked_map.specs.Journals.{IsLegal}
+use Rattle.journal.specs.Journals.{IsLegal}
 use Rattle.locked_map.proofs.lending.closed_under.Goals as goal
 
 pub returns : goal.returns

@@ -1,11 +1,12 @@
-use Rattle.std.proofs.Common.{rules, ◌≡◌, ◌++◌, ◌∷◌, [], None, refl}
+use Rattle.std.proofs.Common.{rules, ◌≡◌, ◌++◌, ◌∷◌, [], None, refl, ap, subst, sym}
+use Rattle.std.specs.Prelude.{IfOk}
 use Rattle.handles.specs.Machine.{Request}
 use Rattle.handles.specs.Views.{call_outcome, machine, request_of}
-use Rattle.locked_map.specs.Answers.{answered}
+use Rattle.journal.specs.Answers.{answered}
 use Rattle.locked_map.specs.declared.filed.Filed.{Filed}
-use Rattle.locked_map.proofs.Foresight.{call_names_no_job}
-use Rattle.locked_map.proofs.Adding.{unfiled_adds}
-use Rattle.locked_map.proofs.Events.{event_adds}
+use Rattle.journal.proofs.Foresight.{call_names_no_job}
+use Rattle.locked_map.specs.Getting.{MayBeTold}
+use Rattle.locked_map.proofs.Adding.{event_adds, unfiled_adds}
 use Rattle.locked_map.proofs.Getting.{may_be_told}
 use Rattle.locked_map.proofs.shared_map.SharedMap.call.Goals as goal
 
@@ -14,10 +15,10 @@ returns-in-Ok-clause-adds g c =
     let kind = machine g.K.Ord.cmp g.V.PartialEq.eq g.Q.Asks.target_of g.Q.Asks.answered in
     let s = c.seat.inside in
     let r : Request g.row.K.Denot g.row.V.Denot g.row.Q.Denot = request_of c.args.call in
-    let f : Filed g.row.K.Denot g.row.V.Denot g.row.Q.Denot g.row.Q-Item.Denot = record { token = c.in-Ok.field-0.token; place = c.in-Ok.field-0.place; floor = s.floor } in
+    let f : Filed g.row.K.Denot g.row.V.Denot g.row.Q.Denot g.row.Q-Item.Denot = record { token = c.in-Ok.event.token; place = c.in-Ok.event.place; floor = s.floor } in
     let is : c.file.new.list.items ≡ s.list.items ++ f ∷ [] = search rules in
-    event_adds kind g.J.Room.table _ _ c.new-caller.result.seat s.number s.floor c.file.new.floor s.full s.unknown s.list.items c.file.new.list.items f r (answered call_outcome c.in-Ok.field-0.answer) c.args.seat.now
-    c.seat.view_is is refl c.file.ensures.floor c.new-caller.ensures.seat c.in-Ok.ensures.filed
+    event_adds kind g.J.Room.table _ _ c.new-caller.result.seat s.number s.floor c.file.new.floor s.full s.unknown s.list.items c.file.new.list.items f r (answered call_outcome c.in-Ok.event.answer) (answered call_outcome c.file.result) c.args.seat.now
+    c.seat.view_is is refl c.file.ensures.floor c.new-caller.ensures.seat c.in-Ok.ensures.filed (ap (answered call_outcome) c.file.ensures.answer)
 
 pub returns-in-Err-clause-adds : goal.returns-in-Err-clause-adds
 returns-in-Err-clause-adds g c =
@@ -28,4 +29,4 @@ returns-in-Err-clause-adds g c =
 pub returns-in-Ok-clause-told : goal.returns-in-Ok-clause-told
 returns-in-Ok-clause-told g c =
     let kind = machine g.K.Ord.cmp g.V.PartialEq.eq g.Q.Asks.target_of g.Q.Asks.answered in
-    may_be_told kind _ _ (request_of c.args.call) call_outcome c.in-Ok.field-0.answer c.in-Ok.ensures.filed.step
+    subst (λ a. IfOk a (λ y. MayBeTold kind (request_of c.args.call) (call_outcome y))) (sym c.file.ensures.answer) (may_be_told kind _ _ (request_of c.args.call) call_outcome c.in-Ok.event.answer c.in-Ok.ensures.filed.step)

@@ -1,10 +1,9 @@
-use Rattle.std.proofs.Common.{rules, ◌≡◌, ◌++◌, ◌∷◌, [], None, refl}
+use Rattle.std.proofs.Common.{rules, ◌≡◌, ◌++◌, ◌∷◌, [], None, refl, ap}
 use Rattle.handles.specs.Machine.{Request, view}
 use Rattle.handles.specs.Views.{machine, view_outcome}
-use Rattle.locked_map.specs.Answers.{answered}
+use Rattle.journal.specs.Answers.{answered}
 use Rattle.locked_map.specs.declared.filed.Filed.{Filed}
-use Rattle.locked_map.proofs.Adding.{unfiled_adds}
-use Rattle.locked_map.proofs.Events.{event_adds}
+use Rattle.locked_map.proofs.Adding.{event_adds, unfiled_adds}
 use Rattle.locked_map.proofs.shared_map.SharedMap.view.Goals as goal
 
 pub returns-in-Ok : goal.returns-in-Ok
@@ -12,10 +11,10 @@ returns-in-Ok g c =
     let kind = machine g.K.Ord.cmp g.V.PartialEq.eq g.Q.Asks.target_of g.Q.Asks.answered in
     let s = c.seat.inside in
     let r : Request g.row.K.Denot g.row.V.Denot g.row.Q.Denot = view c.args.handle in
-    let f : Filed g.row.K.Denot g.row.V.Denot g.row.Q.Denot g.row.Q-Item.Denot = record { token = c.in-Ok.field-0.token; place = c.in-Ok.field-0.place; floor = s.floor } in
+    let f : Filed g.row.K.Denot g.row.V.Denot g.row.Q.Denot g.row.Q-Item.Denot = record { token = c.in-Ok.event.token; place = c.in-Ok.event.place; floor = s.floor } in
     let is : c.file.new.list.items ≡ s.list.items ++ f ∷ [] = search rules in
-    event_adds kind g.J.Room.table _ _ c.new-caller.result.seat s.number s.floor c.file.new.floor s.full s.unknown s.list.items c.file.new.list.items f r (answered view_outcome c.in-Ok.field-0.answer) c.args.seat.now
-    c.seat.view_is is refl c.file.ensures.floor c.new-caller.ensures.seat c.in-Ok.ensures.filed
+    event_adds kind g.J.Room.table _ _ c.new-caller.result.seat s.number s.floor c.file.new.floor s.full s.unknown s.list.items c.file.new.list.items f r (answered view_outcome c.in-Ok.event.answer) (answered view_outcome c.file.result) c.args.seat.now
+    c.seat.view_is is refl c.file.ensures.floor c.new-caller.ensures.seat c.in-Ok.ensures.filed (ap (answered view_outcome) c.file.ensures.answer)
 
 pub returns-in-Err : goal.returns-in-Err
 returns-in-Err g c =

@@ -1,0 +1,79 @@
+//! What scripts print and what their journals have, by hand.
+mod clients;
+mod command_line;
+mod contention;
+mod entries;
+mod events;
+mod failures;
+mod gates;
+mod journals;
+mod memory;
+mod operations;
+mod questions;
+mod scripts;
+
+use batch_cli::{Journal, LineGate, Options, execute, parse_script, run_script};
+use std::alloc::{AllocError, Global};
+use std::fmt::Debug;
+use std::process::Abort;
+use std::sync::Wait;
+use std::test::Fail;
+use std::thread::Threads;
+
+/// The status of a script, and what it writes to standard output and standard error.
+fn executed<R: AllocGlobal + Threads + Wait + Sync>(
+    rt: &R,
+    script: &[u8],
+) -> Result<(u8, String, String), AllocError> {
+    let alloc = rt.alloc();
+    let mut out = Vec::new(alloc);
+    let mut err = Vec::new(alloc);
+    let options = Options { file: None };
+    let (status, journal) = execute(rt, alloc, &options, script, &mut out, &mut err);
+    drop(journal);
+    Ok((status, text(alloc, &out)?, text(alloc, &err)?))
+}
+
+/// What a run of the script writes, with its journal.
+fn ran<R: AllocGlobal + Threads + Wait + Sync, G: LineGate + Sync>(
+    rt: &R,
+    script: &[u8],
+    gate: &G,
+) -> Result<(String, Journal), Fail> {
+    let alloc = rt.alloc();
+    let script = parse_script(alloc, script)?;
+    let mut out = Vec::new(alloc);
+    let journal = run_script(rt, alloc, &script, &mut out, gate)?;
+    Ok((text(alloc, &out)?, journal))
+}
+
+/// The bytes as text; a text of no bytes where they are none.
+fn text(alloc: Global, bytes: &Vec<u8>) -> Result<String, AllocError> {
+    match str::from_utf8(bytes.as_slice()) {
+        Ok(text) => String::from_str(alloc, text),
+        Err(_) => Ok(String::new(alloc)),
+    }
+}
+
+/// What is seen is what is wanted. An assertion is proved wherever it is written out, so it stands here once.
+fn assert_is<T: PartialEq + Debug + Drop>(rt: &impl Abort, seen: T, want: T) {
+    assert_eq!(rt; seen, want);
+}
+
+/// The same for texts.
+fn assert_text(rt: &impl Abort, seen: &str, want: &str) {
+    assert_eq!(rt; seen, want);
+}
+
+/// Whether the script ends well and prints these lines, and no more.
+fn prints<R: AllocGlobal + Abort + Threads + Wait + Sync>(
+    rt: &R,
+    script: &[u8],
+    replies: &str,
+) -> Result<(), Fail> {
+    let (status, out, err) = executed(rt, script)?;
+    assert_text(rt, out.as_str(), replies);
+    assert_text(rt, err.as_str(), "");
+    assert_is(rt, status, 0);
+    Ok(())
+}

@@ -1,0 +1,87 @@
+//! Clients as threads, and their lines.
+use super::entries::seats_of;
+use super::gates::{Holding, Meeting, Recorder};
+use super::{assert_is, assert_text, ran};
+use batch_cli::Free;
+use std::test::Fail;
+
+// Were the clients run one after another, the first line would wait for its limit of turns in vain.
+#[test]
+fn two_clients_run_at_once(rt: HostRuntime) -> Result<(), Fail> {
+    let gate = Meeting::new();
+    let (out, journal) = ran(&rt, b"0 open 1\n1 open 2\n", &gate)?;
+    assert_is(&rt, gate.is_missed(), false);
+    assert_text(&rt, out.as_str(), "1 ok\n2 ok\n");
+    assert_is(&rt, journal.len(), 2);
+    Ok(())
+}
+
+// It catches a client that runs the lines of others, one that does not ask before each of its lines, and one that takes
+// them in another order or twice.
+#[test]
+fn each_line_is_asked_for_once_by_its_client(rt: HostRuntime) -> Result<(), Fail> {
+    let alloc = rt.alloc();
+    let script = b"2 open 3\n0 open 1\n1 open 2\n# a comment\n0 size 1\n2 size 3\n\n1 size 2\n\
+        2 list 3\n";
+    let gate = Recorder::new(alloc, 16)?;
+    let (out, _) = ran(&rt, script, &gate)?;
+    let replies = "1 ok\n2 ok\n3 ok\n5 count 0\n6 count 0\n8 count 0\n9 pairs\n";
+    assert_text(&rt, out.as_str(), replies);
+    assert_is(&rt, gate.count(), 7);
+    let lines = [
+        [2, 5].as_slice(),
+        [3, 8].as_slice(),
+        [1, 6, 9].as_slice(),
+        [].as_slice(),
+    ];
+    for (client, wanted) in (0..).zip(lines) {
+        let asked = gate.lines_of(alloc, client)?;
+        assert_eq!(&rt; asked.as_slice(), wanted, "the lines of client {client}");
+    }
+    Ok(())
+}
+
+// The lines of client 0 begin when the last one of client 1 does. It catches replies that are written as they come or
+// client by client, and a reply at another's line.
+#[test]
+fn replies_stand_in_order_of_line_numbers(rt: HostRuntime) -> Result<(), Fail> {
+    let script = b"0 open 1\n1 open 2\n1 put 2 a 5\n0 put 1 a 6\n1 get 2 a\n0 get 1 a\n1 size 2\n";
+    let gate = Holding::new(7);
+    let (out, journal) = ran(&rt, script, &gate)?;
+    assert_is(&rt, gate.is_missed(), false);
+    let replies = "1 ok\n2 ok\n3 none\n4 none\n5 some 5\n6 some 6\n7 count 1\n";
+    assert_text(&rt, out.as_str(), replies);
+    let seats = seats_of(rt.alloc(), &journal)?;
+    assert_is(&rt, seats.len(), 7);
+    assert!(rt; seats.as_slice().starts_with(&[1, 1, 1]));
+    Ok(())
+}
+
+// It catches a limit on lines or entries that is too small, and a reply that is lost among many.
+#[test]
+fn a_handle_is_opened_once_in_65_536_lines(rt: HostRuntime) -> Result<(), Fail> {
+    let alloc = rt.alloc();
+    let mut script = Vec::new(alloc);
+    for _ in 0..65_536 {
+        script.extend_from_slice(b"0 open 1\n")?;
+    }
+    let mut replies = String::from_str(alloc, "1 ok\n")?;
+    for line in 2..65_537 {
+        write!(replies, "{line} refused Taken\n")?;
+    }
+    let (out, journal) = ran(&rt, script.as_slice(), &Free)?;
+    assert!(rt; out.as_str() == replies.as_str());
+    assert_is(&rt, journal.len(), 65_536);
+    Ok(())
+}
+
+// It catches a run that wants a client, and one that writes or files something for none.
+#[test]
+fn an_empty_script_has_an_empty_journal(rt: HostRuntime) -> Result<(), Fail> {
+    for script in [b"".as_slice(), b"# nothing\n\n".as_slice()] {
+        let (out, journal) = ran(&rt, script, &Free)?;
+        assert_text(&rt, out.as_str(), "");
+        assert!(rt; journal.is_empty());
+    }
+    Ok(())
+}

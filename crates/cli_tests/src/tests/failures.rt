@@ -1,0 +1,154 @@
+//! Writers and readers that fail.
+use super::{executed, text};
+use batch_cli::{
+    ArgFault, Free, Options, RunFault, ScriptFault, execute, parse_script, read_script, run_script,
+};
+use std::io;
+use std::io::{Read, Write};
+use std::test::Fail;
+
+/// Takes three bytes at a time until it has its most, and then fails.
+#[derive(Drop)]
+struct Disk {
+    held: Vec<u8>,
+    most: usize,
+}
+
+impl Write for Disk {
+    fn write(&mut self, bytes: &[u8]) -> io::Result<usize> {
+        if self.held.len() >= self.most {
+            return Err(io::Error::from(io::ErrorKind::StorageFull));
+        }
+        let count = bytes.len().min(3);
+        self.held.extend_from_slice(&bytes[..count])?;
+        Ok(count)
+    }
+
+    fn flush(&mut self) -> io::Result<()> {
+        Ok(())
+    }
+}
+
+/// Gives its byte so many times, and then fails.
+#[derive(Drop)]
+struct Torn {
+    byte: u8,
+    left: u8,
+}
+
+impl Read for Torn {
+    fn read(&mut self, bytes: &mut [u8]) -> io::Result<usize> {
+        if self.left == 0 {
+            return Err(io::Error::from(io::ErrorKind::BrokenPipe));
+        }
+        match bytes.first_mut() {
+            Some(place) => {
+                *place = self.byte;
+                self.left = self.left.saturating_sub(1);
+                Ok(1)
+            }
+            None => Ok(0),
+        }
+    }
+}
+
+#[test]
+fn a_writer_that_fails_fails_the_run(rt: HostRuntime) -> Result<(), Fail> {
+    let alloc = rt.alloc();
+    for most in [0, 3] {
+        let mut out = Disk {
+            held: Vec::new(alloc),
+            most,
+        };
+        let mut err = Vec::new(alloc);
+        let options = Options { file: None };
+        let (status, _) = execute(&rt, alloc, &options, b"0 open 1\n", &mut out, &mut err);
+        assert_eq!(rt; status, 1);
+        assert_eq!(rt;
+            text(alloc, &err)?.as_str(),
+            "trierun: cannot write output\n"
+        );
+        assert_eq!(rt; out.held.len(), most);
+    }
+    Ok(())
+}
+
+#[test]
+fn a_writer_that_has_room_gets_all(rt: HostRuntime) -> Result<(), Fail> {
+    let alloc = rt.alloc();
+    let script = parse_script(alloc, b"0 open 1\n0 size 1")?;
+    let mut out = Disk {
+        held: Vec::new(alloc),
+        most: 100,
+    };
+    let journal = run_script(&rt, alloc, &script, &mut out, &Free)?;
+    assert_eq!(rt; journal.len(), 2);
+    assert_eq!(rt; text(alloc, &out.held)?.as_str(), "1 ok\n2 count 0\n");
+    Ok(())
+}
+
+#[test]
+fn standard_error_that_fails_changes_no_status(rt: HostRuntime) -> Result<(), Fail> {
+    let alloc = rt.alloc();
+    let mut out = Vec::new(alloc);
+    let mut err = Disk {
+        held: Vec::new(alloc),
+        most: 0,
+    };
+    let options = Options { file: None };
+    let (status, _) = execute(&rt, alloc, &options, b"0", &mut out, &mut err);
+    assert_eq!(rt; status, 2);
+    assert_eq!(rt; out.len(), 0);
+    Ok(())
+}
+
+#[test]
+fn a_reader_that_fails_fails_the_reading(rt: HostRuntime) -> Result<(), Fail> {
+    let torn = Torn {
+        byte: b'#',
+        left: 9,
+    };
+    assert!(rt; read_script(rt.alloc(), torn).is_err());
+    Ok(())
+}
+
+#[test]
+fn no_more_is_read_than_a_script_may_have(rt: HostRuntime) -> Result<(), Fail> {
+    let alloc = rt.alloc();
+    let all = read_script(alloc, io::repeat(b'#'))?;
+    assert_eq!(rt; all.len(), 65_536 * 257 + 1);
+    let few = read_script(alloc, b"0 open 1\n".as_slice())?;
+    assert_eq!(rt; few.as_slice(), b"0 open 1\n".as_slice());
+    Ok(())
+}
+
+#[test]
+fn faults_show_as_they_are_printed(rt: HostRuntime) -> Result<(), Fail> {
+    let alloc = rt.alloc();
+    let shown = format!(in alloc;
+        "{}, {}, {}, {}",
+        ScriptFault::Memory,
+        RunFault::Memory,
+        RunFault::Write,
+        ArgFault::Memory
+    )?;
+    assert_eq!(rt;
+        shown.as_str(),
+        "out of memory, out of memory, cannot write output, out of memory"
+    );
+    let help = String::from_str(alloc, "Usage")?;
+    let shown = format!(in alloc; "{}", ArgFault::Help(help))?;
+    assert_eq!(rt; shown.as_str(), "Usage");
+    let shown = format!(in alloc; "{}", ArgFault::NotText)?;
+    assert!(rt; shown.as_str().starts_with("error: invalid UTF-8"));
+    Ok(())
+}
+
+#[test]
+fn a_script_with_a_fault_is_not_run(rt: HostRuntime) -> Result<(), Fail> {
+    let (status, out, err) = executed(&rt, b"0 open 1\n0 open")?;
+    assert_eq!(rt; err.as_str(), "line 2: missing field\n");
+    assert_eq!(rt; out.as_str(), "");
+    assert_eq!(rt; status, 2);
+    Ok(())
+}

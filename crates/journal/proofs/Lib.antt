@@ -1,0 +1,7 @@
+pub mod Refusing
+pub mod Foresight
+pub mod Limits
+pub mod Runs
+pub mod Beside
+pub mod Events
+pub mod Crossing

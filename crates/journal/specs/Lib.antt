@@ -1,0 +1,4 @@
+pub mod Journals
+pub mod Answers
+pub mod Tokens
+pub mod Kept

@@ -1,0 +1,19 @@
+//! What a seat may ask.
+
+use handles::Call;
+use std::sync::Arc;
+
+/// What a seat asked of the table.
+#[derive(Drop)]
+pub enum Asked<K, V, Q> {
+    /// That the call is made.
+    Call(Call<K, V>),
+    /// That the handle's map is shown.
+    View(u32),
+    /// That a job with the query is opened on the handle's map.
+    Freeze(u32, Arc<Q>),
+    /// That the job is closed by an answer.
+    Finish(u64),
+    /// That the job is closed without an answer.
+    Abandon(u64),
+}

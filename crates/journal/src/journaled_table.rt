@@ -1,0 +1,302 @@
+//! The table that keeps its journal.
+ghost use Rattle.std.specs.Prelude.{◌≡◌, ◌≤◌, ◌<◌, ◌+◌, ◌^◌, ◌⊎◌, ◌++◌, ◌∷◌, [], IfErr, IfOk, IsTrue, MatchResult, OnErr, OnOk, Some, filter, vec_capacity, vec_len};
+ghost use Rattle.std.specs.Arc.{arc_value};
+ghost use Rattle.boxcar.specs.Table.{Shows};
+ghost use Rattle.bulk_ops.specs.Answers as plain;
+ghost use Rattle.bulk_ops.specs.Told.{told_of};
+ghost use Rattle.handles.specs.Machine.{Job, abandon, finish, freeze, made, nothing, view};
+ghost use Rattle.handles.specs.Views.{call_outcome, finished_outcome, frozen_outcome, machine, request_of, view_outcome};
+ghost use Rattle.journal.specs.Answers.{IsUnfiled, answered};
+ghost use Rattle.journal.specs.Journals.{IsLegal};
+ghost use Rattle.journal.specs.Kept.{Files, WasOpenedBy, is_other, opened_by};
+ghost use Rattle.journal.specs.Tokens.{AllShown, entries_of};
+
+mod filed_calls;
+
+use crate::asked::Asked;
+use crate::caller::Caller;
+use crate::filing::{Event, Opened, entered, entered_finish, to_be_filed};
+use crate::frozen::{Frozen, beside, close};
+use crate::room::{Entries, Room, Token};
+use crate::told::Told;
+use bulk_ops::{Answer, Asks};
+use handles::{Call, CallReply, Limits, MOST_ENTRIES, Table};
+use hash_path::PathKey;
+use std::alloc::Global;
+use std::marker::{Model, PhantomData};
+use std::sync::{Arc, Wait};
+use versions::{MOST_PAIRS, NoMemory, Refusal, View};
+
+/// A table, and the journal that leads to it.
+///
+/// Each of its calls is one step of the machine and files one entry, or leaves all as it was. Beside each open job stands
+/// the token of the freeze that opened it.
+///
+/// The vector of entries, which is given to each call, is the one that `J` names.
+#[derive(Drop)]
+pub struct JournaledTable<K: PathKey, V: Eq, Q: Asks<K, V>, J: Room> {
+    table: Table<K, V, Q>,
+    journal: Vec<Arc<Token<K, V, Q, Q::Item>>>,
+    freezes: Vec<Frozen<K, V, Q, Q::Item>>,
+    room: PhantomData<J>,
+}
+
+impl<K: PathKey, V: Eq, Q: Asks<K, V>, J: Room> Model for JournaledTable<K, V, Q, J> {
+    ghost use Rattle.bulk_ops.specs.Answers as plain;
+    ghost use Rattle.handles.specs.Views.{machine};
+    ghost use Rattle.journal.specs.Kept.{IsKept, Standing};
+    ghost use Rattle.journal.specs.Tokens.{entries_of};
+
+    ghost Value = { Standing K V Q (plain.Told K V Q.Item) };
+
+    ghost view = { λ l. record { state = l.table; journal = entries_of l.journal.items } };
+
+    ghost invariant = { λ l. IsKept (machine K.cmp V.eq Q.target_of Q.answered) J.table l.table l.journal.items l.freezes.items };
+}
+
+impl<K: PathKey + Drop, V: Eq + Drop, Q: Asks<K, V> + Drop, J: Room> JournaledTable<K, V, Q, J> {
+    /// A table with no handles, and an empty journal.
+    pub fn new(alloc: Global, limits: Limits) -> Result<JournaledTable<K, V, Q, J>, NoMemory>
+        requires least_pairs { 1 ≤ limits.pairs }
+        requires most_pairs { limits.pairs ≤ MOST_PAIRS }
+        requires least_entries { 2 ≤ limits.entries }
+        requires most_entries { limits.entries ≤ MOST_ENTRIES }
+        ensures { IfOk result (λ l. l ≡ record { state = nothing limits; journal = [] }) }
+    {
+        Ok(JournaledTable {
+            table: Table::new(alloc, limits)?,
+            journal: Vec::new(alloc),
+            freezes: Vec::new(alloc),
+            room: PhantomData,
+        })
+    }
+
+    /// Makes the call, and files it.
+    ///
+    /// It makes no entry where it is refused as `JournalFull` or `NoMemory`, and leaves all as it was then. It is refused as
+    /// `NoMemory` only where no other refusal that is no entry is due.
+    pub fn call<R: Wait>(
+        &mut self,
+        rt: &R,
+        alloc: Global,
+        entries: &Entries<K, V, Q, Q::Item>,
+        caller: Caller,
+        call: Call<K, V>,
+    ) -> Result<Event<K, V, Q, Q::Item, Result<CallReply<V>, Refusal>>, Refusal>
+        requires { entries.now ≡ J.table }
+        ensures filed { IfOk result (λ e. Files (machine K.cmp V.eq Q.target_of Q.answered) J.table self.old caller.seat (request_of call) (answered call_outcome e.answer) e.token e.place self.new) }
+        ensures shown { IfOk result (λ e. Shows J.table (arc_value e.token)) }
+        ensures fits { IfOk result (λ e. e.place + 1 < 2 ^ 64) }
+        ensures room { OnOk result (IsTrue caller.has_room) }
+        ensures unfiled { IfErr result (λ e. IsUnfiled (machine K.cmp V.eq Q.target_of Q.answered) self.old.state (request_of call) e) }
+        ensures err { OnErr result (self.new ≡ self.old) }
+    {
+        let answer = to_be_filed(self.table.foresee_serve(&call))?;
+        match self.file_call(rt, alloc, entries, caller, call, answer) {
+            Ok(event) => Ok(event),
+            Err(NoMemory) => Err(Refusal::NoMemory),
+        }
+    }
+
+    /// Shows the map of the handle, and files that.
+    ///
+    /// It makes no entry where it is refused as `JournalFull` or `NoMemory`, and leaves all as it was then. It is refused as
+    /// `NoMemory` only where no other refusal that is no entry is due.
+    pub fn view<R: Wait>(
+        &mut self,
+        rt: &R,
+        alloc: Global,
+        entries: &Entries<K, V, Q, Q::Item>,
+        caller: Caller,
+        handle: u32,
+    ) -> Result<Event<K, V, Q, Q::Item, Result<View<K, V>, Refusal>>, Refusal>
+        requires { entries.now ≡ J.table }
+        ensures filed { IfOk result (λ e. Files (machine K.cmp V.eq Q.target_of Q.answered) J.table self.old caller.seat (view handle) (answered view_outcome e.answer) e.token e.place self.new) }
+        ensures shown { IfOk result (λ e. Shows J.table (arc_value e.token)) }
+        ensures fits { IfOk result (λ e. e.place + 1 < 2 ^ 64) }
+        ensures room { OnOk result (IsTrue caller.has_room) }
+        ensures unfiled { IfErr result (λ e. IsUnfiled (machine K.cmp V.eq Q.target_of Q.answered) self.old.state (view handle) e) }
+        ensures err { OnErr result (self.new ≡ self.old) }
+    {
+        let answer = to_be_filed(self.table.foresee_view(handle))?;
+        match self.file_view(rt, alloc, entries, caller, handle, answer) {
+            Ok(event) => Ok(event),
+            Err(NoMemory) => Err(Refusal::NoMemory),
+        }
+    }
+
+    /// Opens a job with the query on the handle's map, and files that. The token of its entry stands beside the job, and
+    /// is given once more.
+    ///
+    /// It makes no entry where it is refused as `JournalFull` or `NoMemory`, and leaves all as it was then. It is refused as
+    /// `NoMemory` only where no other refusal that is no entry is due.
+    pub fn freeze<R: Wait>(
+        &mut self,
+        rt: &R,
+        alloc: Global,
+        entries: &Entries<K, V, Q, Q::Item>,
+        caller: Caller,
+        handle: u32,
+        query: Arc<Q>,
+    ) -> Result<Opened<K, V, Q, Q::Item>, Refusal>
+        requires { entries.now ≡ J.table }
+        ensures filed { IfOk result (λ r. Files (machine K.cmp V.eq Q.target_of Q.answered) J.table self.old caller.seat (freeze handle query.value) (answered frozen_outcome r.0.answer) r.0.token r.0.place self.new) }
+        ensures shown { IfOk result (λ r. Shows J.table (arc_value r.0.token) × (arc_value r.1 ≡ arc_value r.0.token)) }
+        ensures fits { IfOk result (λ r. r.0.place + 1 < 2 ^ 64) }
+        ensures room { OnOk result (IsTrue caller.has_room) }
+        ensures unfiled { IfErr result (λ e. IsUnfiled (machine K.cmp V.eq Q.target_of Q.answered) self.old.state (freeze handle query.value) e) }
+        ensures err { OnErr result (self.new ≡ self.old) }
+    {
+        let answer = to_be_filed(self.table.foresee_freeze(handle, &query))?;
+        match self.file_freeze(rt, alloc, entries, caller, handle, query, answer) {
+            Ok(made) => Ok(made),
+            Err(NoMemory) => Err(Refusal::NoMemory),
+        }
+    }
+
+    /// Closes the job without an answer, where it was opened by the entry of this token, and files that.
+    ///
+    /// It makes no entry where it is refused as `NoJob` or `NoMemory`, and leaves all as it was then. It is refused as
+    /// `NoMemory` only where that entry opened the job.
+    pub fn abandon<R: Wait>(
+        &mut self,
+        rt: &R,
+        alloc: Global,
+        entries: &Entries<K, V, Q, Q::Item>,
+        caller: Caller,
+        job: u64,
+        opener: &Token<K, V, Q, Q::Item>,
+    ) -> Result<Event<K, V, Q, Q::Item, ()>, Refusal>
+        requires table { entries.now ≡ J.table }
+        requires shown { Shows J.table opener.now }
+        ensures filed { IfOk result (λ e. Files (machine K.cmp V.eq Q.target_of Q.answered) J.table self.old caller.seat (abandon job) made e.token e.place self.new) }
+        ensures shown { IfOk result (λ e. Shows J.table (arc_value e.token)) }
+        ensures fits { IfOk result (λ e. e.place + 1 < 2 ^ 64) }
+        ensures opened { OnOk result (WasOpenedBy self.old.state job opener.now.value) }
+        ensures room { OnOk result (IsTrue caller.has_room) }
+        ensures unfiled { IfErr result (λ e. (e ≡ Refusal.NoJob) ⊎ (e ≡ Refusal.NoMemory)) }
+        ensures due { IfErr result (λ e. e ≡ Refusal.NoMemory → WasOpenedBy self.old.state job opener.now.value) }
+        ensures err { OnErr result (self.new ≡ self.old) }
+    {
+        if !self.was_opened_by(entries, job, opener) {
+            return Err(Refusal::NoJob);
+        }
+        let (asked, told) = (Asked::Abandon(job), Told::Abandoned);
+        let place = self.journal.len() as u64;
+        let journal = &mut self.journal;
+        let (token, mine) = entered(rt, alloc, entries, journal, caller, asked, told)?;
+        // the job is open, so that nothing is refused
+        let _ = self.table.abandon(job);
+        close(&mut self.freezes, job);
+        self.journal.push_reserved(mine);
+        Ok(Event {
+            token,
+            place,
+            answer: (),
+        })
+    }
+
+    /// Closes the job by the part's answer, where it was opened by the entry of this token, and files that.
+    ///
+    /// It makes no entry where it is refused as `NoJob` or `NoMemory`. It hands the part back then, and leaves all as it
+    /// was. It is refused as `NoMemory` only where that entry opened the job.
+    pub fn finish<R: Wait>(
+        &mut self,
+        rt: &R,
+        alloc: Global,
+        entries: &Entries<K, V, Q, Q::Item>,
+        caller: Caller,
+        job: u64,
+        opener: &Token<K, V, Q, Q::Item>,
+        part: Q::Part,
+    ) -> Result<Event<K, V, Q, Q::Item, Answer<K, V, Q::Item>>, (Refusal, Q::Part)>
+        requires table { entries.now ≡ J.table }
+        requires shown { Shows J.table opener.now }
+        requires part { (asking : Job K V Q) → opened_by opener.now.value ≡ Some (job, asking) → Q.answers asking.query asking.frozen part }
+        ensures filed { IfOk result (λ e. Files (machine K.cmp V.eq Q.target_of Q.answered) J.table self.old caller.seat (finish job) (finished_outcome e.answer) e.token e.place self.new) }
+        ensures shown { IfOk result (λ e. Shows J.table (arc_value e.token)) }
+        ensures fits { IfOk result (λ e. e.place + 1 < 2 ^ 64) }
+        ensures opened { OnOk result (WasOpenedBy self.old.state job opener.now.value) }
+        ensures room { OnOk result (IsTrue caller.has_room) }
+        ensures told { IfOk result (λ e. told_of e.answer ≡ plain.told (Q.answer_of part)) }
+        ensures unfiled { IfErr result (λ e. (e.0 ≡ Refusal.NoJob) ⊎ (e.0 ≡ Refusal.NoMemory)) }
+        ensures due { IfErr result (λ e. e.0 ≡ Refusal.NoMemory → WasOpenedBy self.old.state job opener.now.value) }
+        ensures back { IfErr result (λ e. e.1 ≡ part) }
+        ensures err { OnErr result (self.new ≡ self.old) }
+    {
+        if !self.was_opened_by(entries, job, opener) {
+            return Err((Refusal::NoJob, part));
+        }
+        let place = self.journal.len() as u64;
+        let journal = &mut self.journal;
+        let entered = entered_finish(rt, alloc, entries, &self.table, journal, caller, job, &part);
+        let Ok((token, mine)) = entered else {
+            return Err((Refusal::NoMemory, part));
+        };
+        let Ok(answer) = self.table.finish(job, part) else {
+            unreachable!();
+        };
+        close(&mut self.freezes, job);
+        self.journal.push_reserved(mine);
+        Ok(Event {
+            token,
+            place,
+            answer,
+        })
+    }
+
+    /// The table and the journal's tokens.
+    pub fn into_parts(self) -> (Table<K, V, Q>, Vec<Arc<Token<K, V, Q, Q::Item>>>)
+        ensures shown { AllShown J.table result.1.items }
+        ensures legal { IsLegal (machine K.cmp V.eq Q.target_of Q.answered) result.0.limits (entries_of result.1.items) result.0 }
+    {
+        let JournaledTable {
+            table,
+            journal,
+            freezes: _,
+            room: _,
+        } = self;
+        (table, journal)
+    }
+
+    // Whether the open job of the number was opened by the entry of this token.
+    fn was_opened_by(
+        &self,
+        entries: &Entries<K, V, Q, Q::Item>,
+        job: u64,
+        opener: &Token<K, V, Q, Q::Item>,
+    ) -> bool
+        requires table { entries.now ≡ J.table }
+        requires shown { Shows J.table opener.now }
+        ensures { IsTrue result → WasOpenedBy self.now.state job opener.now.value }
+    {
+        let Some(frozen) = beside(&self.freezes, job) else {
+            return false;
+        };
+        let token: &Token<K, V, Q, Q::Item> = &frozen.token;
+        if token.index() != opener.index() {
+            return false;
+        }
+        entries.agrees(token, opener);
+        true
+    }
+}
+
+// Puts the token beside the job that was opened, if one was. A number is given once, so no other token is beside it.
+fn set_beside<K: PathKey + Drop, V: Drop, Q: Drop, I: Drop>(
+    freezes: &mut Vec<Frozen<K, V, Q, I>>,
+    answer: &Result<(u64, View<K, V>), Refusal>,
+    token: Arc<Token<K, V, Q, I>>,
+)
+    requires { vec_len freezes.old < vec_capacity freezes.old }
+    ensures { MatchResult answer.now (λ x. freezes.new.items ≡ filter (is_other x.0) freezes.old.items ++ record { number = x.0; token = token } ∷ []) (λ _. freezes.new.items ≡ freezes.old.items) }
+{
+    let Ok((number, _)) = answer else {
+        return;
+    };
+    close(freezes, *number);
+    freezes.push_reserved(Frozen {
+        number: *number,
+        token,
+    });
+}

@@ -1,0 +1,26 @@
+//! A table of maps that keeps a journal of all that was asked of it and answered.
+//!
+//! Each call is one step of the machine of handles, and one entry of the journal: who asked, what, and what was answered.
+//! The journal is legal after each: a run of that machine, which leads to the table as it stands. An entry is placed once
+//! in a vector that any thread may read, and a token shows where. So the journal itself is a list of tokens, and whoever
+//! asked keeps a token of each of its entries.
+#![tactic(auto)]
+
+mod asked;
+mod caller;
+mod entry;
+mod filing;
+mod frozen;
+mod journal;
+mod journaled_table;
+mod room;
+mod told;
+
+pub use asked::Asked;
+pub use caller::Caller;
+pub use entry::Entry;
+pub use filing::{Event, Opened};
+pub use journal::Journal;
+pub use journaled_table::JournaledTable;
+pub use room::{Entries, Room, Token};
+pub use told::Told;
