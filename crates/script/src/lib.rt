@@ -35,6 +35,3 @@ pub use parse::{Script, parse_script};
 pub use passing::Test;
 pub use reply::{LineReply, push_line};
 pub use statement::{CommandLine, Statement};
-
-#[cfg(test)]
-mod tests;

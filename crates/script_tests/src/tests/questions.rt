@@ -1,6 +1,6 @@
 //! What tests and maps say of pairs.
 use super::{is_read, is_refused};
-use crate::{Key, Mapping, Test};
+use script::{Key, Mapping, Test};
 use std::process::Abort;
 use std::test::Fail;
 

@@ -5,7 +5,7 @@ mod parts;
 mod questions;
 mod replies;
 
-use crate::parse_script;
+use script::parse_script;
 use std::test::Fail;
 
 /// Whether the script is refused for this reason.

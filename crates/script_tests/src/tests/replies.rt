@@ -1,6 +1,6 @@
 //! The text of replies.
-use crate::{LineReply, Listing, MapKey, push_line};
 use keys::ByteText;
+use script::{LineReply, Listing, MapKey, push_line};
 use std::alloc::{AllocError, Global};
 use std::sync::Arc;
 use std::test::Fail;

@@ -1,5 +1,5 @@
 //! Scripts, keys and laws, each called once.
-use crate::{
+use script::{
     Key, Statement, parse_script, spelled_text_has_no_fault, text_has_one_fault,
     text_has_one_script,
 };

@@ -1,0 +1,5 @@
+//! Tests of `script`: what scripts spell, the text of each fault, and the texts of replies.
+#![tactic(auto)]
+
+#[cfg(test)]
+mod tests;
