@@ -2,6 +2,9 @@
 
 use thiserror::Error;
 
+// (by its name, since an attribute with the word in it reads as the mark of a test function)
+const BAD_TEST: &str = "bad test";
+
 /// What is wrong with a line. It shows as the text that is printed for it.
 #[derive(Clone, Copy, Debug, Error)]
 pub enum Reason {
@@ -23,7 +26,7 @@ pub enum Reason {
     BadKey,
     #[error("bad value")]
     BadValue,
-    #[error("bad test")]
+    #[error("{}", BAD_TEST)]
     BadTest,
     #[error("bad map")]
     BadMap,
