@@ -1,8 +1,10 @@
 //! What a small map answers, by hand. Its keys have chosen path words; its values are at the ends of `i64`.
 
+mod combining;
 mod laws;
 mod memory;
 mod stopping;
+mod sums;
 
 use bulk_ops::{
     Answer, Pair, PairFn, Part, Query, Stored, StoredItem, StoredMap, StoredTest, ask, work,

@@ -19,6 +19,3 @@ pub use laws::{law_of_sums, law_of_sums_within};
 pub use merging::merge;
 pub use monoid::Monoid;
 pub use sum::Sum;
-
-#[cfg(test)]
-mod tests;

@@ -10,6 +10,3 @@ mod source;
 
 pub use own::own_nodes;
 pub use source::Source;
-
-#[cfg(test)]
-mod tests;

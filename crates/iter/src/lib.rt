@@ -12,6 +12,3 @@ pub use interval::Interval;
 pub use laws::{intervals_tile, parts_follow_intervals};
 pub use start::{pairs, pairs_of};
 pub use walk::Pairs;
-
-#[cfg(test)]
-mod tests;

@@ -11,6 +11,3 @@ mod removals;
 pub use get_or_else::get_or_else_update;
 pub use puts::{put, put_if_absent, replace, replace_if};
 pub use removals::{remove, remove_if};
-
-#[cfg(test)]
-mod tests;

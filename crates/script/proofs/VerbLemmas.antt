@@ -1,21 +1,16 @@
 -- Which verb a name names.
 use Prim.Native.Nat.{zero, suc}
 use Rattle.std.proofs.lemmas.Bool.Decides.{nat_tests}
-use Rattle.std.proofs.Common.{arith, ◌≡◌, ◌≢◌, ℕ, false, true, List, [], ◌∷◌, Bool, None, refl, sym, subst}
-use Rattle.std.specs.Prelude.{find, nat_lt, ◌&&◌}
+use Rattle.std.proofs.Common.{arith, ◌≡◌, ℕ, false, true, List, [], ◌∷◌, Bool, None, refl, sym, subst}
+use Rattle.std.specs.Prelude.{find, nat_lt, ◌&&◌, ◌++◌, drop}
 use Rattle.std.specs.Str.{IsUtf8, IsAscii}
 use Rattle.std.specs.List.{list_all}
 use Rattle.std.proofs.lemmas.Str.{IsUtf8-from_ascii}
 use Rattle.std.proofs.lemmas.Slice.Eq.{bytes_eq-Decides}
 use Rattle.keys.specs.Order.{bytes_eq}
-use Rattle.script.specs.Grammar.{Verb, verbs}
+use Rattle.script.specs.Grammar.{IsUnnamed, Verb, commands, verbs}
 use Rattle.script.specs.Faults.{StatementFault}
 use Rattle.script.specs.declared.fault.Reason.TheVariants.{UnknownVerb}
-
--- the name is none of theirs
-abbrev pub IsUnnamed : List Verb → List ℕ → Type 0
-IsUnnamed [] name = Unit {0}
-IsUnnamed (verb ∷ verbs) name = (name ≢ verb.name) × IsUnnamed verbs name
 
 unnamed : (vs : List Verb) (name : List ℕ) → IsUnnamed vs name → find (λ verb. bytes_eq verb.name name) vs ≡ None
 unnamed [] name h = refl
@@ -30,6 +25,15 @@ unnamed (verb ∷ vs) name h =
 -- a name that is no verb's is a fault
 pub unknown : (name : List ℕ) (fields : List (List ℕ)) → IsUnnamed verbs name → StatementFault (name ∷ fields) UnknownVerb
 unknown name fields h = rw (unnamed verbs name h) refl
+
+-- what is neither of these lists' is not that of both together
+with_more : (vs ws : List Verb) (name : List ℕ) → IsUnnamed vs name → IsUnnamed ws name → IsUnnamed (vs ++ ws) name
+with_more [] ws name h more = more
+with_more (verb ∷ vs) ws name h more = (h.0, with_more vs ws name h.1 more)
+
+-- so is a name that is neither a command's nor a question's
+pub unknown_question : (name : List ℕ) (fields : List (List ℕ)) → IsUnnamed commands name → IsUnnamed (drop 14 verbs) name → StatementFault (name ∷ fields) UnknownVerb
+unknown_question name fields h more = unknown name fields (with_more commands (drop 14 verbs) name h more)
 
 both : (a b : Bool) → (a && b) ≡ true → (a ≡ true) × (b ≡ true)
 both true b e = (refl, e)

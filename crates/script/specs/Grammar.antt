@@ -1,5 +1,5 @@
 -- The grammar: the verbs, and what stands behind each.
-use Rattle.std.specs.Prelude.{ℕ, List, [], ◌∷◌, Option, codes, find}
+use Rattle.std.specs.Prelude.{ℕ, List, [], ◌∷◌, ◌≢◌, Option, codes, find, take}
 use Rattle.keys.specs.Order.{bytes_eq}
 
 -- what kind of argument stands in a place
@@ -41,6 +41,15 @@ verbs =
     ∷ record { name = codes "mapvalues"; places = handle_place ∷ map_place ∷ handle_place ∷ [] }
     ∷ record { name = codes "fold"; places = handle_place ∷ fold_place ∷ [] }
     ∷ []
+
+-- those before count: a map's commands
+abbrev pub commands : List Verb
+commands = take 14 verbs
+
+-- the name is none of theirs
+abbrev pub IsUnnamed : List Verb → List ℕ → Type 0
+IsUnnamed [] name = Unit {0}
+IsUnnamed (verb ∷ verbs) name = (name ≢ verb.name) × IsUnnamed verbs name
 
 -- the verb of this name, if there is one
 abbrev pub verb_named : List ℕ → Option Verb

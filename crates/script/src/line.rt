@@ -2,6 +2,7 @@
 
 ghost use Rattle.std.specs.Prelude.{◌≡◌, ◌∷◌, ◌<◌, IfOk, IfErr};
 ghost use Rattle.std.specs.Fmt.{decimal};
+ghost use Rattle.script.specs.Grammar.{IsUnnamed, commands};
 ghost use Rattle.script.specs.Lines.{fields_of};
 ghost use Rattle.script.specs.Statements.{words_of, IsLawful};
 ghost use Rattle.script.specs.Faults.{StatementFault, CommandFault, StopsBy};
@@ -95,6 +96,18 @@ fn statement_of(alloc: Global, verb: &str, fields: Fields<'_>) -> Result<Stateme
         "size" => statement!(alloc, fields, Size(handle)),
         "clear" => statement!(alloc, fields, Clear(handle)),
         "list" => statement!(alloc, fields, Pairs(handle)),
+        _ => question_of(alloc, verb, fields),
+    }
+}
+
+/// The statement of a verb that is no command's: of a question about a whole map.
+fn question_of(alloc: Global, verb: &str, fields: Fields<'_>) -> Result<Statement, Stop>
+    requires { IsUnnamed commands verb.now }
+    ensures lawful { IfOk result IsLawful }
+    ensures ok { IfOk result (λ s. words_of s ≡ verb.now ∷ fields_of fields.entry.0.now) }
+    ensures err { IfErr result (StopsBy (StatementFault (verb.now ∷ fields_of fields.entry.0.now))) }
+{
+    match verb {
         "count" => statement!(alloc, fields, Count(handle, test)),
         "exists" => statement!(alloc, fields, Exists(handle, test)),
         "forall" => statement!(alloc, fields, ForAll(handle, test)),

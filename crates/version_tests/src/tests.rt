@@ -3,8 +3,10 @@ mod beside_list;
 mod laws;
 mod memory;
 mod nodes;
+mod operations;
 mod plain;
 mod shape;
+mod stamps;
 mod views;
 
 use generation::Source;

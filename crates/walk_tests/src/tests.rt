@@ -2,6 +2,8 @@
 
 mod cuts;
 mod memory;
+mod small_cuts;
+mod small_walks;
 mod walks;
 
 use crate::plain::{Row, position_of};

@@ -1,6 +1,6 @@
 //! Walks over maps of a few chosen path words.
 
-use crate::{pairs, pairs_of};
+use iter::{pairs, pairs_of};
 use std::alloc::Global;
 use std::sync::Arc;
 use std::test::Fail;

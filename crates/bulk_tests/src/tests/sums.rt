@@ -4,7 +4,7 @@ ghost use Rattle.combiner.specs.Monoids.{folded};
 ghost use Rattle.combiner.specs.Numbers.{wrapped_sum};
 ghost use Rattle.combiner.specs.Pairs.{side_by_side};
 
-use crate::{Monoid, Sum, law_of_sums, law_of_sums_within};
+use combiner::{Monoid, Sum, law_of_sums, law_of_sums_within};
 use std::test::Fail;
 
 // Two values summed. The laws say that this is their plain sum, and so it is in each part of a pair.

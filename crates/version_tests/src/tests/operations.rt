@@ -2,8 +2,8 @@
 mod limits;
 mod nodes;
 
-use crate::{get_or_else_update, put, put_if_absent, remove, remove_if, replace, replace_if};
 use keys::ByteText;
+use map_ops::{get_or_else_update, put, put_if_absent, remove, remove_if, replace, replace_if};
 use std::alloc::Global;
 use std::sync::Arc;
 use std::test::Fail;

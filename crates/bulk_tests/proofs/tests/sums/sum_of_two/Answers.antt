@@ -3,7 +3,7 @@ use Rattle.std.proofs.Math.IntN.{+ℤ_idr}
 use Rattle.std.proofs.lemmas.List.Elements.{All-cons, All-nil}
 use Rattle.combiner.specs.Numbers.{IsI64, wrapped_sum}
 use Rattle.combiner.specs.Pairs.{side_by_side}
-use Rattle.combiner.proofs.tests.laws.sum_of_two.Goals as goal
+use Rattle.bulk_tests.proofs.tests.sums.sum_of_two.Goals as goal
 
 two : (a b : ℤ) → IsI64 a → IsI64 b → All IsI64 (a ∷ b ∷ [])
 two a b first last = All-cons IsI64 a (b ∷ []) first (All-cons IsI64 b [] last (All-nil IsI64))

@@ -1,6 +1,5 @@
-mod laws;
-
-use crate::{Both, Greatest, Least, Monoid, Sum, merge};
+//! Monoids, and the merge of small maps, by hand.
+use combiner::{Both, Greatest, Least, Monoid, Sum, merge};
 use std::alloc::Global;
 use std::sync::Arc;
 use std::test::Fail;

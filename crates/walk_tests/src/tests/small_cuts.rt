@@ -1,6 +1,6 @@
 //! Cuts of small maps, by hand.
-use crate::{Cut, Piece, cut, whole};
 use iter::pairs;
+use splitter::{Cut, Piece, cut, whole};
 use std::alloc::Global;
 use std::process::Abort;
 use std::sync::Arc;

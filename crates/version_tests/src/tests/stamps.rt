@@ -1,5 +1,5 @@
 //! Stamps and the nodes that carry them, by hand.
-use crate::{Source, own_nodes};
+use generation::{Source, own_nodes};
 use std::sync::Arc;
 use std::test::Fail;
 use test_keys::ChosenKey;
