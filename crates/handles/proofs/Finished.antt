@@ -1,5 +1,5 @@
 -- What a finish leaves.
-use Rattle.std.proofs.Common.{◌≡◌, ℕ, ◌+◌, true, refl, ap, sym, subst, ◌∙◌, Option, Some, None}
+use Rattle.std.proofs.Common.{◌≡◌, ℕ, true, refl, ap, sym, subst, Option, Some, None}
 use Rattle.std.specs.Prelude.{Result, Ok, Err, IfOk, OnErr, is_some}
 use Rattle.std.specs.Ordering.{nat_cmp}
 use Rattle.versions.specs.Map.{with_pair}

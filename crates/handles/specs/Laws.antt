@@ -1,5 +1,5 @@
 -- What every step of a machine keeps.
-use Rattle.std.specs.Prelude.{◌≡◌, ◌≢◌, ℕ, Bool, true, false, Option, Some, None, Result}
+use Rattle.std.specs.Prelude.{◌≡◌, ◌≢◌, ℕ, Bool, true, false, Some, None, Result}
 use Rattle.versions.specs.Commands.{Command}
 use Rattle.versions.specs.Map.{Map}
 use Rattle.versions.specs.declared.refusal.Refusal.{Refusal}

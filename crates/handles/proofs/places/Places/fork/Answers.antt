@@ -1,4 +1,4 @@
-use Rattle.std.proofs.Common.{[], ◌+◌, ap, subst, sym, ◌∙◌, arith, length}
+use Rattle.std.proofs.Common.{[], ◌+◌, ap, subst, sym, ◌∙◌, arith}
 use Rattle.std.specs.Prelude.{IsSome, Some, slice_set, unwrap_or}
 use Rattle.std.specs.Ordering.{nat_cmp}
 use Rattle.versions.specs.Map.{value_at, with_pair}

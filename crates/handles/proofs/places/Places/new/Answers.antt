@@ -1,7 +1,7 @@
-use Rattle.std.proofs.Common.{rules, ◌≡◌, ◌++◌, ◌∷◌, [], None, subst, sym, ◌∙◌, ap, ℕ, length, arith}
+use Rattle.std.proofs.Common.{rules, ◌≡◌, ◌++◌, ◌∷◌, [], None, ◌∙◌, ap}
 use Rattle.handles.specs.Handles.{live_from, maps_in, version_in}
 use Rattle.handles.proofs.Live.{none_more}
-use Rattle.handles.proofs.Kept.{none_added, empty_kept}
+use Rattle.handles.proofs.Kept.{none_added}
 use Rattle.handles.proofs.places.Places.new.Goals as goal
 
 pub places-preserved : goal.places-preserved

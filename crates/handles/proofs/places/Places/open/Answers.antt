@@ -1,7 +1,6 @@
-use Rattle.std.proofs.Common.{[], ap, ◌∙◌, arith}
+use Rattle.std.proofs.Common.{◌∙◌, arith}
 use Rattle.std.specs.Ordering.{nat_cmp}
 use Rattle.versions.specs.Map.{with_pair}
-use Rattle.handles.specs.Handles.{Held, live_from, maps_in}
 use Rattle.handles.proofs.Live.{with_version}
 use Rattle.handles.proofs.Kept.{set_fresh}
 use Rattle.handles.proofs.places.Places.open.Goals as goal

@@ -1,5 +1,5 @@
-use Rattle.std.proofs.Common.{◌≡◌, [], ap, subst, sym, ◌∙◌, arith, length}
-use Rattle.std.specs.Prelude.{IsSome, Some, slice_set, unwrap_or}
+use Rattle.std.proofs.Common.{◌≡◌, [], ap, subst, sym, ◌∙◌, arith}
+use Rattle.std.specs.Prelude.{IsSome, unwrap_or}
 use Rattle.std.specs.Ordering.{nat_cmp}
 use Rattle.versions.specs.Commands.{after, is_full, reply}
 use Rattle.versions.specs.Map.{Map, value_at, with_pair}

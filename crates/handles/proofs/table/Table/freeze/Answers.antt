@@ -1,4 +1,4 @@
-use Rattle.std.proofs.Common.{◌≡◌, ◌≤◌, ap, refl, sym, subst}
+use Rattle.std.proofs.Common.{◌≤◌, ap, refl, sym, subst}
 use Rattle.std.specs.Prelude.{Err}
 use Rattle.handles.specs.Jobs.{IsPlace}
 use Rattle.handles.specs.Machine.{State, freeze, room}
