@@ -82,11 +82,3 @@ module _ {K V : Type 0} where
   none_added [] none (suc h) = refl
   none_added (p ∷ ps) none zero = none zero
   none_added (p ∷ ps) none (suc h) = none_added ps (λ k. none (suc k)) h
-
-  -- 1,024 empty places
-  pub empty_kept : (l n : ℕ) (places : List (Option (Contents K V))) → length places ≡ 1024 → ((h : ℕ) → version_in places h ≡ None) → IsKept l n places
-  empty_kept l n places count none = record {
-    count = count;
-    each = λ h v e. absurd (let no : None ≡ Some v = sym (none h) ∙ e in cc);
-    apart = λ h k v w e f same. absurd (let no : None ≡ Some v = sym (none h) ∙ e in cc);
-  }
