@@ -1,4 +1,4 @@
-use Rattle.std.proofs.Common.{◌≡◌, ℕ, ◌≤◌, length, List, [], ◌∷◌, ◌++◌, Bool, true, false, cond, arith, sym, subst}
+use Rattle.std.proofs.Common.{◌≤◌, [], ◌∷◌, ◌++◌, Bool, true, false, cond, arith, sym, subst}
 use Rattle.versions.specs.Map.{IsMap, ShareNoKey}
 use Rattle.iter.specs.Intervals.{AreApart, lies_in, part, parts}
 use Rattle.iter.specs.declared.interval.Interval.{Interval}
