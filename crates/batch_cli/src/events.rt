@@ -119,8 +119,8 @@ fn reply_of(answer: &Result<CallReply<i64>, Refusal>) -> Result<LineReply, NoMem
 
 /// The reply that tells the refusal, if it is an entry of the journal.
 ///
-/// Others than want of memory are never met here: a script is too short to fill the journal, and each job is closed once,
-/// by the client that opened it.
+/// Others than want of memory are never met here: a script is too short to fill the journal, and each job is closed
+/// once, by the client that opened it.
 pub fn refused(refusal: Refusal) -> Result<LineReply, NoMemory>
     ensures shown { IfOk result (λ reply. reply ≡ LineReply.Refused refusal) }
     ensures filed { OnOk result (is_entry refusal ≡ true) }

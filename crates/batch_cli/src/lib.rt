@@ -1,8 +1,8 @@
 //! The run of a script of clients, each on a thread of its own over one map, and the command line of the program.
 //!
 //! The crate `script` reads a script; [`run_script`] runs it, writes the replies and gives the journal, and [`execute`]
-//! reads and runs it and gives the status of the program. [`options`] reads the words of the command line, and [`read_script`] the bytes
-//! of a script.
+//! reads and runs it and gives the status of the program. [`options`] reads the words of the command line, and
+//! [`read_script`] the bytes of a script.
 #![tactic(auto)]
 
 mod arguments;

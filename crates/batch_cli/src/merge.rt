@@ -21,8 +21,8 @@ pub fn all_of(
     Ok(all)
 }
 
-/// Writes the replies of the lines in their order, each behind its line's number. The replies of each client stand in the
-/// order of its lines.
+/// Writes the replies of the lines in their order, each behind its line's number. The replies of each client stand in
+/// the order of its lines.
 ///
 /// # Errors
 ///

@@ -1,5 +1,5 @@
-//! Tests of `combiner` and `bulk_ops`: what queries are answered, which requests for memory they make, when a work stops,
-//! how maps are merged, and what the laws of sums and of folds show of values.
+//! Tests of `combiner` and `bulk_ops`: what queries are answered, which requests for memory they make, when a work
+//! stops, how maps are merged, and what the laws of sums and of folds show of values.
 #![tactic(auto)]
 
 #[cfg(test)]

@@ -9,8 +9,8 @@ use trie_map::{Refusal, TrieMap};
 /// A cache of entries by their numbers.
 pub type Cache = TrieMap<u64, Entry, MadeFromKey>;
 
-/// The last three digits of the number's square: from the cache where they are there, and else worked out and kept. They
-/// are the right ones, whatever other threads have put there.
+/// The last three digits of the number's square: from the cache where they are there, and else worked out and kept.
+/// They are the right ones, whatever other threads have put there.
 pub fn ending<R: Wait>(rt: &R, cache: &Cache, number: u64, second: u64) -> Result<u64, Refusal>
     ensures { IfOk result (λ ending. ending ≡ square_ending number) }
 {

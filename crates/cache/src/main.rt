@@ -1,5 +1,5 @@
-//! A cache that four threads share: each asks for what it needs, which is worked out once and kept; a snapshot is counted
-//! while they write; and old entries are filtered out.
+//! A cache that four threads share: each asks for what it needs, which is worked out once and kept; a snapshot is
+//! counted while they write; and old entries are filtered out.
 //!
 //! What it prints is stored beside it. It fails, with status 1, where memory or the output does.
 #![tactic(auto)]

@@ -91,8 +91,8 @@ impl<K: PathKey + Drop, V: Drop, P> Board<K, V, P> {
         }
     }
 
-    /// A worker cuts the piece that it holds, which keeps its lower side; the upper one is the newest of its queue then.
-    /// After `NoMemory` all is as before.
+    /// A worker cuts the piece that it holds, which keeps its lower side; the upper one is the newest of its queue
+    /// then. After `NoMemory` all is as before.
     pub fn split(&mut self, worker: u32, grain: u64) -> Result<Progress, NoMemory>
         requires { worker < length self.old }
         ensures ok { IfOk result (λ progress. (m : Map K V) → All (HasPieces m) self.old → Leaves self.old self.new (turn_of progress) (splitting_turn (λ i. cut_point K.path_of m i grain) self.old worker)) }
@@ -120,7 +120,8 @@ pub fn first_board<K: PathKey + Drop, V: Drop, B: Bulk<K, V>>(
     Ok(board)
 }
 
-/// The piece of the whole view waits for worker 0 of a vacant board, in a queue with a place for it. It takes no memory.
+/// The piece of the whole view waits for worker 0 of a vacant board, in a queue with a place for it. It takes no
+/// memory.
 pub(crate) fn begin_whole<K: PathKey + Drop, V: Drop, B: Bulk<K, V>>(
     alloc: Global,
     bulk: &B,
@@ -157,8 +158,8 @@ pub(crate) fn vacant<K: PathKey + Drop, V: Drop, B: Bulk<K, V>>(
     Ok(Board { desks })
 }
 
-/// A worker works the piece that it holds: it joins the piece's part to its own, and lets the piece go. After `NoMemory`
-/// all is as before.
+/// A worker works the piece that it holds: it joins the piece's part to its own, and lets the piece go. After
+/// `NoMemory` all is as before.
 pub fn work_on<K: PathKey + Drop, V: Drop, B: Bulk<K, V>>(
     alloc: Global,
     bulk: &B,

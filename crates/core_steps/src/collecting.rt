@@ -15,8 +15,8 @@ use iter::parts_follow_intervals;
 use std::alloc::Global;
 use trie_node::NoMemory;
 
-/// A part that answers the whole map of a job: where nothing waits and nothing is held the parts of all workers, joined;
-/// else the part of a worker whose own pairs decide. None where there is neither.
+/// A part that answers the whole map of a job: where nothing waits and nothing is held the parts of all workers,
+/// joined; else the part of a worker whose own pairs decide. None where there is neither.
 pub fn collected<K: PathKey + Drop, V: Drop, B: Bulk<K, V>>(
     alloc: Global,
     bulk: &B,

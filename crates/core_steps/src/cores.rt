@@ -52,7 +52,8 @@ impl<K: PathKey, V, Q: Asks<K, V>> Model for Core<K, V, Q> {
 }
 
 impl<K: PathKey + Drop, V: Eq + Drop, Q: Asks<K, V> + Drop> Core<K, V, Q> {
-    /// A core with no handles and no jobs, for so many workers of each job. A piece of at most `grain` pairs is not cut.
+    /// A core with no handles and no jobs, for so many workers of each job. A piece of at most `grain` pairs is not
+    /// cut.
     pub fn new(
         alloc: Global,
         limits: Limits,

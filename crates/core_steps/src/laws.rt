@@ -18,8 +18,8 @@ pub fn law_of_runs<K: PathKey, V: Eq, Q: Asks<K, V>>()
     ensures { RunsAreMachineRuns (asked K.cmp V.eq Q.target_of Q.answered) (divided K.path_of Q.decides) }
 {}
 
-/// A new core is one, and every step of clients and workers keeps that: each open job has a board whose intervals, those
-/// that wait, those that are held and those that were worked, tile all positions.
+/// A new core is one, and every step of clients and workers keeps that: each open job has a board whose intervals,
+/// those that wait, those that are held and those that were worked, tile all positions.
 pub fn law_of_cores<K: PathKey, V: Eq, Q: Asks<K, V>>()
     ensures new { (limits : Limits) (workers grain : ℕ) → 1 ≤ workers → IsCore {K = K} {V = V} {Q = Q} (new_core limits workers grain) }
     ensures kept { StepsKeepCores (asked K.cmp V.eq Q.target_of Q.answered) (divided K.path_of Q.decides) }
@@ -51,8 +51,8 @@ pub fn law_of_boards<K: PathKey, V>()
     law_of_cuts::<K, V>();
 }
 
-/// Each worker's turn keeps what is true of the desks of a job on a map: the pieces are of the map, each part answers what
-/// its worker has worked, and no two intervals share a position.
+/// Each worker's turn keeps what is true of the desks of a job on a map: the pieces are of the map, each part answers
+/// what its worker has worked, and no two intervals share a position.
 pub fn law_of_jobs<K: PathKey, V, B: Bulk<K, V>>(bulk: &B)
     ensures { TurnsKeepJobs K.cmp K.path_of (B.answers bulk.now) (B.decides bulk.now) }
 {

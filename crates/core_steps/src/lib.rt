@@ -2,8 +2,8 @@
 //!
 //! Beside the machine of handles stands a board for each open job: what waits for each worker, what it holds and what
 //! it has worked. A client's step is the machine's; a worker's is the board's, and leaves the machine as it is. The
-//! states, steps and runs are definitions in `specs/`; the laws say what is true of every run. A `Core` is stepped so, and
-//! the contract of `Core::run` is that its steps are a run.
+//! states, steps and runs are definitions in `specs/`; the laws say what is true of every run. A `Core` is stepped so,
+//! and the contract of `Core::run` is that its steps are a run.
 #![tactic(auto)]
 
 mod board;

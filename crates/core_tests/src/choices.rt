@@ -35,8 +35,8 @@ const KEYS: u32 = 3;
 /// Values are below this.
 const VALUES: u32 = 6;
 
-/// The weights of commands, views, calls on handles, freezes, finishes, abandonments, any moves of workers, and moves of
-/// workers that have something to do.
+/// The weights of commands, views, calls on handles, freezes, finishes, abandonments, any moves of workers, and moves
+/// of workers that have something to do.
 type Mix = [u32; 8];
 
 /// Mixes of all; of workers above all; of freezes; of commands; and of clients.
@@ -259,8 +259,8 @@ impl Chooser {
         }
     }
 
-    // A worker that holds a span cuts or works it. One that holds none takes one of its own, or steals one. Where nothing
-    // is left, the job is finished.
+    // A worker that holds a span cuts or works it. One that holds none takes one of its own, or steals one. Where
+    // nothing is left, the job is finished.
     fn lively_move(&mut self, job: &Job) -> Plan {
         let worker = self.random.next(size_of(job.desks.len()));
         let owner = self.owner(job);

@@ -1,8 +1,8 @@
 //! A table of maps under handle numbers, each call of which is one step of a machine.
 //!
 //! The machine keeps one plain finite map for each handle that is live, the query and the frozen map of each open job,
-//! and counts the entries of a journal. Its states, steps and runs are definitions in `specs/Machine.antt`; the contract
-//! of each call of a `Table` is a step.
+//! and counts the entries of a journal. Its states, steps and runs are definitions in `specs/Machine.antt`; the
+//! contract of each call of a `Table` is a step.
 #![tactic(auto)]
 
 mod call;

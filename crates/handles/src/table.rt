@@ -37,8 +37,8 @@ use ends::{close_job, open_job};
 /// Each call but `entries` and `places` is one step of the machine. Where several refusals are due, the first of this
 /// order is the answer: `JournalFull`, `BadNumber`, `NoHandle`, `NoJob`, `Taken`, `TooManyJobs`, `Full`. A refusal that
 /// is due is told whatever the memory. After any refusal all handles and jobs are as before. Each call is one entry of
-/// the journal, unless it is refused as `NoJob`, `JournalFull` or `NoMemory`. The journal keeps room for the ends of the
-/// open jobs.
+/// the journal, unless it is refused as `NoJob`, `JournalFull` or `NoMemory`. The journal keeps room for the ends of
+/// the open jobs.
 #[derive(Drop)]
 pub struct Table<K: PathKey, V, Q: Asks<K, V> = NoQuery> {
     limits: Limits,
@@ -180,8 +180,8 @@ impl<K: PathKey + Drop, V: Eq + Drop, Q: Asks<K, V> + Drop> Table<K, V, Q> {
         counted(&mut self.entries, answer)
     }
 
-    /// Opens a job with the query on the handle's map as it stands now, and gives the job's number and that map, which no
-    /// later call changes. Where the query has a target, the number is reserved until the job is closed. It makes no
+    /// Opens a job with the query on the handle's map as it stands now, and gives the job's number and that map, which
+    /// no later call changes. Where the query has a target, the number is reserved until the job is closed. It makes no
     /// request for memory.
     ///
     /// It is refused as `JournalFull`, `BadNumber`, `NoHandle`, `Taken`, `TooManyJobs` or `NoMemory`.

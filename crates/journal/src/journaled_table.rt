@@ -29,8 +29,8 @@ use versions::{MOST_PAIRS, NoMemory, Refusal, View};
 
 /// A table, and the journal that leads to it.
 ///
-/// Each of its calls is one step of the machine and files one entry, or leaves all as it was. Beside each open job stands
-/// the token of the freeze that opened it.
+/// Each of its calls is one step of the machine and files one entry, or leaves all as it was. Beside each open job
+/// stands the token of the freeze that opened it.
 ///
 /// The vector of entries, which is given to each call, is the one that `J` names.
 #[derive(Drop)]
@@ -73,8 +73,8 @@ impl<K: PathKey + Drop, V: Eq + Drop, Q: Asks<K, V> + Drop, J: Room> JournaledTa
 
     /// Makes the call, and files it.
     ///
-    /// It makes no entry where it is refused as `JournalFull` or `NoMemory`, and leaves all as it was then. It is refused as
-    /// `NoMemory` only where no other refusal that is no entry is due.
+    /// It makes no entry where it is refused as `JournalFull` or `NoMemory`, and leaves all as it was then. It is
+    /// refused as `NoMemory` only where no other refusal that is no entry is due.
     pub fn call<R: Wait>(
         &mut self,
         rt: &R,
@@ -100,8 +100,8 @@ impl<K: PathKey + Drop, V: Eq + Drop, Q: Asks<K, V> + Drop, J: Room> JournaledTa
 
     /// Shows the map of the handle, and files that.
     ///
-    /// It makes no entry where it is refused as `JournalFull` or `NoMemory`, and leaves all as it was then. It is refused as
-    /// `NoMemory` only where no other refusal that is no entry is due.
+    /// It makes no entry where it is refused as `JournalFull` or `NoMemory`, and leaves all as it was then. It is
+    /// refused as `NoMemory` only where no other refusal that is no entry is due.
     pub fn view<R: Wait>(
         &mut self,
         rt: &R,
@@ -125,11 +125,11 @@ impl<K: PathKey + Drop, V: Eq + Drop, Q: Asks<K, V> + Drop, J: Room> JournaledTa
         }
     }
 
-    /// Opens a job with the query on the handle's map, and files that. The token of its entry stands beside the job, and
-    /// is given once more.
+    /// Opens a job with the query on the handle's map, and files that. The token of its entry stands beside the job,
+    /// and is given once more.
     ///
-    /// It makes no entry where it is refused as `JournalFull` or `NoMemory`, and leaves all as it was then. It is refused as
-    /// `NoMemory` only where no other refusal that is no entry is due.
+    /// It makes no entry where it is refused as `JournalFull` or `NoMemory`, and leaves all as it was then. It is
+    /// refused as `NoMemory` only where no other refusal that is no entry is due.
     pub fn freeze<R: Wait>(
         &mut self,
         rt: &R,
@@ -198,8 +198,8 @@ impl<K: PathKey + Drop, V: Eq + Drop, Q: Asks<K, V> + Drop, J: Room> JournaledTa
 
     /// Closes the job by the part's answer, where it was opened by the entry of this token, and files that.
     ///
-    /// It makes no entry where it is refused as `NoJob` or `NoMemory`. It hands the part back then, and leaves all as it
-    /// was. It is refused as `NoMemory` only where that entry opened the job.
+    /// It makes no entry where it is refused as `NoJob` or `NoMemory`. It hands the part back then, and leaves all as
+    /// it was. It is refused as `NoMemory` only where that entry opened the job.
     pub fn finish<R: Wait>(
         &mut self,
         rt: &R,

@@ -74,8 +74,8 @@ impl From<AllocError> for NoJournal {
     }
 }
 
-/// Runs the clients over a new map, each on a thread of its own and with the seat of its number, and closes the map once
-/// all have ended. It gives what each came to, in their order, and the journal with the table that it leads to.
+/// Runs the clients over a new map, each on a thread of its own and with the seat of its number, and closes the map
+/// once all have ended. It gives what each came to, in their order, and the journal with the table that it leads to.
 ///
 /// A client whose thread cannot be started is run by the caller's thread after the others.
 pub fn with_clients<K, V, Q, C, R>(

@@ -48,7 +48,8 @@ pub(crate) fn is_borne_out<K: PathKey + Drop, V: Drop, Q: Asks<K, V> + Drop, J: 
     rest.is_empty()
 }
 
-/// Whether the seats have the numbers from 0, in order, and the journal bears out each one's list, and their marks hold.
+/// Whether the seats have the numbers from 0, in order, and the journal bears out each one's list, and their marks
+/// hold.
 pub(crate) fn are_borne_out<K: PathKey + Drop, V: Eq + Drop, Q: Asks<K, V> + Drop, J: Room>(
     entries: &Entries<K, V, Q, Q::Item>,
     tokens: &Vec<Arc<Token<K, V, Q, Q::Item>>>,

@@ -49,8 +49,9 @@ pub trait Use<K: PathKey, V: Eq, Q: Asks<K, V>> {
         ensures gives { gives self seats.new.items result };
 }
 
-/// Makes a map with this number of seats, lends it to the user, and closes it with the seats that the user leaves. It gives
-/// what the user came to, and the journal with the table that it leads to; that is `Torn` where `SharedMap::close` is.
+/// Makes a map with this number of seats, lends it to the user, and closes it with the seats that the user leaves. It
+/// gives what the user came to, and the journal with the table that it leads to; that is `Torn` where
+/// `SharedMap::close` is.
 ///
 /// For want of memory the user comes back, and has done nothing.
 pub fn with<K, V, Q, U, R>(

@@ -176,11 +176,11 @@ impl<K: PathKey + Drop, V: Eq + Drop, Q: Asks<K, V> + Drop, J: Room> SharedMap<K
         }
     }
 
-    /// Closes the ticket's job by the part's answer, and opens its target, if it has one, with the map that the part made.
-    /// The part has to answer the ticket's query for its view.
+    /// Closes the ticket's job by the part's answer, and opens its target, if it has one, with the map that the part
+    /// made. The part has to answer the ticket's query for its view.
     ///
-    /// It is refused as `NoJob`, where the job is closed already, and as `NoMemory`. The ticket and the part are handed back
-    /// then.
+    /// It is refused as `NoJob`, where the job is closed already, and as `NoMemory`. The ticket and the part are handed
+    /// back then.
     pub fn finish<R: Wait>(
         &self,
         rt: &R,
@@ -213,7 +213,8 @@ impl<K: PathKey + Drop, V: Eq + Drop, Q: Asks<K, V> + Drop, J: Room> SharedMap<K
         }
     }
 
-    /// Ends the map, where each seat's list is what the journal has of the seat, and its marks hold. It takes no memory.
+    /// Ends the map, where each seat's list is what the journal has of the seat, and its marks hold. It takes no
+    /// memory.
     ///
     /// It is `Torn` where the seats are not all those of the map, in the order of their numbers, or where an entry of a
     /// seat is not the journal's at its place, or stands below the floor beside it, or where a seat was answered

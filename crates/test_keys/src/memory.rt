@@ -53,8 +53,8 @@ fn take_all_of(alloc: Global, taken: &mut Vec<Vec<u8>>, size: usize) {
 /// How many bytes a shortage can give.
 const BLOCK: usize = 122_880;
 
-/// All memory is taken but for some bytes next to one another, so that a call can be tried with no memory, with a little,
-/// and so on.
+/// All memory is taken but for some bytes next to one another, so that a call can be tried with no memory, with a
+/// little, and so on.
 #[derive(Drop)]
 pub struct Shortage {
     taken: Vec<Vec<u8>>,

@@ -14,8 +14,8 @@ use std::thread::Threads;
 use std::time::{Clock, Duration, Instant};
 use versions::MOST_PAIRS;
 
-/// How many pairs the maps get at most, and how many calls a round makes then. The puts that fill a map are entries of its
-/// journal too, so that both together have to stay below `MOST_ENTRIES`.
+/// How many pairs the maps get at most, and how many calls a round makes then. The puts that fill a map are entries of
+/// its journal too, so that both together have to stay below `MOST_ENTRIES`.
 const MOST_FILLED: usize = 500_000;
 
 const CALLS: u32 = 500_000;

@@ -144,8 +144,8 @@ fn wait_until<R: Wait>(rt: &R, so: &AtomicBool) {
     }
 }
 
-/// Makes puts until all readers have ended, or the journal has no more entries for them. A put gives a key of no order the
-/// value that it has.
+/// Makes puts until all readers have ended, or the journal has no more entries for them. A put gives a key of no order
+/// the value that it has.
 fn write<J: Room, R: Wait, C>(
     rt: &R,
     alloc: Global,

@@ -25,8 +25,8 @@ fn lines_of(key: u32) -> [u32; 4] {
     ]
 }
 
-// Both clients open handle 1 and add all keys twice. The clients take turns in the lines, and a value is the number of its
-// line.
+// Both clients open handle 1 and add all keys twice. The clients take turns in the lines, and a value is the number of
+// its line.
 fn script_of(alloc: Global) -> Result<String, Fail> {
     let mut script = String::from_str(alloc, "0 open 1\n1 open 1\n")?;
     let mut line = 3u32;

@@ -4,8 +4,8 @@ use super::{assert_is, assert_text, ran};
 use batch_cli::Free;
 use std::test::Fail;
 
-// It catches an event that is filed twice or not at all, one with another answer than was printed, and a job that is left
-// open.
+// It catches an event that is filed twice or not at all, one with another answer than was printed, and a job that is
+// left open.
 #[test]
 fn a_journal_has_the_events_of_each_line(rt: HostRuntime) -> Result<(), Fail> {
     let script = b"0 open 1\n0 put 1 a 5\n0 getorelse 1 b 7\n0 count 1 all\n";
@@ -19,8 +19,8 @@ fn a_journal_has_the_events_of_each_line(rt: HostRuntime) -> Result<(), Fail> {
     Ok(())
 }
 
-// Two clients have 64 seats between them. It catches seats that are numbered in another way than clients, an entry that is
-// filed at another's seat, and entries of clients that have no lines.
+// Two clients have 64 seats between them. It catches seats that are numbered in another way than clients, an entry that
+// is filed at another's seat, and entries of clients that have no lines.
 #[test]
 fn each_seat_has_the_events_of_its_client(rt: HostRuntime) -> Result<(), Fail> {
     let alloc = rt.alloc();

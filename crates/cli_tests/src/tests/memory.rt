@@ -95,8 +95,8 @@ fn want_of_memory_is_told_in_one_line(rt: HostRuntime) -> Result<(), Fail> {
     Ok(())
 }
 
-// Runs the script with no memory, with a little, and so on, until memory is not wanting: how often it was, and the journal.
-// A run that wants memory writes nothing.
+// Runs the script with no memory, with a little, and so on, until memory is not wanting: how often it was, and the
+// journal. A run that wants memory writes nothing.
 fn refused_and_run<R: Threads + Wait + Sync>(
     rt: &R,
     alloc: Global,
@@ -170,8 +170,8 @@ fn is_run_until<R: Threads + Wait + Sync>(
     }
 }
 
-// The threads of both clients have begun or will begin when memory is taken. It catches a thread that is not joined where
-// the other one fails, and replies that are written without those of a client that failed.
+// The threads of both clients have begun or will begin when memory is taken. It catches a thread that is not joined
+// where the other one fails, and replies that are written without those of a client that failed.
 #[test]
 fn memory_is_wanting_from_some_line_on(rt: HostRuntime) -> Result<(), Fail> {
     let alloc = rt.alloc();

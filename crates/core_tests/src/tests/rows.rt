@@ -1,5 +1,6 @@
-//! Worked lists of steps, by hand: each step by step, and once more as one list. The keys P, Q and R have the path words
-//! 0, 0xc0000000 and 1, so that P has position 0 and Q position 3; the keys a, b and c have the words of those texts.
+//! Worked lists of steps, by hand: each step by step, and once more as one list. The keys P, Q and R have the path
+//! words 0, 0xc0000000 and 1, so that P has position 0 and Q position 3; the keys a, b and c have the words of those
+//! texts.
 
 use super::{LARGEST, take_step};
 use crate::asks::{Ask, Within};
@@ -68,7 +69,8 @@ fn opens() -> Row {
     (Plan::Open(1), Told::Unit)
 }
 
-// P=1 and Q=2 are put on handle 1 and frozen, and R=3 is put after that; then worker 0 holds P's piece and worker 1 Q's.
+// P=1 and Q=2 are put on handle 1 and frozen, and R=3 is put after that; then worker 0 holds P's piece and worker 1
+// Q's.
 fn begun(ask: Ask) -> [Row; 8] {
     [
         opens(),

@@ -80,9 +80,9 @@ impl<K: PathKey + Drop, V: Eq + Drop, Q: Asks<K, V> + Drop> Table<K, V, Q> {
         }
     }
 
-    /// What `finish` with the part would answer now. The part, which is lent alone, has to answer the job's query for its
-    /// frozen map. It makes no request for memory: a pair that was found is shared with the part. Whoever makes the call
-    /// then with that part is told the same.
+    /// What `finish` with the part would answer now. The part, which is lent alone, has to answer the job's query for
+    /// its frozen map. It makes no request for memory: a pair that was found is shared with the part. Whoever makes the
+    /// call then with that part is told the same.
     ///
     /// It foresees `NoMemory` only where no refusal is due.
     pub fn foresee_finish(&self, job: u64, part: &Q::Part) -> Result<Answer<K, V, Q::Item>, Refusal>

@@ -13,12 +13,12 @@ use std::sync::{Arc, Wait};
 use versions::Refusal;
 
 impl<K: PathKey + Drop, V: Eq + Drop, Q: Asks<K, V> + Drop, J: Room> SharedMap<K, V, Q, J> {
-    /// The value of the key on the handle. Where it has none, `make` makes one, which is put, unless another seat has put
-    /// one meanwhile: that seat's value is the answer then.
+    /// The value of the key on the handle. Where it has none, `make` makes one, which is put, unless another seat has
+    /// put one meanwhile: that seat's value is the answer then.
     ///
-    /// It is a get and, where that finds nothing, a put if absent, each an entry of its own. `make` is called between the
-    /// two, with no lock held, and for a key that has a value it is not called. It is refused as either call is. Where the
-    /// second is refused, the first stands in the journal.
+    /// It is a get and, where that finds nothing, a put if absent, each an entry of its own. `make` is called between
+    /// the two, with no lock held, and for a key that has a value it is not called. It is refused as either call is.
+    /// Where the second is refused, the first stands in the journal.
     pub fn get_or_else_update<R: Wait, F: FnOnce() -> V>(
         &self,
         rt: &R,

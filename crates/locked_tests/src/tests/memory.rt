@@ -25,8 +25,8 @@ const STEP: usize = 16;
 // How often something is tried at most.
 const TRIES: u32 = 2_048;
 
-/// How many entries there are before something is tried: as many as the first bucket of the vector of entries has, and as
-/// a seat's list and the journal have room for. So each of them has to grow.
+/// How many entries there are before something is tried: as many as the first bucket of the vector of entries has, and
+/// as a seat's list and the journal have room for. So each of them has to grow.
 pub const ENTRIES: usize = 32;
 
 // What is tried with no memory, with a little, and so on.
@@ -86,8 +86,8 @@ impl Use<ChosenKey, u64, Query> for Wanting {
     }
 }
 
-// Each of the following tries what it is named for with no memory, with a little, and so on, and tells how often memory was
-// wanting.
+// Each of the following tries what it is named for with no memory, with a little, and so on, and tells how often memory
+// was wanting.
 
 fn call<J: Room, R: Wait>(
     rt: &R,
@@ -235,8 +235,8 @@ pub fn filled(alloc: Global, first: &[Request]) -> Result<Vec<Request>, AllocErr
     Ok(requests)
 }
 
-// What the journal has to have: the requests before, and what was tried, once. Of a value that is got or stored it is so
-// many gets and what stores it.
+// What the journal has to have: the requests before, and what was tried, once. Of a value that is got or stored it is
+// so many gets and what stores it.
 fn wanted_of(
     alloc: Global,
     before: &[Request],
@@ -256,8 +256,8 @@ fn wanted_of(
     Ok(requests)
 }
 
-// It is refused some times, after which the map and the seat are as before, and then made. The number of entries that it
-// has is told. They are as a plain program has them.
+// It is refused some times, after which the map and the seat are as before, and then made. The number of entries that
+// it has is told. They are as a plain program has them.
 fn assert_refused<R: AllocGlobal + Abort + Threads + Wait + Sync>(
     rt: &R,
     first: &[Request],

@@ -146,8 +146,8 @@ pub fn played<R: AllocGlobal + Abort + Threads + Wait + Sync>(
     }
 }
 
-/// Each step that asks is told as it says, the map closes, and the journal has those of them that are entries, in order. A
-/// plain program comes to the same table.
+/// Each step that asks is told as it says, the map closes, and the journal has those of them that are entries, in
+/// order. A plain program comes to the same table.
 pub fn assert_steps<R: AllocGlobal + Abort + Threads + Wait + Sync>(
     rt: &R,
     seats: u32,

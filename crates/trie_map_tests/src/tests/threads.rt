@@ -72,8 +72,8 @@ fn next(state: u64) -> u64 {
     state ^ (state << 17)
 }
 
-// The keys of a thread's pair: for one half of the threads the first lies in a stripe before that of the second, for the
-// other half behind it.
+// The keys of a thread's pair: for one half of the threads the first lies in a stripe before that of the second, for
+// the other half behind it.
 fn pair(of: u32) -> (ChosenKey, ChosenKey) {
     let low = of % THREADS;
     let high = 31 - low;

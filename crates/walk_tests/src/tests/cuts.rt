@@ -48,8 +48,8 @@ fn cut_at(
     }
 }
 
-// Cuts the map until no piece can be cut, each piece beside its rows. The last pieces stand one after another and end at
-// the last position.
+// Cuts the map until no piece can be cut, each piece beside its rows. The last pieces stand one after another and end
+// at the last position.
 fn assert_divides(
     rt: &impl Abort,
     alloc: Global,
