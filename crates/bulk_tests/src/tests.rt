@@ -140,8 +140,9 @@ fn joined<K: PathKey + Drop, V: Drop, B: Bulk<K, V>>(
     if lower.len() > 100 || upper.len() > 100 {
         return Ok(None);
     }
-    let (below, above) = (work(alloc, &lower, bulk)?, work(alloc, &upper, bulk)?);
-    Ok(Some(bulk.join(alloc, &below, &above)?))
+    let below = work(alloc, &lower, bulk)?;
+    let above = work(alloc, &upper, bulk)?;
+    bulk.join(alloc, &below, &above).map(Some)
 }
 
 // The number that a query is answered of all three pairs, and of the two pieces of a cut.
@@ -224,37 +225,40 @@ fn pairs_that_pass(rt: HostRuntime) -> Result<(), Fail> {
     Ok(())
 }
 
+// What a query that makes a map makes of all three pairs, and of the two pieces of a cut: so many pairs, and what the map
+// has at the three keys.
+fn assert_makes(
+    rt: &impl Abort,
+    alloc: Global,
+    query: &Asked,
+    count: u64,
+    want: (Option<i64>, Option<i64>, Option<i64>),
+) -> Result<(), Fail>
+    requires { ⟦<Asked as Bulk<ChosenKey, i64>>⟧.ready query.now }
+{
+    let (told, made) = ask(alloc, first(alloc, 3)?, query)?;
+    assert!(rt; matches!(&told, Answer::Made(number) if *number == count));
+    let contents = match &made {
+        Some(map) => at_three(map),
+        None => (None, None, None),
+    };
+    assert_eq!(rt; contents, want);
+    let part = joined(alloc, first(alloc, 3)?, query)?;
+    let contents = match &part {
+        Some(Part::Made(map)) => at_three(map),
+        _ => (None, None, None),
+    };
+    assert_eq!(rt; contents, want);
+    Ok(())
+}
+
 #[test]
 fn maps_that_are_made(rt: HostRuntime) -> Result<(), Fail> {
     let alloc = rt.alloc();
-    let table = [
-        (
-            Asked::Filter(below(3), 9),
-            2,
-            (Some(i64::MAX), None, Some(i64::MIN)),
-        ),
-        (
-            Asked::MapValues(instead(4), 9),
-            3,
-            (Some(4), Some(4), Some(4)),
-        ),
-    ];
-    for (query, count, want) in table {
-        let (told, made) = ask(alloc, first(alloc, 3)?, &query)?;
-        assert!(rt; matches!(&told, Answer::Made(number) if *number == count));
-        let contents = match &made {
-            Some(map) => at_three(map),
-            None => (None, None, None),
-        };
-        assert_eq!(rt; contents, want);
-        let part = joined(alloc, first(alloc, 3)?, &query)?;
-        let contents = match &part {
-            Some(Part::Made(map)) => at_three(map),
-            _ => (None, None, None),
-        };
-        assert_eq!(rt; contents, want);
-    }
-    Ok(())
+    let two = (Some(i64::MAX), None, Some(i64::MIN));
+    assert_makes(&rt, alloc, &Asked::Filter(below(3), 9), 2, two)?;
+    let three = (Some(4), Some(4), Some(4));
+    assert_makes(&rt, alloc, &Asked::MapValues(instead(4), 9), 3, three)
 }
 
 #[test]

@@ -96,18 +96,15 @@ fn what_makes_no_map_asks_for_no_memory(rt: HostRuntime) -> Result<(), Fail> {
     Ok(())
 }
 
-// How many blocks of memory a filter wants that keeps the keys below a number.
-fn wanted_by_filter(
-    alloc: Global,
-    piece: &Piece<ChosenKey, i64>,
-    id: u32,
-) -> Result<usize, AllocError> {
+// How many blocks of memory a filter of so many pairs wants that keeps the keys below a number.
+fn wanted_by_filter(alloc: Global, pairs: usize, id: u32) -> Result<usize, Fail> {
+    let piece = whole(alloc, first(alloc, pairs)?);
     let query = Asked::Filter(below(id), 9);
     for given in 0..MOST_GIVEN {
         let mut blocks = spare(alloc)?;
         let taken = take_all(alloc)?;
         give(&mut blocks, given);
-        let answer = work(alloc, piece, &query);
+        let answer = work(alloc, &piece, &query);
         drop(taken);
         if answer.is_ok() {
             return Ok(given);
@@ -120,14 +117,12 @@ fn wanted_by_filter(
 #[test]
 fn a_pair_that_does_not_pass_asks_for_no_memory(rt: HostRuntime) -> Result<(), Fail> {
     let alloc = rt.alloc();
-    let (one, three) = (
-        whole(alloc, first(alloc, 1)?),
-        whole(alloc, first(alloc, 3)?),
-    );
-    let empty = wanted_by_filter(alloc, &one, 1)?;
+    let empty = wanted_by_filter(alloc, 1, 1)?;
     assert!(rt; empty > 0 && empty < MOST_GIVEN);
-    assert_eq!(rt; wanted_by_filter(alloc, &three, 1)?, empty);
-    assert!(rt; wanted_by_filter(alloc, &three, 2)? > empty);
+    let none = wanted_by_filter(alloc, 3, 1)?;
+    assert_eq!(rt; none, empty);
+    let some = wanted_by_filter(alloc, 3, 2)?;
+    assert!(rt; some > empty);
     Ok(())
 }
 

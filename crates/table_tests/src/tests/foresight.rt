@@ -200,17 +200,18 @@ fn twins_make_no_request(rt: HostRuntime) -> Result<(), Fail> {
     let alloc = rt.alloc();
     let mut table = with_handle(alloc)?;
     put(alloc, &mut table, 1, 97, 4)?;
-    let get = Drawn::Serve(Call::On(1, Command::Get(of_path(alloc, 97)?)));
-    let freeze = Drawn::Freeze(1, count_of(alloc, 4)?);
-    let four = Ok(Seen::Reply(CallReply::Reply(Reply::Old(Some(Arc::new(alloc, 4)?)))));
+    let (key, value) = (of_path(alloc, 97)?, Arc::new(alloc, 4)?);
+    let count = count_of(alloc, 4)?;
 
     let taken = take_all(alloc)?;
+    let get = Drawn::Serve(Call::On(1, Command::Get(key)));
     let found = foreseen(&table, &get);
     let viewed = foreseen(&table, &Drawn::View(1));
-    let frozen = foreseen(&table, &freeze);
+    let frozen = foreseen(&table, &Drawn::Freeze(1, count));
     drop(taken);
 
-    assert_is(&rt, found, four);
+    let four = CallReply::Reply(Reply::Old(Some(value)));
+    assert_is(&rt, found, Ok(Seen::Reply(four)));
     assert_is(&rt, viewed, Ok(Seen::Viewed(1, None)));
     assert_is(&rt, frozen, Ok(Seen::Frozen(0, 1, None)));
     Ok(())

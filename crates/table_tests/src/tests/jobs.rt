@@ -213,13 +213,18 @@ fn finish_of_no_job(alloc: Global) -> Result<(Asking, Option<Refusal>), Refusal>
 }
 
 #[test]
-fn a_job_that_is_not_open(rt: HostRuntime) -> Result<(), Fail> {
-    let alloc = rt.alloc();
-    let (mut table, answer) = finish_of_no_job(alloc)?;
+fn a_job_that_was_never_open(rt: HostRuntime) -> Result<(), Fail> {
+    let (mut table, answer) = finish_of_no_job(rt.alloc())?;
     assert_is(&rt, answer, Some(Refusal::NoJob));
     assert_is(&rt, abandon(&mut table, 0), Err(Refusal::NoJob));
     assert_is(&rt, entries(&table), 0);
-    table.open(alloc, 1)?;
+    Ok(())
+}
+
+#[test]
+fn a_job_that_is_closed(rt: HostRuntime) -> Result<(), Fail> {
+    let alloc = rt.alloc();
+    let mut table = with_handle(alloc)?;
     let query = count_of(alloc, 4)?;
     let (job, view) = freeze(&mut table, 1, &query)?;
     let told = finish(alloc, &mut table, job, &view, &*query)?;

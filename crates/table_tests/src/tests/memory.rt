@@ -46,32 +46,48 @@ fn a_snapshot_a_view_a_get_and_a_drop_make_no_request(rt: HostRuntime) -> Result
 }
 
 #[test]
-fn a_freeze_a_finish_and_an_abandon_make_no_request(rt: HostRuntime) -> Result<(), Fail> {
+fn a_finish_and_a_refused_freeze_make_no_request(rt: HostRuntime) -> Result<(), Fail> {
     let alloc = rt.alloc();
     let mut table = asking::with_handle(alloc)?;
     asking::put(alloc, &mut table, 1, 97, 4)?;
-    let (filter, count) = (filter_of(alloc, 4, 5)?, count_of(alloc, 4)?);
+    let filter = filter_of(alloc, 4, 5)?;
     let (job, view) = freeze(&mut table, 1, &filter)?;
     let query = &*filter;
     let part = worked(alloc, &view, query)?;
 
     let taken = take_all(alloc)?;
     let told = close(&mut table, job, &view, query, part);
-    let frozen = opened(&mut table, 1, &count);
-    let not_live = opened(&mut table, 7, &count);
+    let not_live = opened(&mut table, 7, &filter);
     let reserved = opened(&mut table, 1, &filter);
-    let abandoned = abandon(&mut table, 1);
-    let again = abandon(&mut table, 1);
     drop(taken);
 
-    assert_is(&rt, plainly(told?), Shown::Made(1));
-    assert_is(&rt, frozen, Ok((1, 1)));
+    assert_is(&rt, told.map(plainly), Ok(Shown::Made(1)));
     assert_is(&rt, not_live, Err(Refusal::NoHandle));
     assert_is(&rt, reserved, Err(Refusal::Taken));
-    assert_is(&rt, abandoned, Ok(()));
-    assert_is(&rt, again, Err(Refusal::NoJob));
-    assert_is(&rt, entries(&table), 8);
+    assert_is(&rt, entries(&table), 6);
     let four = Ok(CallReply::Reply(Reply::Old(Some(Arc::new(alloc, 4)?))));
     assert_is(&rt, asking::get(alloc, &mut table, 5, 97), four);
+    Ok(())
+}
+
+#[test]
+fn a_freeze_and_an_abandon_make_no_request(rt: HostRuntime) -> Result<(), Fail> {
+    let alloc = rt.alloc();
+    let mut table = asking::with_handle(alloc)?;
+    asking::put(alloc, &mut table, 1, 97, 4)?;
+    let count = count_of(alloc, 4)?;
+
+    let taken = take_all(alloc)?;
+    let frozen = opened(&mut table, 1, &count);
+    let not_live = opened(&mut table, 7, &count);
+    let abandoned = abandon(&mut table, 0);
+    let again = abandon(&mut table, 0);
+    drop(taken);
+
+    assert_is(&rt, frozen, Ok((0, 1)));
+    assert_is(&rt, not_live, Err(Refusal::NoHandle));
+    assert_is(&rt, abandoned, Ok(()));
+    assert_is(&rt, again, Err(Refusal::NoJob));
+    assert_is(&rt, entries(&table), 5);
     Ok(())
 }

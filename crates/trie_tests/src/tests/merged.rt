@@ -7,6 +7,7 @@ use crate::held::Held;
 use crate::outline::{Line, outline_of};
 use std::alloc::{AllocError, Global};
 use std::collections::BTreeMap;
+use std::panic::Expect;
 use std::process::Abort;
 use std::test::Fail;
 use test_keys::{ChosenKey, Random, take_all};
@@ -19,12 +20,11 @@ fn assert_merged(
     (left, right): (&Trie, &Trie),
     lines: &[Line],
     pairs: &[(ChosenKey, u32)],
-) -> Result<(), Fail> {
-    let both = left.merged(alloc, right, Stamp(2))?;
-    let seen = outline_of(alloc, both.root())?;
+) {
+    let both = left.merged(alloc, right, Stamp(2)).expect(rt, "not merged");
+    let seen = outline_of(alloc, both.root()).expect(rt, "no outline");
     assert_eq!(rt; seen.lines.as_slice(), lines);
     assert_eq!(rt; seen.pairs.as_slice(), pairs);
-    Ok(())
 }
 
 #[test]
@@ -41,9 +41,10 @@ fn values_of_the_left_win(rt: HostRuntime) -> Result<(), Fail> {
         pairs(1, 1),
     ];
     let all = [(p, 1), (q, 2), (r, 4)];
-    assert_merged(&rt, alloc, (&left, &right), &lines, &all)?;
+    assert_merged(&rt, alloc, (&left, &right), &lines, &all);
     let all = [(p, 1), (q, 3), (r, 4)];
-    assert_merged(&rt, alloc, (&right, &left), &lines, &all)
+    assert_merged(&rt, alloc, (&right, &left), &lines, &all);
+    Ok(())
 }
 
 #[test]
@@ -54,9 +55,10 @@ fn buckets_of_one_word_are_one(rt: HostRuntime) -> Result<(), Fail> {
     let (few, many) = (trie_of(alloc, &few)?, trie_of(alloc, &many)?);
     let lines = [branch(0, 1 << 7, 4), pairs(1, 4)];
     let all = [(0, 5), (1, 1), (2, 2), (3, 7)].map(|(id, value)| (key(7, id), value));
-    assert_merged(&rt, alloc, (&few, &many), &lines, &all)?;
+    assert_merged(&rt, alloc, (&few, &many), &lines, &all);
     let all = [(0, 5), (1, 1), (2, 6), (3, 7)].map(|(id, value)| (key(7, id), value));
-    assert_merged(&rt, alloc, (&many, &few), &lines, &all)
+    assert_merged(&rt, alloc, (&many, &few), &lines, &all);
+    Ok(())
 }
 
 #[test]
@@ -71,9 +73,10 @@ fn a_bucket_meets_a_branch(rt: HostRuntime) -> Result<(), Fail> {
         pairs(2, 2),
     ];
     let all = [(key(0, 0), 3), (key(32, 0), 1), (key(32, 1), 2)];
-    assert_merged(&rt, alloc, (&bucket, &below), &lines, &all)?;
+    assert_merged(&rt, alloc, (&bucket, &below), &lines, &all);
     let all = [(key(0, 0), 3), (key(32, 0), 1), (key(32, 1), 4)];
-    assert_merged(&rt, alloc, (&below, &bucket), &lines, &all)
+    assert_merged(&rt, alloc, (&below, &bucket), &lines, &all);
+    Ok(())
 }
 
 // The stamps show that the root is the other's, and none of the merge's.
@@ -83,11 +86,14 @@ fn an_empty_map_changes_nothing(rt: HostRuntime) -> Result<(), Fail> {
     let empty = Held::new(alloc, Stamp(3))?;
     let some = trie_of(alloc, &[(key(0, 0), 1), (key(1, 0), 2)])?;
     let before = outline_of(alloc, some.root())?;
-    assert_same(&rt, alloc, &some.merged(alloc, &empty, Stamp(4))?, &before)?;
-    assert_same(&rt, alloc, &empty.merged(alloc, &some, Stamp(4))?, &before)?;
+    let left = some.merged(alloc, &empty, Stamp(4))?;
+    assert_same(&rt, alloc, &left, &before);
+    let right = empty.merged(alloc, &some, Stamp(4))?;
+    assert_same(&rt, alloc, &right, &before);
     let none = empty.merged(alloc, &empty, Stamp(4))?;
     let before = outline_of(alloc, empty.root())?;
-    assert_same(&rt, alloc, &none, &before)
+    assert_same(&rt, alloc, &none, &before);
+    Ok(())
 }
 
 // The maps of two intervals of positions that meet below a child of the root.
@@ -108,7 +114,7 @@ fn intervals_share_their_subtries(rt: HostRuntime) -> Result<(), Fail> {
     }
     let both = left.merged(alloc, &right, Stamp(2))?;
     let all = in_walk_order(alloc, &map)?;
-    assert_holds(&rt, alloc, &both, all.as_slice())?;
+    assert_holds(&rt, alloc, &both, all.as_slice());
     let seen = outline_of(alloc, both.root())?;
     assert_eq!(rt; seen.lines.len(), 1057);
     assert_eq!(rt; seen.stamps.iter().filter(|stamp| stamp.0 == 2).count(), 2);
@@ -142,7 +148,7 @@ fn random_merges_agree_with_ordered_maps(rt: HostRuntime) -> Result<(), Fail> {
         }
         let both = left.merged(alloc, &right, Stamp(2))?;
         let all = in_walk_order(alloc, &map)?;
-        assert_holds(&rt, alloc, &both, all.as_slice())?;
+        assert_holds(&rt, alloc, &both, all.as_slice());
     }
     Ok(())
 }
@@ -181,8 +187,8 @@ fn refused_merges_leave_the_roots(rt: HostRuntime) -> Result<(), Fail> {
         }
         let answer = left.merged(alloc, &right, Stamp(2));
         drop(taken);
-        assert_same(&rt, alloc, &left, &left_before)?;
-        assert_same(&rt, alloc, &right, &right_before)?;
+        assert_same(&rt, alloc, &left, &left_before);
+        assert_same(&rt, alloc, &right, &right_before);
         assert_eq!(rt; answer.is_ok(), given == 4);
     }
     Ok(())

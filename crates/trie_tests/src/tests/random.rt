@@ -4,6 +4,7 @@ use crate::outline::{lines_of, outline_of};
 use hash_path::PathKey;
 use std::alloc::{AllocError, Global};
 use std::collections::BTreeMap;
+use std::panic::Expect;
 use std::process::Abort;
 use std::test::Fail;
 use test_keys::{ChosenKey, Random};
@@ -43,24 +44,22 @@ pub(super) fn assert_holds(
     alloc: Global,
     trie: &Trie,
     pairs: &[(ChosenKey, u32)],
-) -> Result<(), Fail> {
-    let seen = outline_of(alloc, trie.root())?;
-    let lines = lines_of(alloc, pairs)?;
+) {
+    let seen = outline_of(alloc, trie.root()).expect(rt, "no outline");
+    let lines = lines_of(alloc, pairs).expect(rt, "no outline");
     assert_eq!(rt; size(trie.root()), pairs.len() as u64);
     assert_eq!(rt; seen.pairs.as_slice(), pairs);
     assert_eq!(rt; seen.lines.as_slice(), lines.as_slice());
-    Ok(())
 }
 
 // Each key has the value that it has in the map.
-fn assert_finds(rt: &impl Abort, trie: &Trie, map: &BTreeMap<ChosenKey, u32>) -> Result<(), Fail> {
+fn assert_finds(rt: &impl Abort, trie: &Trie, map: &BTreeMap<ChosenKey, u32>) {
     for word in WORDS {
         for id in 0..KEYS {
             let at = key(word, id);
             assert_eq!(rt; trie.find(&at).map(|v| **v), map.get(&at).copied());
         }
     }
-    Ok(())
 }
 
 #[test]
@@ -83,12 +82,12 @@ fn random_writes_agree_with_an_ordered_map(rt: HostRuntime) -> Result<(), Fail> 
             trie = trie.with_removed(alloc, &at, Stamp(u64::from(step)))?;
             map.remove(&at);
         }
-        assert_finds(&rt, &trie, &map)?;
+        assert_finds(&rt, &trie, &map);
         let pairs = in_walk_order(alloc, &map)?;
-        assert_holds(&rt, alloc, &trie, pairs.as_slice())?;
+        assert_holds(&rt, alloc, &trie, pairs.as_slice());
     }
     for (trie, pairs) in &old {
-        assert_holds(&rt, alloc, trie, pairs.as_slice())?;
+        assert_holds(&rt, alloc, trie, pairs.as_slice());
     }
     Ok(())
 }
