@@ -99,6 +99,13 @@ fn keys_of_every_first_digit(rt: HostRuntime) -> Result<(), Fail> {
     Ok(())
 }
 
+// What the map has at the first key of two stripes.
+fn at_two<R: Wait>(rt: &R, map: &Map) -> Result<(Option<u64>, Option<u64>), NoMemory> {
+    let first = plain(map.get(rt, &key(0, 0))?);
+    let last = plain(map.get(rt, &key(31, 0))?);
+    Ok((first, last))
+}
+
 #[test]
 fn a_snapshot_and_its_map_go_separate_ways(rt: HostRuntime) -> Result<(), Fail> {
     let map: Map = TrieMap::new(&rt)?;
@@ -109,12 +116,9 @@ fn a_snapshot_and_its_map_go_separate_ways(rt: HostRuntime) -> Result<(), Fail> 
     map.put(&rt, key(0, 0), 10)?;
     snapshot.put(&rt, key(31, 0), 20)?;
     again.remove(&rt, &key(0, 0))?;
-    assert_eq!(rt; plain(map.get(&rt, &key(0, 0))?), Some(10));
-    assert_eq!(rt; plain(map.get(&rt, &key(31, 0))?), Some(2));
-    assert_eq!(rt; plain(snapshot.get(&rt, &key(0, 0))?), Some(1));
-    assert_eq!(rt; plain(snapshot.get(&rt, &key(31, 0))?), Some(20));
-    assert_eq!(rt; plain(again.get(&rt, &key(0, 0))?), None);
-    assert_eq!(rt; plain(again.get(&rt, &key(31, 0))?), Some(2));
+    assert_eq!(rt; at_two(&rt, &map)?, (Some(10), Some(2)));
+    assert_eq!(rt; at_two(&rt, &snapshot)?, (Some(1), Some(20)));
+    assert_eq!(rt; at_two(&rt, &again)?, (None, Some(2)));
     Ok(())
 }
 
@@ -137,20 +141,32 @@ fn walked_sum(view: &Seen) -> Result<u64, NoMemory> {
 #[test]
 fn a_view_stays_as_it_was(rt: HostRuntime) -> Result<(), Fail> {
     let map: Map = TrieMap::new(&rt)?;
-    assert!(rt; map.view(&rt)?.is_empty());
     map.put(&rt, key(7, 0), 1)?;
     let view = map.view(&rt)?;
     write_after(&rt, &map)?;
-    assert_eq!(rt;
-        (seen(&view, key(7, 0)), view.contains_key(&key(8, 0))),
-        (Some(1), false)
-    );
-    let same = view.try_clone()?;
-    assert_eq!(rt;
-        (same.len(), same.plain().len(), same.is_empty()),
-        (1, 1, false)
-    );
-    assert_eq!(rt; walked_sum(&map.view(&rt)?)?, 5);
+    assert_eq!(rt; seen(&view, key(7, 0)), Some(1));
+    assert!(rt; !view.contains_key(&key(8, 0)));
+    Ok(())
+}
+
+#[test]
+fn a_clone_of_a_view_has_its_pairs(rt: HostRuntime) -> Result<(), Fail> {
+    let map: Map = TrieMap::new(&rt)?;
+    map.put(&rt, key(7, 0), 1)?;
+    let same = map.view(&rt)?.try_clone()?;
+    assert_eq!(rt; (same.len(), same.plain().len()), (1, 1));
+    assert!(rt; !same.is_empty());
+    Ok(())
+}
+
+#[test]
+fn a_view_shows_the_pairs_of_its_moment(rt: HostRuntime) -> Result<(), Fail> {
+    let map: Map = TrieMap::new(&rt)?;
+    let before = map.view(&rt)?;
+    write_after(&rt, &map)?;
+    let sum = walked_sum(&map.view(&rt)?)?;
+    assert_eq!(rt; sum, 5);
+    assert!(rt; before.is_empty());
     Ok(())
 }
 

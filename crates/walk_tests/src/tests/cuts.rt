@@ -12,6 +12,9 @@ use trie_node::NoMemory;
 
 type Part = Piece<ChosenKey, i64>;
 
+// Pieces that wait to be cut, each beside its rows.
+type Pieces = Vec<(Part, Vec<Row>)>;
+
 // A map of 300 keys has no more pieces than these on the way to pieces of one.
 const MOST_PIECES: u32 = 600;
 
@@ -48,6 +51,30 @@ fn cut_at(
     }
 }
 
+// Adds the piece beside its rows, which are some of these.
+fn push(alloc: Global, pieces: &mut Pieces, piece: Part, rows: &[Row]) -> Result<(), Fail> {
+    let rows = rows_between(alloc, rows, piece.lo(), piece.hi())?;
+    pieces.push((piece, rows))?;
+    Ok(())
+}
+
+// Adds the two pieces of the cut, the lower one last. Where there is one it gives the bounds.
+fn push_cut(
+    alloc: Global,
+    pieces: &mut Pieces,
+    cut: Cut<ChosenKey, i64>,
+    rows: &[Row],
+) -> Result<Option<(u64, u64)>, Fail> {
+    match cut {
+        Cut::Two(lower, upper) => {
+            push(alloc, pieces, upper, rows)?;
+            push(alloc, pieces, lower, rows)?;
+            Ok(None)
+        }
+        Cut::One(piece) => Ok(Some((piece.lo(), piece.hi()))),
+    }
+}
+
 // Cuts the map until no piece can be cut, each piece beside its rows. The last pieces stand one after another and end
 // at the last position.
 fn assert_divides(
@@ -65,17 +92,10 @@ fn assert_divides(
             break;
         };
         assert_piece(rt, &piece, &rows)?;
-        match cut_at(rt, piece, grain, cut_point(alloc, &rows, grain)?)? {
-            Cut::Two(lower, upper) => {
-                let below = rows_between(alloc, &rows, lower.lo(), lower.hi())?;
-                let above = rows_between(alloc, &rows, upper.lo(), upper.hi())?;
-                pieces.push((upper, above))?;
-                pieces.push((lower, below))?;
-            }
-            Cut::One(piece) => {
-                assert_eq!(rt; piece.lo(), end);
-                end = piece.hi();
-            }
+        let cut = cut_at(rt, piece, grain, cut_point(alloc, &rows, grain)?)?;
+        if let Some((lo, hi)) = push_cut(alloc, &mut pieces, cut, &rows)? {
+            assert_eq!(rt; lo, end);
+            end = hi;
         }
     }
     assert!(rt; pieces.is_empty());

@@ -25,11 +25,11 @@ fn piece_of(rt: &impl Abort, alloc: Global, words: &[u32]) -> Result<Piece<Chose
     Ok(whole(alloc, version.view()?))
 }
 
-// The bounds and sizes of the two pieces, or none.
-fn cut_of(
-    piece: Piece<ChosenKey, i64>,
-    grain: u64,
-) -> Result<Option<(u64, u64, u64, u64, u64)>, Fail> {
+// The bounds and the size of the lower piece, and the end and the size of the upper one.
+type Pieces = (u64, u64, u64, u64, u64);
+
+// The two pieces, or none.
+fn cut_of(piece: Piece<ChosenKey, i64>, grain: u64) -> Result<Option<Pieces>, Fail> {
     match cut(piece, grain) {
         Ok(Cut::Two(lower, upper)) => Ok(Some((
             lower.lo(),
@@ -43,34 +43,33 @@ fn cut_of(
     }
 }
 
+// The map with these path words is cut into these two pieces, or not at all.
+fn assert_cut(
+    rt: &impl Abort,
+    alloc: Global,
+    words: &[u32],
+    grain: u64,
+    want: Option<Pieces>,
+) -> Result<(), Fail> {
+    let piece = piece_of(rt, alloc, words)?;
+    let pieces = cut_of(piece, grain)?;
+    assert_eq!(rt; pieces, want);
+    Ok(())
+}
+
 #[test]
 fn words_are_cut_in_the_middle(rt: HostRuntime) -> Result<(), Fail> {
     let alloc = rt.alloc();
-    assert_eq!(rt; cut_of(piece_of(&rt, alloc, &[0, 0, 0])?, 1)?, None);
-    assert_eq!(rt;
-        cut_of(piece_of(&rt, alloc, &[0, 0xc000_0000])?, 1)?,
-        Some((0, 3, 1, 4_294_967_296, 1))
-    );
-    assert_eq!(rt;
-        cut_of(
-            piece_of(&rt, alloc, &[0xe40c_292c, 0xe70c_2de5, 0xe60c_2c52])?,
-            1
-        )?,
-        Some((0, 1_610_612_736, 1, 4_294_967_296, 2))
-    );
-    assert_eq!(rt;
-        cut_of(
-            piece_of(&rt, alloc, &[0xe40c_292c, 0xe70c_2de5, 0xe60c_2c52])?,
-            3
-        )?,
-        None
-    );
-    assert_eq!(rt;
-        cut_of(piece_of(&rt, alloc, &[0, 0xffff_ffff])?, 1)?,
-        Some((0, 4_160_749_568, 1, 4_294_967_296, 1))
-    );
-    assert_eq!(rt; cut_of(piece_of(&rt, alloc, &[])?, 1)?, None);
-    Ok(())
+    assert_cut(&rt, alloc, &[0, 0, 0], 1, None)?;
+    let pieces = (0, 3, 1, 4_294_967_296, 1);
+    assert_cut(&rt, alloc, &[0, 0xc000_0000], 1, Some(pieces))?;
+    let words = [0xe40c_292c, 0xe70c_2de5, 0xe60c_2c52];
+    let pieces = (0, 1_610_612_736, 1, 4_294_967_296, 2);
+    assert_cut(&rt, alloc, &words, 1, Some(pieces))?;
+    assert_cut(&rt, alloc, &words, 3, None)?;
+    let pieces = (0, 4_160_749_568, 1, 4_294_967_296, 1);
+    assert_cut(&rt, alloc, &[0, 0xffff_ffff], 1, Some(pieces))?;
+    assert_cut(&rt, alloc, &[], 1, None)
 }
 
 #[test]

@@ -1,5 +1,6 @@
 //! Walks over maps of a few chosen path words.
 
+use super::Walk;
 use iter::{pairs, pairs_of};
 use std::alloc::Global;
 use std::sync::Arc;
@@ -24,29 +25,40 @@ fn three(alloc: Global) -> Result<Version<ChosenKey, i64>, Fail> {
     Ok(version)
 }
 
+// The path word and the number of the walk's next pair.
+fn next_of(walk: &mut Walk<'_>) -> Option<(u32, i64)> {
+    let (key, value) = walk.next()?;
+    Some((key.path, **value))
+}
+
+// Gives the path word 0 a number.
+fn put_zero(alloc: Global, version: &mut Version<ChosenKey, i64>) -> Result<(), Fail> {
+    let key = Arc::new(alloc, ChosenKey { path: 0, id: 0 })?;
+    let number = Arc::new(alloc, 9)?;
+    version.put(alloc, key, number)?;
+    Ok(())
+}
+
 #[test]
 fn walks_rise_by_position_and_show_no_later_put(rt: HostRuntime) -> Result<(), Fail> {
     let alloc = rt.alloc();
     let mut version = three(alloc)?;
     let view = version.view()?;
     let mut walk = pairs(alloc, &view)?;
-    version.put(
-        alloc,
-        Arc::new(alloc, ChosenKey { path: 0, id: 0 })?,
-        Arc::new(alloc, 9)?,
-    )?;
+    put_zero(alloc, &mut version)?;
     assert_eq!(rt; walk.left(), 3);
-    for (word, number) in [(WORDS[1], 2), (WORDS[0], 1), (WORDS[2], 3)] {
-        match walk.next() {
-            Some((key, value)) => {
-                assert_eq!(rt; key.path, word);
-                assert_eq!(rt; **value, number);
-            }
-            None => assert!(rt; false),
-        }
+    for pair in [(WORDS[1], 2), (WORDS[0], 1), (WORDS[2], 3)] {
+        assert_eq!(rt; next_of(&mut walk), Some(pair));
     }
     assert_eq!(rt; walk.len(), 0);
     assert!(rt; walk.next().is_none());
+    Ok(())
+}
+
+#[test]
+fn a_walk_of_a_version_meets_each_word(rt: HostRuntime) -> Result<(), Fail> {
+    let alloc = rt.alloc();
+    let version = three(alloc)?;
     let mut all = 0;
     for (key, _) in pairs_of(alloc, &version)? {
         all ^= key.path;
