@@ -54,6 +54,21 @@ module _ {M : Type 0} where
       ap (λ (r : Map ℕ M). (n, x) ∷ r) (with_place (n + 1) i k m os (omega arith) (omega arith))
       ∙ ap (λ (o : Ordering). by_order o ((k, m) ∷ (n, x) ∷ rest) ((n, m) ∷ rest) ((n, x) ∷ with_pair nat_cmp rest k m)) (nat_cmp_is k n Greater (omega arith))
 
+  -- the map that stands under a number, put there again, leaves all
+  put_again : (n i k : ℕ) (m : M) (os : List (Option M)) → k ≡ n + i → get_or os i None ≡ Some m → with_pair nat_cmp (live_from n os) k m ≡ live_from n os
+  put_again n i k m [] e is = cc
+  put_again n zero k m (None ∷ os) e is = cc
+  put_again n zero k m (Some x ∷ os) e is =
+      let rest = live_from (n + 1) os in
+      let same : x ≡ m = cc in
+      ap (λ (o : Ordering). by_order o ((k, m) ∷ (n, x) ∷ rest) ((n, m) ∷ rest) ((n, x) ∷ with_pair nat_cmp rest k m)) (sym (nat_cmp_is k n Equal (omega arith)))
+      ∙ ap (λ (y : M). (n, y) ∷ rest) (sym same)
+  put_again n (suc i) k m (None ∷ os) e is = put_again (n + 1) i k m os (omega arith) is
+  put_again n (suc i) k m (Some x ∷ os) e is =
+      let rest = live_from (n + 1) os in
+      ap (λ (o : Ordering). by_order o ((k, m) ∷ (n, x) ∷ rest) ((n, m) ∷ rest) ((n, x) ∷ with_pair nat_cmp rest k m)) (sym (nat_cmp_is k n Greater (omega arith)))
+      ∙ ap (λ (r : Map ℕ M). (n, x) ∷ r) (put_again (n + 1) i k m os (omega arith) is)
+
   -- what is left of a list once a number is removed, by how that number stands to the first
   first_kept : ℕ → ℕ → M → Map ℕ M → Ordering → Map ℕ M
   first_kept k n m rest o = cond (not (is_eq o)) ((n, m) ∷ without nat_cmp rest k) (without nat_cmp rest k)
@@ -109,6 +124,16 @@ module _ {K V : Type 0} where
   -- where there is none, the number is not live
   pub not_live_here : (k : ℕ) (places : List (Option (Contents K V))) → version_in places k ≡ None → IsSome (value_at nat_cmp (live_from 0 (maps_in places)) k) → ⊥
   not_live_here k places e live = let no : is_some (value_at nat_cmp (live_from 0 (maps_in places)) k) ≡ false = ap is_some (map_here k places ∙ ap map_in e) in cc
+
+  -- a live number's own map, put there again, leaves all
+  pub put_same : (k : ℕ) (places : List (Option (Contents K V))) → IsSome (value_at nat_cmp (live_from 0 (maps_in places)) k)
+      → with_pair nat_cmp (live_from 0 (maps_in places)) k (unwrap_or (value_at nat_cmp (live_from 0 (maps_in places)) k) []) ≡ live_from 0 (maps_in places)
+  put_same k places live =
+      let all = live_from 0 (maps_in places) in
+      elim (value_at nat_cmp all k) as (λ (o : Option (Map K V)). value_at nat_cmp all k ≡ o → IsSome o → with_pair nat_cmp all k (unwrap_or o []) ≡ all) [
+        | Some m ↦ λ e there. put_again 0 k k m (maps_in places) (omega arith) (sym (value_in 0 k k (maps_in places) (omega arith)) ∙ e)
+        | None ↦ λ e there. cc
+      ] refl live
 
   pub with_version : (k : ℕ) (v : Contents K V) (places : List (Option (Contents K V))) → k < length places → live_from 0 (maps_in (slice_set places k (Some v))) ≡ with_pair nat_cmp (live_from 0 (maps_in places)) k v.entries
   with_version k v places h =

@@ -92,6 +92,22 @@ abbrev pub outcome_of : {K V B : Type 0} → Result (CallReply V) Refusal → Ou
 outcome_of (Ok y) = call_outcome y
 outcome_of (Err e) = refused e
 
+-- whether a command that is answered so leaves every map as it was: it reads alone, or what it was to write hung on a condition that did not hold
+abbrev pub leaves_map : {K V : Type 0} → commands.Command K V → commands.Reply V → Bool
+leaves_map (commands.get k) y = true
+leaves_map commands.size y = true
+leaves_map (commands.put_if_absent k v) (commands.old (Some w)) = true
+leaves_map (commands.replace k v) (commands.old None) = true
+leaves_map (commands.replace_if k was v) (commands.done false) = true
+leaves_map (commands.remove_if k v) (commands.done false) = true
+leaves_map c y = false
+
+-- whether a call that is answered so leaves all maps as they were
+abbrev pub leaves_maps : {K V : Type 0} → Call K V → Result (CallReply V) Refusal → Bool
+leaves_maps (On h c) (Ok (call_replies.Reply y)) = leaves_map (command_of c) (reply_of y)
+leaves_maps call (Ok y) = false
+leaves_maps call (Err e) = true
+
 -- the requests that the calls are
 abbrev pub requests_of : {K V Q : Type 0} → List (Call K V) → List (Request K V Q)
 requests_of calls = map request_of calls

@@ -84,6 +84,13 @@ impl<K: PathKey + Drop, V: Eq + Drop> Places<K, V> {
         }
     }
 
+    /// A live handle's own map, put under its number again, leaves all maps. It does nothing: the contract is the law.
+    pub fn law_of_same_map(&self, handle: u32)
+        ensures { IsSome (value_at nat_cmp self.now.live handle) → with_pair nat_cmp self.now.live handle (unwrap_or (value_at nat_cmp self.now.live handle) []) ≡ self.now.live }
+    {
+        let _ = &self.versions;
+    }
+
     /// Whether the command on the handle would put a new key into a map that holds as many pairs as it may.
     pub fn lacks_place(&self, handle: u32, command: &Command<K, V>) -> bool
         ensures { result ≡ is_full K.cmp self.now.limit (unwrap_or (value_at nat_cmp self.now.live handle) []) (command_of command.now) }

@@ -23,6 +23,7 @@ use std::sync::Arc;
 use versions::{MOST_PAIRS, NoMemory, Refusal, Version, View};
 
 mod ends;
+mod foreseen;
 mod foresight;
 mod refusals;
 

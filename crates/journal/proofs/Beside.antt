@@ -6,8 +6,7 @@ use Rattle.std.specs.Cmp.{nat_cmp_total}
 use Rattle.std.specs.FinMap.Entries.{find-put, find-where_key}
 use Rattle.std.specs.FinMap.{nat_cmp-IsAntisymmetric}
 use Rattle.std.proofs.lemmas.Bool.Decides.{nat_tests}
-use Rattle.std.specs.Arc.{arc_value}
-use Rattle.boxcar.specs.Table.{Shelves, Where, Shows}
+use Rattle.boxcar.specs.Table.{Shelves, Shows}
 use Rattle.bulk_ops.specs.Answers as plain
 use Rattle.bulk_ops.specs.Told.{told_of}
 use Rattle.bulk_ops.specs.declared.asks.Answer.{Answer}
@@ -66,8 +65,8 @@ module _ {K V Q I : Type 0} (t : Shelves) where
   found_open s fs f all there = subst (IsOpen t s) there.2 (open_at s fs there.0 f there.1 all)
 
   -- its token is of the vector
-  pub shown_open : (t' : Shelves) (s : State K V Q) (f : Frozen K V Q I) (p : Where (Entered K V Q (plain.Told K V I))) → t' ≡ t → p ≡ arc_value f.token → IsOpen t s f → Shows t' p
-  shown_open t' s f p e is open_one = subst (λ u. Shows u p) (sym e) (subst (λ q. Shows t q) (sym is) open_one.shown)
+  pub shown_open : (t' : Shelves) (s : State K V Q) (f : Frozen K V Q I) → t' ≡ t → IsOpen t s f → Shows t' f.token
+  shown_open t' s f e is = subst (λ u. Shows u f.token) (sym e) is.shown
 
 -- the job that was opened is the one that stands open
 pub opened_stands : {K V Q B : Type 0} (s : State K V Q) (n : ℕ) (e : Entered K V Q B) (x : Job K V Q) → WasOpenedBy s n e → job_at s n ≡ Some x → opened_by e ≡ Some (n, x)
@@ -136,7 +135,7 @@ module _ {K V Q A I : Type 0} (kind : Kind K V Q A (plain.Told K V I)) (t : Shel
 
   -- the tokens beside open jobs, after a freeze
   pub frozen_still : (s u : State K V Q) (h seat : ℕ) (q : Q) (answer : Result (ℕ × Map K V) Refusal) (fs fs' : List (Frozen K V Q I)) (f : ℕ → Frozen K V Q I)
-      → FreezesOpenJobs kind → ((n : ℕ) → (f n).number ≡ n) → ((n : ℕ) → Shows t (arc_value (f n).token))
+      → FreezesOpenJobs kind → ((n : ℕ) → (f n).number ≡ n) → ((n : ℕ) → Shows t (f n).token)
       → ((n : ℕ) → entry_at (f n).token ≡ record { seat = seat; request = freeze h q; outcome = answered frozen_outcome answer })
       → Step kind s (freeze h q) (answered frozen_outcome answer) u
       → MatchResult answer (λ x. fs' ≡ filter (is_other x.0) fs ++ f x.0 ∷ []) (λ _. fs' ≡ fs) → AllOpen t s fs → AllOpen t u fs'

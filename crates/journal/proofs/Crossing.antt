@@ -62,4 +62,4 @@ module _ (K V Q J I P : RattleType) (key : PathKey.Ghosts K.Denot) (order : Ord.
   table_send ks ky vs vy qs qy is iy = search (sendable, heap.crosses, seen_send, version_send) depth 40 fits 20000
 
   pub journaled_send : IsSend K → IsSync K → IsSend V → IsSync V → IsSend Q → IsSync Q → IsSend J → IsSync J → IsSend I → IsSync I → IsSend (JournaledTable.the_row K V Q J I P key order keq kord veq asks bulk room)
-  journaled_send ks ky vs vy qs qy js jy is iy = search (sendable, heap.crosses, table_send, slots.written_send, slots.written_sync) depth 40 fits 20000
+  journaled_send ks ky vs vy qs qy js jy is iy = search (sendable, heap.crosses, table_send, slots.written_send) depth 40 fits 20000

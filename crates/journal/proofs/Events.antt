@@ -2,8 +2,6 @@
 use Rattle.std.proofs.Common.{◌≡◌, ℕ, true, List, [], ◌∷◌, ◌++◌, length, filter, subst, sym, ap, ◌∙◌}
 use Rattle.std.specs.Prelude.{MatchResult, Result}
 use Rattle.std.proofs.lemmas.List.{map-append, length-map}
-use Rattle.std.specs.declared.sync.Arc.{Arc}
-use Rattle.std.specs.Arc.{arc_value}
 use Rattle.boxcar.specs.Table.{Shelves, Where, Shows}
 use Rattle.bulk_ops.specs.Answers as plain
 use Rattle.versions.specs.Map.{Map}
@@ -18,11 +16,11 @@ use Rattle.journal.specs.Kept.{Standing, Files, AllOpen, WasOpenedBy, is_other}
 use Rattle.journal.specs.declared.frozen.Frozen.{Frozen}
 use Rattle.journal.proofs.Beside.{frozen_still}
 
-module _ {K V Q A I Z : Type 0} (kind : Kind K V Q A (plain.Told K V I)) (t : Shelves) where
+module _ {K V Q A I : Type 0} (kind : Kind K V Q A (plain.Told K V I)) (t : Shelves) where
   -- one more event, as the table and its journal show it
-  pub files_event : (s u : State K V Q) (ts ts' : List (Arc (Where (Entered K V Q (plain.Told K V I))) Z)) (a m : Arc (Where (Entered K V Q (plain.Told K V I))) Z)
+  pub files_event : (s u : State K V Q) (ts ts' : List (Where (Entered K V Q (plain.Told K V I)))) (a m : Where (Entered K V Q (plain.Told K V I)))
       (seat : ℕ) (r : Request K V Q) (o : Outcome K V (plain.Told K V I)) (at : ℕ) (old : Standing K V Q (plain.Told K V I))
-      → record { state = s; journal = entries_of ts } ≡ old → ts' ≡ ts ++ m ∷ [] → arc_value m ≡ arc_value a → Shows t (arc_value a) → entry_at a ≡ record { seat = seat; request = r; outcome = o }
+      → record { state = s; journal = entries_of ts } ≡ old → ts' ≡ ts ++ m ∷ [] → m ≡ a → Shows t a → entry_at a ≡ record { seat = seat; request = r; outcome = o }
       → at ≡ length ts → is_filed o ≡ true → Step kind s r o u → Files kind t old seat r o a at (record { state = u; journal = entries_of ts' })
   files_event s u ts ts' a m seat r o at old view is same shows entry place filed step =
       subst (λ (x : Standing K V Q (plain.Told K V I)). Files kind t x seat r o a at (record { state = u; journal = entries_of ts' })) view record {
@@ -37,7 +35,7 @@ module _ {K V Q A I Z : Type 0} (kind : Kind K V Q A (plain.Told K V I)) (t : Sh
 module _ {K V Q A I : Type 0} (kind : Kind K V Q A (plain.Told K V I)) (t : Shelves) where
   -- the tokens beside open jobs after a freeze, where they stood in an equal list
   pub frozen_after : (s u : State K V Q) (h seat : ℕ) (q : Q) (answer : Result (ℕ × Map K V) Refusal) (fs mid fs' : List (Frozen K V Q I)) (f : ℕ → Frozen K V Q I)
-      → FreezesOpenJobs kind → ((n : ℕ) → (f n).number ≡ n) → ((n : ℕ) → Shows t (arc_value (f n).token))
+      → FreezesOpenJobs kind → ((n : ℕ) → (f n).number ≡ n) → ((n : ℕ) → Shows t (f n).token)
       → ((n : ℕ) → entry_at (f n).token ≡ record { seat = seat; request = freeze h q; outcome = answered frozen_outcome answer })
       → Step kind s (freeze h q) (answered frozen_outcome answer) u
       → MatchResult answer (λ x. fs' ≡ filter (is_other x.0) mid ++ f x.0 ∷ []) (λ _. fs' ≡ mid) → mid ≡ fs → AllOpen t s fs → AllOpen t u fs'

@@ -8,7 +8,7 @@ use Rattle.handles.specs.declared.call.Call.TheVariants.{Open, Snapshot, Drop, O
 use Rattle.handles.specs.Machine.{Kind, State, Request, is_freeze, job_of, Outcome, made, replied, viewed, frozen, finished, unfinished, refused, refusal, worked, is_entry, Step}
 use Rattle.handles.specs.declared.call_reply.CallReply.{CallReply}
 use Rattle.handles.specs.declared.call_reply.CallReply.TheVariants.{Unit, Reply}
-use Rattle.handles.specs.Views.{IsStep, Foresees, call_outcome, is_counted, lacks_memory, request_of}
+use Rattle.handles.specs.Views.{IsStep, Foresees, call_outcome, is_counted, lacks_memory, outcome_of, request_of}
 use Rattle.handles.specs.Laws.{ForeseenIsStep, is_settled_by_state}
 use Rattle.journal.specs.Answers.{answered, IsUnfiled}
 use Rattle.journal.specs.Journals.{is_filed}
@@ -96,12 +96,6 @@ module _ {K V Q A B : Type 0} (kind : Kind K V Q A B) where
 
 module _ {K V : Type 0} where
   -- a call is neither a freeze, nor the end of a job
-  pub settled_call : (Q : Type 0) (c : Call K V) → is_settled_by_state (request_of {Q = Q} c) ≡ true
-  settled_call Q (Open h) = refl
-  settled_call Q (Snapshot h to) = refl
-  settled_call Q (Drop h) = refl
-  settled_call Q (On h c) = refl
-
   pub call_opens_no_job : (Q : Type 0) (c : Call K V) → is_freeze (request_of {Q = Q} c) ≡ false
   call_opens_no_job Q (Open h) = refl
   call_opens_no_job Q (Snapshot h to) = refl
@@ -113,6 +107,11 @@ module _ {K V : Type 0} where
   call_names_no_job Q (Snapshot h to) = refl
   call_names_no_job Q (Drop h) = refl
   call_names_no_job Q (On h c) = refl
+
+-- what a call is told, as its result shows it
+pub outcome_answered : {K V B : Type 0} (a : Result (CallReply V) Refusal) → outcome_of {K = K} {B = B} a ≡ answered call_outcome a
+outcome_answered (Ok y) = refl
+outcome_answered (Err e) = refl
 
 -- what a call is told is filed
 pub call_is_filed : (K V B : Type 0) (y : CallReply V) → is_filed (call_outcome {K = K} {B = B} y) ≡ true

@@ -1,7 +1,5 @@
 -- What the lock keeps.
 use Rattle.std.specs.Prelude.{◌≡◌, ◌==◌, Bool, true, not, ◌++◌, ◌∷◌, [], ℕ, List, length, Option, Some, None}
-use Rattle.std.specs.Arc.{arc_value}
-use Rattle.std.specs.declared.sync.Arc.{Arc}
 use Rattle.boxcar.specs.Table.{Shelves, Where, Shows}
 use Rattle.bulk_ops.specs.Answers as plain
 use Rattle.handles.specs.Machine.{Kind, State, Job, Request, freeze, Outcome, frozen, job_at, Step}
@@ -33,7 +31,7 @@ module _ {K V Q B : Type 0} where
 module _ {K V Q I : Type 0} where
   -- a token beside an open job: it is of this vector, and shows the freeze that opened the job
   pub record IsOpen (t : Shelves) (s : State K V Q) (f : Frozen K V Q I) : Type 0 where
-    pub shown : Shows t (arc_value f.token)
+    pub shown : Shows t f.token
     pub opener : WasOpenedBy s f.number (entry_at f.token)
 
   abbrev pub AllOpen : Shelves → State K V Q → List (Frozen K V Q I) → Type 0
@@ -45,14 +43,14 @@ module _ {K V Q I : Type 0} where
   is_other n f = not (f.number == n)
 
 -- the tokens are of the vector; the journal of their entries is legal and leads to the state; and beside open jobs stand the tokens of their freezes
-pub record IsKept {K V Q A I Z : Type 0} (kind : Kind K V Q A (plain.Told K V I)) (t : Shelves) (s : State K V Q) (ts : List (Arc (Where (Entered K V Q (plain.Told K V I))) Z)) (fs : List (Frozen K V Q I)) : Type 0 where
+pub record IsKept {K V Q A I : Type 0} (kind : Kind K V Q A (plain.Told K V I)) (t : Shelves) (s : State K V Q) (ts : List (Where (Entered K V Q (plain.Told K V I)))) (fs : List (Frozen K V Q I)) : Type 0 where
   pub shown : AllShown t ts
   pub legal : IsLegal kind s.limits (entries_of ts) s
   pub beside : AllOpen t s fs
 
 -- one event under the lock: its entry is filed last, by a token of the vector, and it is a step of the machine
-pub record Files {K V Q A I Z : Type 0} (kind : Kind K V Q A (plain.Told K V I)) (t : Shelves) (old : Standing K V Q (plain.Told K V I)) (seat : ℕ) (r : Request K V Q) (o : Outcome K V (plain.Told K V I)) (token : Arc (Where (Entered K V Q (plain.Told K V I))) Z) (at : ℕ) (new : Standing K V Q (plain.Told K V I)) : Type 0 where
-  pub shown : Shows t (arc_value token)
+pub record Files {K V Q A I : Type 0} (kind : Kind K V Q A (plain.Told K V I)) (t : Shelves) (old : Standing K V Q (plain.Told K V I)) (seat : ℕ) (r : Request K V Q) (o : Outcome K V (plain.Told K V I)) (token : Where (Entered K V Q (plain.Told K V I))) (at : ℕ) (new : Standing K V Q (plain.Told K V I)) : Type 0 where
+  pub shown : Shows t token
   pub entry : entry_at token ≡ record { seat = seat; request = r; outcome = o }
   pub place : at ≡ length old.journal
   pub journal : new.journal ≡ old.journal ++ entry_at token ∷ []

@@ -1,6 +1,5 @@
 //! How an event is filed: what was foreseen, the entry's token, and what the event gives.
 ghost use Rattle.std.specs.Prelude.{◌≡◌, ◌<◌, Err, IfErr, IfOk, IsTrue, OnOk, Some, true, false, vec_capacity, vec_len};
-ghost use Rattle.std.specs.Arc.{arc_value};
 ghost use Rattle.boxcar.specs.Table.{Shows};
 ghost use Rattle.bulk_ops.specs.Answers as plain;
 ghost use Rattle.handles.specs.Machine.{Job, finish, finished, is_entry, job_at};
@@ -16,14 +15,13 @@ use crate::told::Told;
 use bulk_ops::Asks;
 use handles::Table;
 use hash_path::PathKey;
-use std::alloc::Global;
-use std::sync::{Arc, Wait};
+use std::sync::Wait;
 use versions::{NoMemory, Refusal, View};
 
 /// An event that was made and filed: the token of its entry, the entry's place in the journal, and what is answered.
 #[derive(Drop)]
 pub struct Event<K: PathKey, V, Q, I, A> {
-    pub token: Arc<Token<K, V, Q, I>>,
+    pub token: Token<K, V, Q, I>,
     pub place: u64,
     pub answer: A,
 }
@@ -31,7 +29,7 @@ pub struct Event<K: PathKey, V, Q, I, A> {
 /// A freeze that was made and filed, and the token of its entry once more.
 pub type Opened<K, V, Q, I> = (
     Event<K, V, Q, I, Result<(u64, View<K, V>), Refusal>>,
-    Arc<Token<K, V, Q, I>>,
+    Token<K, V, Q, I>,
 );
 
 /// The answer that was foreseen, where it makes an entry.
@@ -71,14 +69,13 @@ pub(crate) fn lacks_memory<T>(answer: &Result<T, Refusal>) -> bool
 }
 
 /// The token of an entry, for the journal and for the seat.
-pub(crate) type Twice<K, V, Q, I> = (Arc<Token<K, V, Q, I>>, Arc<Token<K, V, Q, I>>);
+pub(crate) type Twice<K, V, Q, I> = (Token<K, V, Q, I>, Token<K, V, Q, I>);
 
 /// Places the entry of what the caller asked and was told, and gives its token twice, with room for one in the journal.
 pub(crate) fn entered<K: PathKey + Drop, V: Drop, Q: Drop, I: Drop, R: Wait>(
     rt: &R,
-    alloc: Global,
     entries: &Entries<K, V, Q, I>,
-    journal: &mut Vec<Arc<Token<K, V, Q, I>>>,
+    journal: &mut Vec<Token<K, V, Q, I>>,
     caller: Caller,
     asked: Asked<K, V, Q>,
     told: Told<K, V, I>,
@@ -86,56 +83,26 @@ pub(crate) fn entered<K: PathKey + Drop, V: Drop, Q: Drop, I: Drop, R: Wait>(
     ensures room { OnOk result (IsTrue caller.has_room) }
     ensures spare { OnOk result (vec_len journal.new < vec_capacity journal.new) }
     ensures items { journal.new.items ≡ journal.old.items }
-    ensures shown { IfOk result (λ r. Shows entries.now (arc_value r.0)) }
+    ensures shown { IfOk result (λ r. Shows entries.now r.0) }
     ensures entry { IfOk result (λ r. entry_at r.0 ≡ record { seat = caller.seat; request = asked_of asked; outcome = outcome_told told }) }
-    ensures same { IfOk result (λ r. arc_value r.1 ≡ arc_value r.0) }
+    ensures same { IfOk result (λ r. r.1 ≡ r.0) }
 {
     caller.room()?;
     journal.reserve(1)?;
-    placed(rt, alloc, entries, Entry::new(caller.seat, asked, told))
-}
-
-// Places the entry in the vector, and gives its token twice.
-fn placed<K: PathKey + Drop, V: Drop, Q: Drop, I: Drop, R: Wait>(
-    rt: &R,
-    alloc: Global,
-    entries: &Entries<K, V, Q, I>,
-    entry: Entry<K, V, Q, I>,
-) -> Result<Twice<K, V, Q, I>, NoMemory>
-    ensures shown { IfOk result (λ r. Shows entries.now (arc_value r.0)) }
-    ensures entry { IfOk result (λ r. entry_at r.0 ≡ entry) }
-    ensures same { IfOk result (λ r. arc_value r.1 ≡ arc_value r.0) }
-{
+    let entry = Entry::new(caller.seat, asked, told);
     let Ok(token) = entries.push_shown(rt, entry) else {
         return Err(NoMemory);
     };
-    let Ok(token) = Arc::new(alloc, token) else {
-        return Err(NoMemory);
-    };
-    let Ok(again) = Arc::try_clone(&token) else {
-        return Err(NoMemory);
-    };
+    let again = token.again();
     Ok((token, again))
-}
-
-/// The token twice more.
-pub(crate) fn twice<K: PathKey + Drop, V: Drop, Q: Drop, I: Drop>(
-    token: &Arc<Token<K, V, Q, I>>,
-) -> Result<Twice<K, V, Q, I>, NoMemory>
-    ensures { IfOk result (λ r. (arc_value r.0 ≡ arc_value token.now) × (arc_value r.1 ≡ arc_value token.now)) }
-{
-    let one = Arc::try_clone(token)?;
-    let other = Arc::try_clone(token)?;
-    Ok((one, other))
 }
 
 /// Places the entry of a finish by the part, and gives its token twice, with room for one in the journal.
 pub(crate) fn entered_finish<K: PathKey + Drop, V: Eq + Drop, Q: Asks<K, V> + Drop, R: Wait>(
     rt: &R,
-    alloc: Global,
     entries: &Entries<K, V, Q, Q::Item>,
     table: &Table<K, V, Q>,
-    journal: &mut Vec<Arc<Token<K, V, Q, Q::Item>>>,
+    journal: &mut Vec<Token<K, V, Q, Q::Item>>,
     caller: Caller,
     job: u64,
     part: &Q::Part,
@@ -144,14 +111,14 @@ pub(crate) fn entered_finish<K: PathKey + Drop, V: Eq + Drop, Q: Asks<K, V> + Dr
     ensures room { OnOk result (IsTrue caller.has_room) }
     ensures spare { OnOk result (vec_len journal.new < vec_capacity journal.new) }
     ensures items { journal.new.items ≡ journal.old.items }
-    ensures shown { IfOk result (λ r. Shows entries.now (arc_value r.0)) }
+    ensures shown { IfOk result (λ r. Shows entries.now r.0) }
     ensures entry { IfOk result (λ r. entry_at r.0 ≡ record { seat = caller.seat; request = finish job; outcome = finished (plain.told (Q.answer_of part.now)) }) }
-    ensures same { IfOk result (λ r. arc_value r.1 ≡ arc_value r.0) }
+    ensures same { IfOk result (λ r. r.1 ≡ r.0) }
 {
     // the job is open: only memory may be wanting
     let Ok(answer) = table.foresee_finish(job, part) else {
         return Err(NoMemory);
     };
     let (asked, told) = (Asked::Finish(job), Told::Answer(answer));
-    entered(rt, alloc, entries, journal, caller, asked, told)
+    entered(rt, entries, journal, caller, asked, told)
 }

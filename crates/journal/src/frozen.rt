@@ -4,13 +4,12 @@ ghost use Rattle.journal.specs.Kept.{is_other};
 
 use crate::room::Token;
 use hash_path::PathKey;
-use std::sync::Arc;
 
 /// The number of an open job, and the token of the entry that opened it.
 #[derive(Drop)]
 pub struct Frozen<K: PathKey, V, Q, I> {
     pub(crate) number: u64,
-    pub(crate) token: Arc<Token<K, V, Q, I>>,
+    pub(crate) token: Token<K, V, Q, I>,
 }
 
 /// The token beside the open job of the number, if there is one.

@@ -6,13 +6,12 @@ use crate::entry::Entry;
 use crate::room::{Entries, Token};
 use hash_path::PathKey;
 use std::marker::Model;
-use std::sync::Arc;
 
 /// The journal that is left of a table: its entries, in order. It never changes.
 #[derive(Drop)]
 pub struct Journal<K: PathKey, V, Q, I> {
     entries: Entries<K, V, Q, I>,
-    tokens: Vec<Arc<Token<K, V, Q, I>>>,
+    tokens: Vec<Token<K, V, Q, I>>,
 }
 
 impl<K: PathKey, V, Q, I> Model for Journal<K, V, Q, I> {
@@ -30,10 +29,7 @@ impl<K: PathKey, V, Q, I> Model for Journal<K, V, Q, I> {
 
 impl<K: PathKey, V, Q, I> Journal<K, V, Q, I> {
     /// The journal of the entries, in this vector, that the tokens show.
-    pub fn new(
-        entries: Entries<K, V, Q, I>,
-        tokens: Vec<Arc<Token<K, V, Q, I>>>,
-    ) -> Journal<K, V, Q, I>
+    pub fn new(entries: Entries<K, V, Q, I>, tokens: Vec<Token<K, V, Q, I>>) -> Journal<K, V, Q, I>
         requires { AllShown entries tokens.items }
         ensures { result ≡ entries_of tokens.items }
     {
@@ -58,7 +54,7 @@ impl<K: PathKey, V, Q, I> Journal<K, V, Q, I> {
     pub fn entry(&self, place: usize) -> Option<&Entry<K, V, Q, I>>
         ensures { option_map (λ entry. entry.now) result ≡ slice_get self.now place }
     {
-        let token: &Token<K, V, Q, I> = self.tokens.get(place)?;
+        let token = self.tokens.get(place)?;
         Some(self.entries.value(token))
     }
 }

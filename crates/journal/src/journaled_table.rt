@@ -1,6 +1,5 @@
 //! The table that keeps its journal.
 ghost use Rattle.std.specs.Prelude.{◌≡◌, ◌≤◌, ◌<◌, ◌+◌, ◌^◌, ◌⊎◌, ◌++◌, ◌∷◌, [], IfErr, IfOk, IsTrue, MatchResult, OnErr, OnOk, Some, filter, vec_capacity, vec_len};
-ghost use Rattle.std.specs.Arc.{arc_value};
 ghost use Rattle.boxcar.specs.Table.{Shows};
 ghost use Rattle.bulk_ops.specs.Answers as plain;
 ghost use Rattle.bulk_ops.specs.Told.{told_of};
@@ -36,7 +35,7 @@ use versions::{MOST_PAIRS, NoMemory, Refusal, View};
 #[derive(Drop)]
 pub struct JournaledTable<K: PathKey, V: Eq, Q: Asks<K, V>, J: Room> {
     table: Table<K, V, Q>,
-    journal: Vec<Arc<Token<K, V, Q, Q::Item>>>,
+    journal: Vec<Token<K, V, Q, Q::Item>>,
     freezes: Vec<Frozen<K, V, Q, Q::Item>>,
     room: PhantomData<J>,
 }
@@ -85,7 +84,7 @@ impl<K: PathKey + Drop, V: Eq + Drop, Q: Asks<K, V> + Drop, J: Room> JournaledTa
     ) -> Result<Event<K, V, Q, Q::Item, Result<CallReply<V>, Refusal>>, Refusal>
         requires { entries.now ≡ J.table }
         ensures filed { IfOk result (λ e. Files (machine K.cmp V.eq Q.target_of Q.answered) J.table self.old caller.seat (request_of call) (answered call_outcome e.answer) e.token e.place self.new) }
-        ensures shown { IfOk result (λ e. Shows J.table (arc_value e.token)) }
+        ensures shown { IfOk result (λ e. Shows J.table e.token) }
         ensures fits { IfOk result (λ e. e.place + 1 < 2 ^ 64) }
         ensures room { OnOk result (IsTrue caller.has_room) }
         ensures unfiled { IfErr result (λ e. IsUnfiled (machine K.cmp V.eq Q.target_of Q.answered) self.old.state (request_of call) e) }
@@ -105,21 +104,20 @@ impl<K: PathKey + Drop, V: Eq + Drop, Q: Asks<K, V> + Drop, J: Room> JournaledTa
     pub fn view<R: Wait>(
         &mut self,
         rt: &R,
-        alloc: Global,
         entries: &Entries<K, V, Q, Q::Item>,
         caller: Caller,
         handle: u32,
     ) -> Result<Event<K, V, Q, Q::Item, Result<View<K, V>, Refusal>>, Refusal>
         requires { entries.now ≡ J.table }
         ensures filed { IfOk result (λ e. Files (machine K.cmp V.eq Q.target_of Q.answered) J.table self.old caller.seat (view handle) (answered view_outcome e.answer) e.token e.place self.new) }
-        ensures shown { IfOk result (λ e. Shows J.table (arc_value e.token)) }
+        ensures shown { IfOk result (λ e. Shows J.table e.token) }
         ensures fits { IfOk result (λ e. e.place + 1 < 2 ^ 64) }
         ensures room { OnOk result (IsTrue caller.has_room) }
         ensures unfiled { IfErr result (λ e. IsUnfiled (machine K.cmp V.eq Q.target_of Q.answered) self.old.state (view handle) e) }
         ensures err { OnErr result (self.new ≡ self.old) }
     {
         let answer = to_be_filed(self.table.foresee_view(handle))?;
-        match self.file_view(rt, alloc, entries, caller, handle, answer) {
+        match self.file_view(rt, entries, caller, handle, answer) {
             Ok(event) => Ok(event),
             Err(NoMemory) => Err(Refusal::NoMemory),
         }
@@ -133,7 +131,6 @@ impl<K: PathKey + Drop, V: Eq + Drop, Q: Asks<K, V> + Drop, J: Room> JournaledTa
     pub fn freeze<R: Wait>(
         &mut self,
         rt: &R,
-        alloc: Global,
         entries: &Entries<K, V, Q, Q::Item>,
         caller: Caller,
         handle: u32,
@@ -141,14 +138,14 @@ impl<K: PathKey + Drop, V: Eq + Drop, Q: Asks<K, V> + Drop, J: Room> JournaledTa
     ) -> Result<Opened<K, V, Q, Q::Item>, Refusal>
         requires { entries.now ≡ J.table }
         ensures filed { IfOk result (λ r. Files (machine K.cmp V.eq Q.target_of Q.answered) J.table self.old caller.seat (freeze handle query.value) (answered frozen_outcome r.0.answer) r.0.token r.0.place self.new) }
-        ensures shown { IfOk result (λ r. Shows J.table (arc_value r.0.token) × (arc_value r.1 ≡ arc_value r.0.token)) }
+        ensures shown { IfOk result (λ r. Shows J.table r.0.token × (r.1 ≡ r.0.token)) }
         ensures fits { IfOk result (λ r. r.0.place + 1 < 2 ^ 64) }
         ensures room { OnOk result (IsTrue caller.has_room) }
         ensures unfiled { IfErr result (λ e. IsUnfiled (machine K.cmp V.eq Q.target_of Q.answered) self.old.state (freeze handle query.value) e) }
         ensures err { OnErr result (self.new ≡ self.old) }
     {
         let answer = to_be_filed(self.table.foresee_freeze(handle, &query))?;
-        match self.file_freeze(rt, alloc, entries, caller, handle, query, answer) {
+        match self.file_freeze(rt, entries, caller, handle, query, answer) {
             Ok(made) => Ok(made),
             Err(NoMemory) => Err(Refusal::NoMemory),
         }
@@ -161,7 +158,6 @@ impl<K: PathKey + Drop, V: Eq + Drop, Q: Asks<K, V> + Drop, J: Room> JournaledTa
     pub fn abandon<R: Wait>(
         &mut self,
         rt: &R,
-        alloc: Global,
         entries: &Entries<K, V, Q, Q::Item>,
         caller: Caller,
         job: u64,
@@ -170,7 +166,7 @@ impl<K: PathKey + Drop, V: Eq + Drop, Q: Asks<K, V> + Drop, J: Room> JournaledTa
         requires table { entries.now ≡ J.table }
         requires shown { Shows J.table opener.now }
         ensures filed { IfOk result (λ e. Files (machine K.cmp V.eq Q.target_of Q.answered) J.table self.old caller.seat (abandon job) made e.token e.place self.new) }
-        ensures shown { IfOk result (λ e. Shows J.table (arc_value e.token)) }
+        ensures shown { IfOk result (λ e. Shows J.table e.token) }
         ensures fits { IfOk result (λ e. e.place + 1 < 2 ^ 64) }
         ensures opened { OnOk result (WasOpenedBy self.old.state job opener.now.value) }
         ensures room { OnOk result (IsTrue caller.has_room) }
@@ -184,7 +180,7 @@ impl<K: PathKey + Drop, V: Eq + Drop, Q: Asks<K, V> + Drop, J: Room> JournaledTa
         let (asked, told) = (Asked::Abandon(job), Told::Abandoned);
         let place = self.journal.len() as u64;
         let journal = &mut self.journal;
-        let (token, mine) = entered(rt, alloc, entries, journal, caller, asked, told)?;
+        let (token, mine) = entered(rt, entries, journal, caller, asked, told)?;
         // the job is open, so that nothing is refused
         let _ = self.table.abandon(job);
         close(&mut self.freezes, job);
@@ -203,7 +199,6 @@ impl<K: PathKey + Drop, V: Eq + Drop, Q: Asks<K, V> + Drop, J: Room> JournaledTa
     pub fn finish<R: Wait>(
         &mut self,
         rt: &R,
-        alloc: Global,
         entries: &Entries<K, V, Q, Q::Item>,
         caller: Caller,
         job: u64,
@@ -214,7 +209,7 @@ impl<K: PathKey + Drop, V: Eq + Drop, Q: Asks<K, V> + Drop, J: Room> JournaledTa
         requires shown { Shows J.table opener.now }
         requires part { (asking : Job K V Q) → opened_by opener.now.value ≡ Some (job, asking) → Q.answers asking.query asking.frozen part }
         ensures filed { IfOk result (λ e. Files (machine K.cmp V.eq Q.target_of Q.answered) J.table self.old caller.seat (finish job) (finished_outcome e.answer) e.token e.place self.new) }
-        ensures shown { IfOk result (λ e. Shows J.table (arc_value e.token)) }
+        ensures shown { IfOk result (λ e. Shows J.table e.token) }
         ensures fits { IfOk result (λ e. e.place + 1 < 2 ^ 64) }
         ensures opened { OnOk result (WasOpenedBy self.old.state job opener.now.value) }
         ensures room { OnOk result (IsTrue caller.has_room) }
@@ -229,7 +224,7 @@ impl<K: PathKey + Drop, V: Eq + Drop, Q: Asks<K, V> + Drop, J: Room> JournaledTa
         }
         let place = self.journal.len() as u64;
         let journal = &mut self.journal;
-        let entered = entered_finish(rt, alloc, entries, &self.table, journal, caller, job, &part);
+        let entered = entered_finish(rt, entries, &self.table, journal, caller, job, &part);
         let Ok((token, mine)) = entered else {
             return Err((Refusal::NoMemory, part));
         };
@@ -246,7 +241,7 @@ impl<K: PathKey + Drop, V: Eq + Drop, Q: Asks<K, V> + Drop, J: Room> JournaledTa
     }
 
     /// The table and the journal's tokens.
-    pub fn into_parts(self) -> (Table<K, V, Q>, Vec<Arc<Token<K, V, Q, Q::Item>>>)
+    pub fn into_parts(self) -> (Table<K, V, Q>, Vec<Token<K, V, Q, Q::Item>>)
         ensures shown { AllShown J.table result.1.items }
         ensures legal { IsLegal (machine K.cmp V.eq Q.target_of Q.answered) result.0.limits (entries_of result.1.items) result.0 }
     {
@@ -273,11 +268,10 @@ impl<K: PathKey + Drop, V: Eq + Drop, Q: Asks<K, V> + Drop, J: Room> JournaledTa
         let Some(frozen) = beside(&self.freezes, job) else {
             return false;
         };
-        let token: &Token<K, V, Q, Q::Item> = &frozen.token;
-        if token.index() != opener.index() {
+        if frozen.token.index() != opener.index() {
             return false;
         }
-        entries.agrees(token, opener);
+        entries.agrees(&frozen.token, opener);
         true
     }
 }
@@ -286,7 +280,7 @@ impl<K: PathKey + Drop, V: Eq + Drop, Q: Asks<K, V> + Drop, J: Room> JournaledTa
 fn set_beside<K: PathKey + Drop, V: Drop, Q: Drop, I: Drop>(
     freezes: &mut Vec<Frozen<K, V, Q, I>>,
     answer: &Result<(u64, View<K, V>), Refusal>,
-    token: Arc<Token<K, V, Q, I>>,
+    token: Token<K, V, Q, I>,
 )
     requires { vec_len freezes.old < vec_capacity freezes.old }
     ensures { MatchResult answer.now (λ x. freezes.new.items ≡ filter (is_other x.0) freezes.old.items ++ record { number = x.0; token = token } ∷ []) (λ _. freezes.new.items ≡ freezes.old.items) }

@@ -1,7 +1,8 @@
 -- What a call adds to its seat.
 use Rattle.std.proofs.Common.{◌≡◌, ℕ, ◌+◌, Bool, true, List, [], ◌∷◌, ◌++◌, Option, sym, ap, ◌∙◌, ◌⊎◌, inl, inr, subst}
 use Rattle.std.proofs.lemmas.List.{map-append}
-use Rattle.boxcar.specs.Table.{Shelves}
+use Rattle.std.proofs.lemmas.List.Elements.{All-push}
+use Rattle.boxcar.specs.Table.{Shelves, Shows}
 use Rattle.bulk_ops.specs.Answers as plain
 use Rattle.versions.specs.declared.refusal.Refusal.{Refusal}
 use Rattle.versions.specs.declared.refusal.Refusal.TheVariants.{NoHandle, Taken, Full, NoJob, Unfinished, NoWorker, TooManyJobs, JournalFull, NoMemory, BadNumber}
@@ -10,7 +11,7 @@ use Rattle.journal.specs.Answers.{IsUnfiled}
 use Rattle.journal.specs.Journals.{is_filed}
 use Rattle.journal.specs.Tokens.{entry_at}
 use Rattle.journal.specs.Kept.{Standing, Files}
-use Rattle.locked_map.specs.Seats.{Seated, Placed, placed, placed_all, with_entry, marked_by, marked_unknown, Adds}
+use Rattle.locked_map.specs.Seats.{AllOf, Seated, Placed, placed, placed_all, with_entry, marked_by, marked_unknown, Adds}
 use Rattle.locked_map.specs.declared.filed.Filed.{Filed}
 
 module _ {K V Q B : Type 0} where
@@ -54,6 +55,10 @@ module _ {K V Q B : Type 0} where
   ended_adds s t r e j job (inr wanting) is = subst (λ x. t ≡ marked_by s x j → Adds s r (refused x) t) (sym wanting) (λ same. same) is
 
 module _ {K V Q I : Type 0} where
+  -- one token more of the vector
+  pub all_of_more : (t : Shelves) (fs fs' : List (Filed K V Q I)) (f : Filed K V Q I) → fs' ≡ fs ++ f ∷ [] → AllOf t fs → Shows t f.token → AllOf t fs'
+  all_of_more t fs fs' f is all shows = subst (AllOf t) (sym is) (All-push (λ (x : Filed K V Q I). Shows t x.token) fs f all shows)
+
   -- a seat with one entry more, as its parts show it
   pub seat_with_entry : (n floor : ℕ) (full : Bool) (unknown : Option ℕ) (fs fs' : List (Filed K V Q I)) (f : Filed K V Q I) (r : Request K V Q) (o : Outcome K V (plain.Told K V I))
       → fs' ≡ fs ++ f ∷ [] → f.floor ≡ floor → entry_at f.token ≡ record { seat = n; request = r; outcome = o }

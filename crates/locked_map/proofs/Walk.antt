@@ -3,8 +3,6 @@ use Rattle.std.proofs.Common.{◌≡◌, ℕ, ◌+◌, ◌<◌, ◌≤◌, ◌==
 use Rattle.std.proofs.lemmas.List.{map-append, append-nil, length-map, length-take-le, take_all}
 use Rattle.std.proofs.Math.Seq.{take-suc}
 use Rattle.std.proofs.lemmas.Bool.Decides.{nat_tests}
-use Rattle.std.specs.declared.sync.Arc.{Arc}
-use Rattle.std.specs.Arc.{arc_value}
 use Rattle.boxcar.specs.Table.{Shelves, Where, Shows}
 use Rattle.bulk_ops.specs.Answers as plain
 use Rattle.journal.specs.Journals.{Entered, own}
@@ -35,34 +33,34 @@ module _ {K V Q I : Type 0} where
   floor_cons f fs ok all (suc k) d h = all k d (omega arith)
 
   -- the token at the head of a seat's list, and one of the journal's, are of the vector
-  pub head_shown : (t t' : Shelves) (rest tail : List (Filed K V Q I)) (f : Filed K V Q I) (p : Where (Entry K V Q I)) → t' ≡ t → rest ≡ f ∷ tail → p ≡ arc_value f.token → AllOf t rest → Shows t' p
-  head_shown t t' rest tail f p e parts is all =
+  pub head_shown : (t t' : Shelves) (rest tail : List (Filed K V Q I)) (f : Filed K V Q I) → t' ≡ t → rest ≡ f ∷ tail → AllOf t rest → Shows t' f.token
+  head_shown t t' rest tail f e parts all =
       let shown : AllOf t (f ∷ tail) = subst (λ (r : List (Filed K V Q I)). AllOf t r) parts all in
-      subst (λ u. Shows u p) (sym e) (subst (λ (q : Where (Entry K V Q I)). Shows t q) (sym is) (shown 0 f (omega arith)))
+      subst (λ u. Shows u f.token) (sym e) (shown 0 f (omega arith))
 
-module _ {K V Q I Z : Type 0} where
-  pub length_taken : (js : List (Arc (Where (Entry K V Q I)) Z)) (i : ℕ) → i < length js → length (entries_of (take i js)) ≡ i
+module _ {K V Q I : Type 0} where
+  pub length_taken : (js : List (Where (Entry K V Q I))) (i : ℕ) → i < length js → length (entries_of (take i js)) ≡ i
   length_taken js i h = length-map (take i js) entry_at ∙ length-take-le i js (omega arith)
 
-  pub own_more : (k i : ℕ) (js : List (Arc (Where (Entry K V Q I)) Z)) (d : Arc (Where (Entry K V Q I)) Z) → i < length js
+  pub own_more : (k i : ℕ) (js : List (Where (Entry K V Q I))) (d : Where (Entry K V Q I)) → i < length js
       → own k 0 (entries_of (take (i + 1) js)) ≡ own k 0 (entries_of (take i js)) ++ one ((entry_at (get_or js i d)).seat == k) i (entry_at (get_or js i d))
   own_more k i js d h =
       let t : take (i + 1) js ≡ take i js ++ get_or js i d ∷ [] = ap (λ n. take n js) (add-one i) ∙ take-suc js i d h in
       let n : 0 + length (entries_of (take i js)) ≡ i = omega (arith, length_taken js i h) in
       ap (λ x. own k 0 (entries_of x)) t ∙ ap (own k 0) (map-append entry_at (take i js) (get_or js i d ∷ [])) ∙ own_snoc k 0 i (entries_of (take i js)) (entry_at (get_or js i d)) n
 
-  own_at : (k i : ℕ) (js : List (Arc (Where (Entry K V Q I)) Z)) (a : Arc (Where (Entry K V Q I)) Z) → i < length js → a ≡ get_or js i a
+  own_at : (k i : ℕ) (js : List (Where (Entry K V Q I))) (a : Where (Entry K V Q I)) → i < length js → a ≡ get_or js i a
       → own k 0 (entries_of (take (i + 1) js)) ≡ own k 0 (entries_of (take i js)) ++ one ((entry_at a).seat == k) i (entry_at a)
-  own_at k i js a h is = own_more k i js a h ∙ ap (λ (x : Arc (Where (Entry K V Q I)) Z). own k 0 (entries_of (take i js)) ++ one ((entry_at x).seat == k) i (entry_at x)) (sym is)
+  own_at k i js a h is = own_more k i js a h ∙ ap (λ (x : Where (Entry K V Q I)). own k 0 (entries_of (take i js)) ++ one ((entry_at x).seat == k) i (entry_at x)) (sym is)
 
   -- what the walk keeps: the rest of the seat's list is of the vector, and the part before it is what the journal so far has of the seat
-  pub record Walks (t : Shelves) (k : ℕ) (js : List (Arc (Where (Entry K V Q I)) Z)) (i p : ℕ) (all rest : List (Filed K V Q I)) : Type 0 where
+  pub record Walks (t : Shelves) (k : ℕ) (js : List (Where (Entry K V Q I))) (i p : ℕ) (all rest : List (Filed K V Q I)) : Type 0 where
     pub shown : AllOf t rest
     pub place : p ≡ i
     pub floors : AboveFloors (placed_all rest) → AboveFloors (placed_all all)
     pub split : pairs (placed_all all) ≡ own k 0 (entries_of (take i js)) ++ pairs (placed_all rest)
 
-  pub walks_skip : (t : Shelves) (k : ℕ) (js : List (Arc (Where (Entry K V Q I)) Z)) (i place : ℕ) (all rest' rest : List (Filed K V Q I)) (a : Arc (Where (Entry K V Q I)) Z)
+  pub walks_skip : (t : Shelves) (k : ℕ) (js : List (Where (Entry K V Q I))) (i place : ℕ) (all rest' rest : List (Filed K V Q I)) (a : Where (Entry K V Q I))
       → Walks t k js i place all rest' → rest' ≡ rest → i < length js → a ≡ get_or js i a → ((entry_at a).seat ≡ k → ⊥) → Walks t k js (i + 1) (place + 1) all rest
   walks_skip t k js i place all rest' rest a w' stays h is other =
       let P : List (Filed K V Q I) → Type 0 = λ r. Walks t k js i place all r in
@@ -77,7 +75,7 @@ module _ {K V Q I Z : Type 0} where
         split = w.split ∙ ap (λ x. x ++ pairs (placed_all rest)) (sym more);
       }
 
-  pub walks_take : (t : Shelves) (k : ℕ) (js : List (Arc (Where (Entry K V Q I)) Z)) (i place : ℕ) (all rest tail : List (Filed K V Q I)) (f : Filed K V Q I) (a : Arc (Where (Entry K V Q I)) Z)
+  pub walks_take : (t : Shelves) (k : ℕ) (js : List (Where (Entry K V Q I))) (i place : ℕ) (all rest tail : List (Filed K V Q I)) (f : Filed K V Q I) (a : Where (Entry K V Q I))
       → Walks t k js i place all rest → i < length js → a ≡ get_or js i a → (entry_at a).seat ≡ k → rest ≡ f ∷ tail → f.place ≡ place
       → f.floor ≤ f.place → entry_at f.token ≡ entry_at a → Walks t k js (i + 1) (place + 1) all tail
   walks_take t k js i place all rest tail f a w h is mine parts at above same =
@@ -99,14 +97,14 @@ module _ {K V Q I Z : Type 0} where
             ∙ ap (λ x. x ++ pairs (placed_all tail)) (sym more);
       }
 
-  pub walks_end : (t : Shelves) (k : ℕ) (js : List (Arc (Where (Entry K V Q I)) Z)) (i place : ℕ) (all rest : List (Filed K V Q I))
+  pub walks_end : (t : Shelves) (k : ℕ) (js : List (Where (Entry K V Q I))) (i place : ℕ) (all rest : List (Filed K V Q I))
       → Walks t k js i place all rest → length js ≤ i → rest ≡ [] → own k 0 (entries_of js) ≡ pairs (placed_all all)
   walks_end t k js i place all rest w h none =
       sym (w.split ∙ ap (λ r. own k 0 (entries_of (take i js)) ++ pairs (placed_all r)) none ∙ append-nil (own k 0 (entries_of (take i js)))
       ∙ ap (λ x. own k 0 (entries_of x)) (take_all i js h))
 
-  pub item_shown : (t t' : Shelves) (js : List (Arc (Where (Entry K V Q I)) Z)) (i : ℕ) (a : Arc (Where (Entry K V Q I)) Z) (p : Where (Entry K V Q I)) → t' ≡ t → a ≡ get_or js i a → p ≡ arc_value a
-      → i < length js → ((k : ℕ) (d : Arc (Where (Entry K V Q I)) Z) → k < length js → Shows t (arc_value (get_or js k d))) → Shows t' p
-  item_shown t t' js i a p e at is h all =
-      let there : Shows t (arc_value a) = subst (λ (b : Arc (Where (Entry K V Q I)) Z). Shows t (arc_value b)) (sym at) (all i a h) in
-      subst (λ u. Shows u p) (sym e) (subst (λ (q : Where (Entry K V Q I)). Shows t q) (sym is) there)
+  pub item_shown : (t t' : Shelves) (js : List (Where (Entry K V Q I))) (i : ℕ) (a : Where (Entry K V Q I)) → t' ≡ t → a ≡ get_or js i a
+      → i < length js → ((k : ℕ) (d : Where (Entry K V Q I)) → k < length js → Shows t (get_or js k d)) → Shows t' a
+  item_shown t t' js i a e at h all =
+      let there : Shows t a = subst (λ (b : Where (Entry K V Q I)). Shows t b) (sym at) (all i a h) in
+      subst (λ u. Shows u a) (sym e) there

@@ -1,6 +1,5 @@
 -- Seats: what one has filed, and what a call adds to it.
 use Rattle.std.specs.Prelude.{◌≡◌, ℕ, ◌+◌, ◌≤◌, ◌<◌, Bool, true, false, List, [], ◌∷◌, ◌++◌, map, All, max, length, slice_index_or, Option, Some, None}
-use Rattle.std.specs.Arc.{arc_value}
 use Rattle.boxcar.specs.Table.{Shelves, Shows}
 use Rattle.bulk_ops.specs.Answers as plain
 use Rattle.versions.specs.declared.refusal.Refusal.{Refusal}
@@ -34,7 +33,7 @@ module _ {K V Q I : Type 0} where
 
   -- the tokens are of this vector
   abbrev pub AllOf : Shelves → List (Filed K V Q I) → Type 0
-  AllOf t fs = All (λ (f : Filed K V Q I). Shows t (arc_value f.token)) fs
+  AllOf t fs = All (λ (f : Filed K V Q I). Shows t f.token) fs
 
 -- the first of two numbers that is there
 abbrev pub first_of : Option ℕ → Option ℕ → Option ℕ

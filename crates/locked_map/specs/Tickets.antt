@@ -1,7 +1,5 @@
 -- Tickets of open jobs.
 use Rattle.std.specs.Prelude.{◌≡◌, ℕ, Some}
-use Rattle.std.specs.Arc.{arc_value}
-use Rattle.std.specs.declared.sync.Arc.{Arc}
 use Rattle.boxcar.specs.Table.{Shelves, Where, Shows}
 use Rattle.bulk_ops.specs.Answers as plain
 use Rattle.versions.specs.Map.{Map}
@@ -21,6 +19,6 @@ abbrev pub ticket_outcome : {K V Q B : Type 0} → Ticketed K V Q → Outcome K 
 ticket_outcome t = frozen t.job t.frozen
 
 -- the token is of this vector, and its entry is the freeze of the query that opened the job of this number and showed this map
-pub record IsTicket {K V Q I Z : Type 0} (t : Shelves) (number : ℕ) (query : Q) (map : Map K V) (token : Arc (Where (Entered K V Q (plain.Told K V I))) Z) : Type 0 where
-  pub shown : Shows t (arc_value token)
+pub record IsTicket {K V Q I : Type 0} (t : Shelves) (number : ℕ) (query : Q) (map : Map K V) (token : Where (Entered K V Q (plain.Told K V I))) : Type 0 where
+  pub shown : Shows t token
   pub opened : opened_by (entry_at token) ≡ Some (number, record { query = query; frozen = map })

@@ -10,14 +10,13 @@ use bulk_ops::Asks;
 use handles::Table;
 use hash_path::PathKey;
 use journal::{Entries, Room, Token};
-use std::sync::Arc;
 use versions::Refusal;
 
 /// Whether the entries of the seat's number are, in order and at their places, those that it has filed, none of them
 /// below the floor beside it.
 pub(crate) fn is_borne_out<K: PathKey + Drop, V: Drop, Q: Asks<K, V> + Drop, J: Room>(
     entries: &Entries<K, V, Q, Q::Item>,
-    tokens: &Vec<Arc<Token<K, V, Q, Q::Item>>>,
+    tokens: &Vec<Token<K, V, Q, Q::Item>>,
     seat: &Seat<K, V, Q, J>,
 ) -> bool
     requires table { entries.now ≡ J.table }
@@ -28,7 +27,6 @@ pub(crate) fn is_borne_out<K: PathKey + Drop, V: Drop, Q: Asks<K, V> + Drop, J: 
     let mut rest = seat.list.as_slice();
     let mut place = 0u64;
     for token in tokens {
-        let token: &Token<K, V, Q, Q::Item> = token;
         let of = entries.value(token).seat();
         if of == seat.number {
             let Some((filed, tail)) = rest.split_first() else {
@@ -52,7 +50,7 @@ pub(crate) fn is_borne_out<K: PathKey + Drop, V: Drop, Q: Asks<K, V> + Drop, J: 
 /// hold.
 pub(crate) fn are_borne_out<K: PathKey + Drop, V: Eq + Drop, Q: Asks<K, V> + Drop, J: Room>(
     entries: &Entries<K, V, Q, Q::Item>,
-    tokens: &Vec<Arc<Token<K, V, Q, Q::Item>>>,
+    tokens: &Vec<Token<K, V, Q, Q::Item>>,
     table: &Table<K, V, Q>,
     seats: &Vec<Seat<K, V, Q, J>>,
 ) -> bool
@@ -79,14 +77,13 @@ pub(crate) fn are_borne_out<K: PathKey + Drop, V: Eq + Drop, Q: Asks<K, V> + Dro
 /// Whether each entry is of a seat whose number is below this one.
 pub(crate) fn are_of_seats<K: PathKey + Drop, V: Drop, Q: Drop, I: Drop>(
     entries: &Entries<K, V, Q, I>,
-    tokens: &Vec<Arc<Token<K, V, Q, I>>>,
+    tokens: &Vec<Token<K, V, Q, I>>,
     count: usize,
 ) -> bool
     requires { AllShown entries.now tokens.now.items }
     ensures { IsTrue result → All (λ e. e.seat < count) (entries_of tokens.now.items) }
 {
     for token in tokens {
-        let token: &Token<K, V, Q, I> = token;
         if entries.value(token).seat() as usize >= count {
             return false;
         }

@@ -3,12 +3,11 @@ ghost use Rattle.std.specs.Prelude.{◌≡◌, ◌+◌, ◌<◌, ◌^◌, ◌++�
 
 use hash_path::PathKey;
 use journal::{Event, Token};
-use std::sync::Arc;
 
 /// An entry of a seat: its token, its place in the journal, and the floor that the seat had.
 #[derive(Drop)]
 pub struct Filed<K: PathKey, V, Q, I> {
-    pub(crate) token: Arc<Token<K, V, Q, I>>,
+    pub(crate) token: Token<K, V, Q, I>,
     pub(crate) place: u64,
     pub(crate) floor: u64,
 }

@@ -92,10 +92,7 @@ impl<K: PathKey + Drop, V: Eq + Drop, Q: Asks<K, V> + Drop, J: Room> SharedMap<K
         ensures { Adds seat.old (view handle) (answered view_outcome result) seat.new }
     {
         let caller = Caller::new(seat.number, &mut seat.list);
-        let made = self
-            .table
-            .lock(rt)
-            .view(rt, self.alloc, &self.entries, caller, handle);
+        let made = self.table.lock(rt).view(rt, &self.entries, caller, handle);
         match made {
             Ok(event) => file(&mut seat.list, &mut seat.floor, event),
             Err(refusal) => {
@@ -121,7 +118,7 @@ impl<K: PathKey + Drop, V: Eq + Drop, Q: Asks<K, V> + Drop, J: Room> SharedMap<K
         let made = self
             .table
             .lock(rt)
-            .freeze(rt, self.alloc, &self.entries, caller, handle, query);
+            .freeze(rt, &self.entries, caller, handle, query);
         match made {
             Ok((event, opener)) => {
                 let answer = file(&mut seat.list, &mut seat.floor, event);
@@ -156,14 +153,10 @@ impl<K: PathKey + Drop, V: Eq + Drop, Q: Asks<K, V> + Drop, J: Room> SharedMap<K
         ensures ticket { IfErr result (λ e. e.1 ≡ ticket) }
     {
         let caller = Caller::new(seat.number, &mut seat.list);
-        let made = self.table.lock(rt).abandon(
-            rt,
-            self.alloc,
-            &self.entries,
-            caller,
-            ticket.job,
-            &ticket.token,
-        );
+        let made = self
+            .table
+            .lock(rt)
+            .abandon(rt, &self.entries, caller, ticket.job, &ticket.token);
         match made {
             Ok(event) => {
                 file(&mut seat.list, &mut seat.floor, event);
@@ -195,15 +188,10 @@ impl<K: PathKey + Drop, V: Eq + Drop, Q: Asks<K, V> + Drop, J: Room> SharedMap<K
         ensures part { IfErr result (λ e. e.2 ≡ part) }
     {
         let caller = Caller::new(seat.number, &mut seat.list);
-        let made = self.table.lock(rt).finish(
-            rt,
-            self.alloc,
-            &self.entries,
-            caller,
-            ticket.job,
-            &ticket.token,
-            part,
-        );
+        let made = self
+            .table
+            .lock(rt)
+            .finish(rt, &self.entries, caller, ticket.job, &ticket.token, part);
         match made {
             Ok(event) => Ok(file(&mut seat.list, &mut seat.floor, event)),
             Err((refusal, part)) => {

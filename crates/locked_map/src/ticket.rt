@@ -18,7 +18,7 @@ pub struct Ticket<K: PathKey, V, Q: Asks<K, V>, J: Room> {
     pub(crate) job: u64,
     pub(crate) query: Arc<Q>,
     pub(crate) view: View<K, V>,
-    pub(crate) token: Arc<Token<K, V, Q, Q::Item>>,
+    pub(crate) token: Token<K, V, Q, Q::Item>,
     pub(crate) room: PhantomData<J>,
 }
 

@@ -6,6 +6,7 @@ mod laws;
 mod memory;
 mod operations;
 mod refusals;
+mod served;
 
 use bulk_ops::Asks;
 use handles::{Call, CallReply, Command, Limits, Reply, Table};

@@ -1,6 +1,6 @@
 //! What commands on one map would reply, for want of room and memory aside.
 ghost use Rattle.std.specs.Prelude.{◌≡◌, IfErr, IfOk, false, true};
-ghost use Rattle.handles.specs.Views.{command_of, lacks_memory, reply_of};
+ghost use Rattle.handles.specs.Views.{command_of, lacks_memory, leaves_map, reply_of};
 ghost use Rattle.versions.specs.Commands.{needs_no_memory, reply};
 ghost use Rattle.versions.specs.declared.refusal.Refusal.TheVariants.{NoMemory};
 
@@ -31,6 +31,22 @@ impl<K: PathKey + Drop, V: Eq + Drop> Command<K, V> {
             }
             Command::Size => Ok(Reply::Size(version.len())),
             Command::Clear => Ok(Reply::Cleared),
+        }
+    }
+
+    /// Whether the command, where it replies so, leaves the map as it was: it reads alone, or what it was to write hung
+    /// on a condition that did not hold.
+    pub(crate) fn leaves_map(&self, reply: &Reply<V>) -> bool
+        ensures { result ≡ leaves_map (command_of self.now) (reply_of reply.now) }
+    {
+        match self {
+            Command::Get(_) | Command::Size => true,
+            Command::PutIfAbsent(_, _) => matches!(reply, Reply::Old(Some(_))),
+            Command::Replace(_, _) => matches!(reply, Reply::Old(None)),
+            Command::ReplaceIf(_, _, _) | Command::RemoveIf(_, _) => {
+                matches!(reply, Reply::Done(false))
+            }
+            Command::Put(_, _) | Command::Remove(_) | Command::Clear => false,
         }
     }
 }

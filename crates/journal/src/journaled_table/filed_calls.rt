@@ -1,6 +1,5 @@
 //! How calls are made and filed whose answers were foreseen.
 ghost use Rattle.std.specs.Prelude.{◌≡◌, ◌<◌, ◌+◌, ◌^◌, IfOk, IsTrue, OnErr, OnOk, true};
-ghost use Rattle.std.specs.Arc.{arc_value};
 ghost use Rattle.boxcar.specs.Table.{Shows};
 ghost use Rattle.handles.specs.Machine.{freeze, view};
 ghost use Rattle.handles.specs.Views.{Foresees, call_outcome, frozen_outcome, is_counted, machine, request_of, view_outcome};
@@ -10,7 +9,7 @@ ghost use Rattle.journal.specs.Kept.{Files};
 use super::{JournaledTable, set_beside};
 use crate::asked::Asked;
 use crate::caller::Caller;
-use crate::filing::{Event, Opened, entered, lacks_memory, twice};
+use crate::filing::{Event, Opened, entered, lacks_memory};
 use crate::room::{Entries, Room};
 use crate::told::{told_of_call, told_of_freeze, told_of_view};
 use bulk_ops::Asks;
@@ -35,7 +34,7 @@ impl<K: PathKey + Drop, V: Eq + Drop, Q: Asks<K, V> + Drop, J: Room> JournaledTa
         requires foreseen { Foresees (machine K.cmp V.eq Q.target_of Q.answered) self.old.state (request_of call) call_outcome answer }
         requires counted { is_counted answer ≡ true }
         ensures filed { IfOk result (λ e. Files (machine K.cmp V.eq Q.target_of Q.answered) J.table self.old caller.seat (request_of call) (answered call_outcome e.answer) e.token e.place self.new) }
-        ensures shown { IfOk result (λ e. Shows J.table (arc_value e.token)) }
+        ensures shown { IfOk result (λ e. Shows J.table e.token) }
         ensures fits { IfOk result (λ e. e.place + 1 < 2 ^ 64) }
         ensures room { OnOk result (IsTrue caller.has_room) }
         ensures err { OnErr result (self.new ≡ self.old) }
@@ -44,11 +43,8 @@ impl<K: PathKey + Drop, V: Eq + Drop, Q: Asks<K, V> + Drop, J: Room> JournaledTa
         let asked = Asked::Call(call.try_clone::<Q>()?);
         let place = self.journal.len() as u64;
         let journal = &mut self.journal;
-        let (token, mine) = entered(rt, alloc, entries, journal, caller, asked, told)?;
-        if lacks_memory(&self.table.serve(alloc, call)) {
-            return Err(NoMemory);
-        }
-        law_of_foresight::<K, V, Q>();
+        let (token, mine) = entered(rt, entries, journal, caller, asked, told)?;
+        self.table.serve_foreseen(alloc, call, &answer)?;
         law_of_open_jobs::<K, V, Q>();
         self.journal.push_reserved(mine);
         Ok(Event {
@@ -62,7 +58,6 @@ impl<K: PathKey + Drop, V: Eq + Drop, Q: Asks<K, V> + Drop, J: Room> JournaledTa
     pub(super) fn file_view<R: Wait>(
         &mut self,
         rt: &R,
-        alloc: Global,
         entries: &Entries<K, V, Q, Q::Item>,
         caller: Caller,
         handle: u32,
@@ -72,7 +67,7 @@ impl<K: PathKey + Drop, V: Eq + Drop, Q: Asks<K, V> + Drop, J: Room> JournaledTa
         requires foreseen { Foresees (machine K.cmp V.eq Q.target_of Q.answered) self.old.state (view handle) view_outcome answer }
         requires counted { is_counted answer ≡ true }
         ensures filed { IfOk result (λ e. Files (machine K.cmp V.eq Q.target_of Q.answered) J.table self.old caller.seat (view handle) (answered view_outcome e.answer) e.token e.place self.new) }
-        ensures shown { IfOk result (λ e. Shows J.table (arc_value e.token)) }
+        ensures shown { IfOk result (λ e. Shows J.table e.token) }
         ensures fits { IfOk result (λ e. e.place + 1 < 2 ^ 64) }
         ensures room { OnOk result (IsTrue caller.has_room) }
         ensures err { OnErr result (self.new ≡ self.old) }
@@ -81,7 +76,7 @@ impl<K: PathKey + Drop, V: Eq + Drop, Q: Asks<K, V> + Drop, J: Room> JournaledTa
         let asked = Asked::View(handle);
         let place = self.journal.len() as u64;
         let journal = &mut self.journal;
-        let (token, mine) = entered(rt, alloc, entries, journal, caller, asked, told)?;
+        let (token, mine) = entered(rt, entries, journal, caller, asked, told)?;
         if lacks_memory(&self.table.view(handle)) {
             return Err(NoMemory);
         }
@@ -99,7 +94,6 @@ impl<K: PathKey + Drop, V: Eq + Drop, Q: Asks<K, V> + Drop, J: Room> JournaledTa
     pub(super) fn file_freeze<R: Wait>(
         &mut self,
         rt: &R,
-        alloc: Global,
         entries: &Entries<K, V, Q, Q::Item>,
         caller: Caller,
         handle: u32,
@@ -110,7 +104,7 @@ impl<K: PathKey + Drop, V: Eq + Drop, Q: Asks<K, V> + Drop, J: Room> JournaledTa
         requires foreseen { Foresees (machine K.cmp V.eq Q.target_of Q.answered) self.old.state (freeze handle query.value) frozen_outcome answer }
         requires counted { is_counted answer ≡ true }
         ensures filed { IfOk result (λ r. Files (machine K.cmp V.eq Q.target_of Q.answered) J.table self.old caller.seat (freeze handle query.value) (answered frozen_outcome r.0.answer) r.0.token r.0.place self.new) }
-        ensures shown { IfOk result (λ r. Shows J.table (arc_value r.0.token) × (arc_value r.1 ≡ arc_value r.0.token)) }
+        ensures shown { IfOk result (λ r. Shows J.table r.0.token × (r.1 ≡ r.0.token)) }
         ensures fits { IfOk result (λ r. r.0.place + 1 < 2 ^ 64) }
         ensures room { OnOk result (IsTrue caller.has_room) }
         ensures err { OnErr result (self.new ≡ self.old) }
@@ -120,20 +114,20 @@ impl<K: PathKey + Drop, V: Eq + Drop, Q: Asks<K, V> + Drop, J: Room> JournaledTa
         self.freezes.reserve(1)?;
         let place = self.journal.len() as u64;
         let journal = &mut self.journal;
-        let (token, mine) = entered(rt, alloc, entries, journal, caller, asked, told)?;
-        let (opener, again) = twice(&token)?;
+        let (token, mine) = entered(rt, entries, journal, caller, asked, told)?;
         if lacks_memory(&self.table.freeze(handle, query)) {
             return Err(NoMemory);
         }
         law_of_foresight::<K, V, Q>();
         law_of_freezes::<K, V, Q>();
-        set_beside(&mut self.freezes, &answer, opener);
+        set_beside(&mut self.freezes, &answer, token.again());
         self.journal.push_reserved(mine);
+        let opener = token.again();
         let event = Event {
             token,
             place,
             answer,
         };
-        Ok((event, again))
+        Ok((event, opener))
     }
 }

@@ -2,7 +2,7 @@
 ghost use Rattle.std.specs.Prelude.{⊤};
 
 use super::making::make;
-use super::memory::filled;
+use super::memory::{ENTRIES, filled};
 use super::questions::{ALL, Query, Question, query_of};
 use super::requests::{Do, Plain, Request, call_of, open};
 use super::{A, assert_is};
@@ -67,7 +67,7 @@ impl Use<ChosenKey, u64, Query> for Asking {
 fn a_full_journal_is_told_whatever_the_memory(rt: HostRuntime) -> Result<(), Fail> {
     let alloc = rt.alloc();
     let asking = Asking {
-        before: filled(alloc, &[open(1)])?,
+        before: filled(alloc, &[open(1)], ENTRIES)?,
     };
     let out = with(&rt, alloc, 1, LIMITS, asking);
     let (refusals, closed) = out.ok().ok_or("a map is made")?;

@@ -227,9 +227,9 @@ fn get_or_store<J: Room, R: Wait>(
 }
 
 /// The first request, what is put for it, and so many sizes that there are as many entries as there are to be.
-pub fn filled(alloc: Global, first: &[Request]) -> Result<Vec<Request>, AllocError> {
+pub fn filled(alloc: Global, first: &[Request], count: usize) -> Result<Vec<Request>, AllocError> {
     let mut requests = Vec::from_slice(alloc, first)?;
-    for _ in first.len()..ENTRIES {
+    for _ in first.len()..count {
         requests.push(on(1, Do::Size))?;
     }
     Ok(requests)
@@ -256,15 +256,16 @@ fn wanted_of(
     Ok(requests)
 }
 
-// It is refused some times, after which the map and the seat are as before, and then made. The number of entries that
-// it has is told. They are as a plain program has them.
+// Behind so many entries it is refused some times, after which the map and the seat are as before, and then made. The
+// number of entries that it has is told. They are as a plain program has them.
 fn assert_refused<R: AllocGlobal + Abort + Threads + Wait + Sync>(
     rt: &R,
     first: &[Request],
+    count: usize,
     tried: Tried,
 ) -> Result<usize, Fail> {
     let alloc = rt.alloc();
-    let before = filled(alloc, first)?;
+    let before = filled(alloc, first, count)?;
     let script = Wanting {
         before: Vec::from_slice(alloc, &before)?,
         tried,
@@ -297,7 +298,7 @@ fn calls_are_refused_at_each_request(rt: HostRuntime) -> Result<(), Fail> {
         on(1, Do::Remove(A)),
         on(1, Do::Clear),
     ] {
-        let made = assert_refused(&rt, &[open(1), put(A, 4)], Tried::Ask(request))?;
+        let made = assert_refused(&rt, &[open(1), put(A, 4)], ENTRIES, Tried::Ask(request))?;
         assert_is(&rt, made, 1);
     }
     Ok(())
@@ -307,7 +308,7 @@ fn calls_are_refused_at_each_request(rt: HostRuntime) -> Result<(), Fail> {
 fn a_view_and_a_freeze_are_refused_at_each_request(rt: HostRuntime) -> Result<(), Fail> {
     let filter = Question::Filter(EVEN, 5);
     for request in [Request::View(1), Request::Freeze(1, filter)] {
-        let made = assert_refused(&rt, &[open(1), put(A, 4)], Tried::Ask(request))?;
+        let made = assert_refused(&rt, &[open(1), put(A, 4)], ENTRIES, Tried::Ask(request))?;
         assert_is(&rt, made, 1);
     }
     Ok(())
@@ -321,16 +322,18 @@ fn the_ends_of_jobs_are_refused_at_each_request(rt: HostRuntime) -> Result<(), F
         (Question::Filter(EVEN, 5), Request::Abandon(0)),
     ] {
         let first = [open(1), put(A, 4), Request::Freeze(1, question)];
-        let made = assert_refused(&rt, &first, Tried::Ask(end))?;
+        let made = assert_refused(&rt, &first, ENTRIES, Tried::Ask(end))?;
         assert_is(&rt, made, 1);
     }
     Ok(())
 }
 
-// Each time that the value could not be stored, a get stands in the journal.
+// Each time that the value could not be stored, a get stands in the journal. There is room for one entry more: the first
+// get needs no memory, and what stores the value does.
 #[test]
 fn a_value_is_got_or_stored_after_each_refusal(rt: HostRuntime) -> Result<(), Fail> {
-    let made = assert_refused(&rt, &[open(1), put(A, 4)], Tried::GetOrStore(B, 5))?;
+    let first = [open(1), put(A, 4)];
+    let made = assert_refused(&rt, &first, ENTRIES - 1, Tried::GetOrStore(B, 5))?;
     assert!(rt; made > 2, "{made} entries");
     Ok(())
 }

@@ -21,16 +21,16 @@ use test_keys::{ChosenKey, Random, take_all};
 use versions::{Refusal, View};
 
 // Limits that a random run meets.
-const SMALL: Limits = Limits {
+pub(super) const SMALL: Limits = Limits {
     pairs: 2,
     entries: 1_000,
 };
 
 // How many calls a random run makes.
-const CALLS: u32 = 1_400;
+pub(super) const CALLS: u32 = 1_400;
 
 // One of four handles, or, seldom, a number that is none.
-fn drawn_handle(random: &mut Random) -> u32 {
+pub(super) fn drawn_handle(random: &mut Random) -> u32 {
     if random.next(16) == 0 {
         return 1024;
     }
@@ -98,7 +98,7 @@ fn made(alloc: Global, table: &mut Asking, drawn: Drawn) -> Result<Seen, Refusal
 }
 
 // The entries, and of the live handles' versions how many there are, their pairs and the sum of their stamps.
-fn state_of(table: &Asking) -> (u32, u64, u64, u64) {
+pub(super) fn state_of(table: &Asking) -> (u32, u64, u64, u64) {
     let (mut live, mut pairs, mut stamps) = (0u64, 0u64, 0u64);
     for version in table.places().iter().flatten() {
         live = live.wrapping_add(1);
@@ -153,16 +153,27 @@ fn drawn_query(alloc: Global, random: &mut Random) -> Result<Arc<Asked>, Refusal
     count_of(alloc, 1)
 }
 
+// A call that opens or closes a handle, or makes a command on one.
+pub(super) fn drawn_service(
+    alloc: Global,
+    random: &mut Random,
+    handle: u32,
+) -> Result<Call<ChosenKey, i64>, Refusal> {
+    Ok(match random.next(9) {
+        0 => Call::Open(handle),
+        1 => Call::Snapshot(handle, drawn_handle(random)),
+        2 => Call::Drop(handle),
+        _ => Call::On(handle, drawn_command(alloc, random)?),
+    })
+}
+
 fn drawn_call(alloc: Global, random: &mut Random) -> Result<Drawn, Refusal> {
     let handle = drawn_handle(random);
     Ok(match random.next(16) {
-        0 => Drawn::Serve(Call::Open(handle)),
-        1 => Drawn::Serve(Call::Snapshot(handle, drawn_handle(random))),
-        2 => Drawn::Serve(Call::Drop(handle)),
-        3 => Drawn::View(handle),
-        4 => Drawn::Abandon(u64::from(random.next(128))),
-        5 | 6 | 7 | 8 | 9 => Drawn::Freeze(handle, drawn_query(alloc, random)?),
-        _ => Drawn::Serve(Call::On(handle, drawn_command(alloc, random)?)),
+        0 => Drawn::View(handle),
+        1 => Drawn::Abandon(u64::from(random.next(128))),
+        2 | 3 | 4 | 5 | 6 => Drawn::Freeze(handle, drawn_query(alloc, random)?),
+        _ => Drawn::Serve(drawn_service(alloc, random, handle)?),
     })
 }
 

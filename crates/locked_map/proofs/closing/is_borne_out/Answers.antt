@@ -26,8 +26,8 @@ agrees-requires g c =
     let parts : c.loop-token.rest.now ≡ c.in-Some.filed.now ∷ c.in-Some.tail.now = search rules in
     let h : c.loop-token.token-index < length c.deref-token-items.result.now = search rules in
     let all : AllShown g.J.Room.table c.deref-token-items.result.now = search rules in
-    let same : c.deref-then-of-seat.result.now.index ≡ c.deref-token.result.now.index = search rules in (
-      head_shown g.J.Room.table c.args.entries.now c.loop-token.rest.now c.in-Some.tail.now c.in-Some.filed.now c.deref-then-of-seat.result.now c.requires.table parts c.deref-then-of-seat.ensures c.loop-token.invariant.shown,
-      item_shown g.J.Room.table c.args.entries.now c.deref-token-items.result.now c.loop-token.token-index c.token-item.result c.deref-token.result.now c.requires.table c.token-item.is c.deref-token.ensures h all,
+    let same : c.in-Some.filed.now.token.index ≡ c.token-item.result.index = search rules in (
+      head_shown g.J.Room.table c.args.entries.now c.loop-token.rest.now c.in-Some.tail.now c.in-Some.filed.now c.requires.table parts c.loop-token.invariant.shown,
+      item_shown g.J.Room.table c.args.entries.now c.deref-token-items.result.now c.loop-token.token-index c.token-item.result c.requires.table c.token-item.is h all,
       same,
     )

@@ -1,6 +1,5 @@
 use Rattle.std.proofs.Common.{rules, ◌≡◌, ◌++◌, ◌∷◌, [], refl, sym, subst}
 use Rattle.std.specs.Prelude.{IsTrue}
-use Rattle.std.specs.Arc.{arc_value}
 use Rattle.boxcar.specs.Table.{Shows}
 use Rattle.handles.specs.Machine.{Request, Step, abandon, made}
 use Rattle.handles.specs.Views.{machine}
@@ -19,7 +18,7 @@ invariant_of-self-2 g c =
     let yes : IsTrue c.was_opened_by.result = search rules in
     let opened : WasOpenedBy l.table c.args.job c.args.opener.now.value = opened_in _ l.table c.args.job c.args.opener.now.value (c.was_opened_by.ensures yes) (search rules) in
     let step : Step kind l.table r made c.abandon.new.self = abandons kind l.table c.abandon.new.self c.args.job opened.job c.abandon.result opened.stands c.abandon.ensures.memory c.abandon.ensures.step in
-    let shows : Shows g.J.Room.table (arc_value c.in_ok-token.mine) = search rules in
+    let shows : Shows g.J.Room.table c.in_ok-token.mine = search rules in
     let entry : entry_at c.in_ok-token.mine ≡ record { seat = c.args.caller.seat; request = r; outcome = made } = search rules in
     let is : c.push_reserved.new.self.items ≡ l.journal.items ++ c.in_ok-token.mine ∷ [] = search rules in
     let beside : AllOpen g.J.Room.table c.abandon.new.self c.close.new.freezes.items = subst (AllOpen g.J.Room.table c.abandon.new.self) (sym c.close.ensures.others)
@@ -35,7 +34,7 @@ returns-clause-filed g c =
     let yes : IsTrue c.was_opened_by.result = search rules in
     let opened : WasOpenedBy l.table c.args.job c.args.opener.now.value = opened_in _ l.table c.args.job c.args.opener.now.value (c.was_opened_by.ensures yes) (search rules) in
     let step : Step kind l.table r made c.abandon.new.self = abandons kind l.table c.abandon.new.self c.args.job opened.job c.abandon.result opened.stands c.abandon.ensures.memory c.abandon.ensures.step in
-    let shows : Shows g.J.Room.table (arc_value c.in_ok-token.token) = search rules in
+    let shows : Shows g.J.Room.table c.in_ok-token.token = search rules in
     let entry : entry_at c.in_ok-token.token ≡ record { seat = c.args.caller.seat; request = r; outcome = made } = search rules in
     let is : c.push_reserved.new.self.items ≡ l.journal.items ++ c.in_ok-token.mine ∷ [] = search rules in
     files_event kind g.J.Room.table l.table c.abandon.new.self l.journal.items c.push_reserved.new.self.items c.in_ok-token.token c.in_ok-token.mine c.args.caller.seat r made _ c.args.self.now

@@ -1,42 +1,43 @@
-use Rattle.std.proofs.Common.{rules, ◌≡◌, ◌++◌, ◌∷◌, [], false, sym, subst}
-use Rattle.std.specs.Arc.{arc_value}
+use Rattle.std.proofs.Common.{rules, ◌≡◌, ◌++◌, ◌∷◌, [], sym, subst}
 use Rattle.boxcar.specs.Table.{Shows}
 use Rattle.bulk_ops.specs.Answers as plain
 use Rattle.handles.specs.Machine.{Request, Step}
-use Rattle.handles.specs.Views.{Foresees, call_outcome, machine, request_of, lacks_memory}
+use Rattle.handles.specs.Views.{Foresees, call_outcome, machine, request_of}
 use Rattle.journal.specs.Answers.{answered}
 use Rattle.journal.specs.Tokens.{entry_at}
-use Rattle.journal.proofs.Foresight.{step_as_foreseen, filed_as_counted, settled_call, call_is_filed, call_opens_no_job, call_names_no_job}
+use Rattle.journal.proofs.Foresight.{outcome_answered, filed_as_counted, call_is_filed, call_opens_no_job, call_names_no_job}
 use Rattle.journal.proofs.Runs.{kept_more, open_still}
 use Rattle.journal.proofs.Events.{files_event}
 use Rattle.journal.proofs.journaled_table.JournaledTable.file_call.Goals as goal
+
+pub serve_foreseen-requires-clause-foreseen : goal.serve_foreseen-requires-clause-foreseen
+serve_foreseen-requires-clause-foreseen g c =
+    let kind = machine g.K.Ord.cmp g.V.PartialEq.eq g.Q.Asks.target_of g.Q.Asks.answered in
+    let r : Request g.row.K.Denot g.row.V.Denot g.row.Q.Denot = request_of c.args.call in
+    subst (λ x. Foresees kind x.state r call_outcome c.args.answer) (sym c.self.view_is) c.requires.foreseen
 
 pub invariant_of-self-2 : goal.invariant_of-self-2
 invariant_of-self-2 g c =
     let kind = machine g.K.Ord.cmp g.V.PartialEq.eq g.Q.Asks.target_of g.Q.Asks.answered in
     let l = c.self.inside in
     let r : Request g.row.K.Denot g.row.V.Denot g.row.Q.Denot = request_of c.args.call in
-    let sees : Foresees kind l.table r call_outcome c.args.answer = subst (λ x. Foresees kind x.state r call_outcome c.args.answer) (sym c.self.view_is) c.requires.foreseen in
-    let has : lacks_memory c.serve.result ≡ false = search rules in
-    let step : Step kind l.table r (answered call_outcome c.args.answer) c.serve.new.self = step_as_foreseen kind l.table c.serve.new.self r call_outcome c.args.answer c.serve.result c.law_of_foresight.ensures (settled_call _ c.args.call) sees c.requires.counted c.serve.ensures.step has in
-    let shows : Shows g.J.Room.table (arc_value c.in_ok-token.mine) = search rules in
+    let step : Step kind l.table r (answered call_outcome c.args.answer) c.serve_foreseen.new.self = subst (λ o. Step kind l.table r o c.serve_foreseen.new.self) (outcome_answered c.args.answer) (search rules) in
+    let shows : Shows g.J.Room.table c.in_ok-token.mine = search rules in
     let entry : entry_at c.in_ok-token.mine ≡ record { seat = c.args.caller.seat; request = r; outcome = answered call_outcome c.args.answer } = search rules in
     let is : c.push_reserved.new.self.items ≡ l.journal.items ++ c.in_ok-token.mine ∷ [] = search rules in
-    let jobs = c.law_of_open_jobs.ensures l.table c.serve.new.self r (answered call_outcome c.args.answer) (call_opens_no_job _ c.args.call) (call_names_no_job _ c.args.call) step in
-    kept_more kind g.J.Room.table l.table c.serve.new.self l.journal.items c.push_reserved.new.self.items l.freezes.items l.freezes.items c.in_ok-token.mine c.args.caller.seat r (answered call_outcome c.args.answer)
+    let jobs = c.law_of_open_jobs.ensures l.table c.serve_foreseen.new.self r (answered call_outcome c.args.answer) (call_opens_no_job _ c.args.call) (call_names_no_job _ c.args.call) step in
+    kept_more kind g.J.Room.table l.table c.serve_foreseen.new.self l.journal.items c.push_reserved.new.self.items l.freezes.items l.freezes.items c.in_ok-token.mine c.args.caller.seat r (answered call_outcome c.args.answer)
     is c.self.invariant shows entry (filed_as_counted kind call_outcome c.args.answer (call_is_filed g.row.K.Denot g.row.V.Denot (plain.Told g.row.K.Denot g.row.V.Denot g.row.Q-Item.Denot)) c.requires.counted) step
-    (open_still g.J.Room.table l.table c.serve.new.self l.freezes.items jobs c.self.invariant.beside)
+    (open_still g.J.Room.table l.table c.serve_foreseen.new.self l.freezes.items jobs c.self.invariant.beside)
 
 pub returns-clause-filed : goal.returns-clause-filed
 returns-clause-filed g c =
     let kind = machine g.K.Ord.cmp g.V.PartialEq.eq g.Q.Asks.target_of g.Q.Asks.answered in
     let l = c.self.inside in
     let r : Request g.row.K.Denot g.row.V.Denot g.row.Q.Denot = request_of c.args.call in
-    let sees : Foresees kind l.table r call_outcome c.args.answer = subst (λ x. Foresees kind x.state r call_outcome c.args.answer) (sym c.self.view_is) c.requires.foreseen in
-    let has : lacks_memory c.serve.result ≡ false = search rules in
-    let step : Step kind l.table r (answered call_outcome c.args.answer) c.serve.new.self = step_as_foreseen kind l.table c.serve.new.self r call_outcome c.args.answer c.serve.result c.law_of_foresight.ensures (settled_call _ c.args.call) sees c.requires.counted c.serve.ensures.step has in
-    let shows : Shows g.J.Room.table (arc_value c.in_ok-token.token) = search rules in
+    let step : Step kind l.table r (answered call_outcome c.args.answer) c.serve_foreseen.new.self = subst (λ o. Step kind l.table r o c.serve_foreseen.new.self) (outcome_answered c.args.answer) (search rules) in
+    let shows : Shows g.J.Room.table c.in_ok-token.token = search rules in
     let entry : entry_at c.in_ok-token.token ≡ record { seat = c.args.caller.seat; request = r; outcome = answered call_outcome c.args.answer } = search rules in
     let is : c.push_reserved.new.self.items ≡ l.journal.items ++ c.in_ok-token.mine ∷ [] = search rules in
-    files_event kind g.J.Room.table l.table c.serve.new.self l.journal.items c.push_reserved.new.self.items c.in_ok-token.token c.in_ok-token.mine c.args.caller.seat r (answered call_outcome c.args.answer) _ c.args.self.now
+    files_event kind g.J.Room.table l.table c.serve_foreseen.new.self l.journal.items c.push_reserved.new.self.items c.in_ok-token.token c.in_ok-token.mine c.args.caller.seat r (answered call_outcome c.args.answer) _ c.args.self.now
     c.self.view_is is c.in_ok-token.ensures.same shows entry (search rules) (filed_as_counted kind call_outcome c.args.answer (call_is_filed g.row.K.Denot g.row.V.Denot (plain.Told g.row.K.Denot g.row.V.Denot g.row.Q-Item.Denot)) c.requires.counted) step

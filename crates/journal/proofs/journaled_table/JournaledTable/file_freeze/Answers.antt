@@ -18,10 +18,10 @@ invariant_of-self-2 g c =
     let sees : Foresees kind l.table r frozen_outcome c.args.answer = subst (λ x. Foresees kind x.state r frozen_outcome c.args.answer) (sym c.self.view_is) c.requires.foreseen in
     let has : lacks_memory c.freeze.result ≡ false = search rules in
     let step : Step kind l.table r (answered frozen_outcome c.args.answer) c.freeze.new.self = step_as_foreseen kind l.table c.freeze.new.self r frozen_outcome c.args.answer c.freeze.result c.law_of_foresight.ensures refl sees c.requires.counted c.freeze.ensures.step has in
-    let shows : Shows g.J.Room.table (arc_value c.in_ok-token.mine) = search rules in
+    let shows : Shows g.J.Room.table c.in_ok-token.mine = search rules in
     let entry : entry_at c.in_ok-token.mine ≡ record { seat = c.args.caller.seat; request = r; outcome = answered frozen_outcome c.args.answer } = search rules in
     let is : c.push_reserved.new.self.items ≡ l.journal.items ++ c.in_ok-token.mine ∷ [] = search rules in
-    let beside = frozen_after kind g.J.Room.table l.table c.freeze.new.self c.args.handle c.args.caller.seat (arc_value c.args.query) c.args.answer l.freezes.items _ c.set_beside.new.freezes.items (λ n. record { number = n; token = c.in_ok-opener.opener })
+    let beside = frozen_after kind g.J.Room.table l.table c.freeze.new.self c.args.handle c.args.caller.seat (arc_value c.args.query) c.args.answer l.freezes.items _ c.set_beside.new.freezes.items (λ n. record { number = n; token = c.again.result })
     c.law_of_freezes.ensures (λ n. refl) (λ n. search rules) (λ n. search rules) step c.set_beside.ensures (search rules) c.self.invariant.beside in
     kept_more kind g.J.Room.table l.table c.freeze.new.self l.journal.items c.push_reserved.new.self.items l.freezes.items c.set_beside.new.freezes.items c.in_ok-token.mine c.args.caller.seat r (answered frozen_outcome c.args.answer)
     is c.self.invariant shows entry (filed_as_counted kind frozen_outcome c.args.answer (λ x. refl) c.requires.counted) step beside
@@ -34,7 +34,7 @@ returns-clause-filed g c =
     let sees : Foresees kind l.table r frozen_outcome c.args.answer = subst (λ x. Foresees kind x.state r frozen_outcome c.args.answer) (sym c.self.view_is) c.requires.foreseen in
     let has : lacks_memory c.freeze.result ≡ false = search rules in
     let step : Step kind l.table r (answered frozen_outcome c.args.answer) c.freeze.new.self = step_as_foreseen kind l.table c.freeze.new.self r frozen_outcome c.args.answer c.freeze.result c.law_of_foresight.ensures refl sees c.requires.counted c.freeze.ensures.step has in
-    let shows : Shows g.J.Room.table (arc_value c.in_ok-token.token) = search rules in
+    let shows : Shows g.J.Room.table c.in_ok-token.token = search rules in
     let entry : entry_at c.in_ok-token.token ≡ record { seat = c.args.caller.seat; request = r; outcome = answered frozen_outcome c.args.answer } = search rules in
     let is : c.push_reserved.new.self.items ≡ l.journal.items ++ c.in_ok-token.mine ∷ [] = search rules in
     files_event kind g.J.Room.table l.table c.freeze.new.self l.journal.items c.push_reserved.new.self.items c.in_ok-token.token c.in_ok-token.mine c.args.caller.seat r (answered frozen_outcome c.args.answer) _ c.args.self.now

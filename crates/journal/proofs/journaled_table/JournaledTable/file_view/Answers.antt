@@ -1,5 +1,4 @@
 use Rattle.std.proofs.Common.{rules, ◌≡◌, ◌++◌, ◌∷◌, [], false, refl, sym, subst}
-use Rattle.std.specs.Arc.{arc_value}
 use Rattle.boxcar.specs.Table.{Shows}
 use Rattle.handles.specs.Machine.{Request, Step, view}
 use Rattle.handles.specs.Views.{Foresees, machine, view_outcome, lacks_memory}
@@ -18,7 +17,7 @@ invariant_of-self-2 g c =
     let sees : Foresees kind l.table r view_outcome c.args.answer = subst (λ x. Foresees kind x.state r view_outcome c.args.answer) (sym c.self.view_is) c.requires.foreseen in
     let has : lacks_memory c.view.result ≡ false = search rules in
     let step : Step kind l.table r (answered view_outcome c.args.answer) c.view.new.self = step_as_foreseen kind l.table c.view.new.self r view_outcome c.args.answer c.view.result c.law_of_foresight.ensures refl sees c.requires.counted c.view.ensures.step has in
-    let shows : Shows g.J.Room.table (arc_value c.in_ok-token.mine) = search rules in
+    let shows : Shows g.J.Room.table c.in_ok-token.mine = search rules in
     let entry : entry_at c.in_ok-token.mine ≡ record { seat = c.args.caller.seat; request = r; outcome = answered view_outcome c.args.answer } = search rules in
     let is : c.push_reserved.new.self.items ≡ l.journal.items ++ c.in_ok-token.mine ∷ [] = search rules in
     let jobs = c.law_of_open_jobs.ensures l.table c.view.new.self r (answered view_outcome c.args.answer) refl refl step in
@@ -34,7 +33,7 @@ returns-clause-filed g c =
     let sees : Foresees kind l.table r view_outcome c.args.answer = subst (λ x. Foresees kind x.state r view_outcome c.args.answer) (sym c.self.view_is) c.requires.foreseen in
     let has : lacks_memory c.view.result ≡ false = search rules in
     let step : Step kind l.table r (answered view_outcome c.args.answer) c.view.new.self = step_as_foreseen kind l.table c.view.new.self r view_outcome c.args.answer c.view.result c.law_of_foresight.ensures refl sees c.requires.counted c.view.ensures.step has in
-    let shows : Shows g.J.Room.table (arc_value c.in_ok-token.token) = search rules in
+    let shows : Shows g.J.Room.table c.in_ok-token.token = search rules in
     let entry : entry_at c.in_ok-token.token ≡ record { seat = c.args.caller.seat; request = r; outcome = answered view_outcome c.args.answer } = search rules in
     let is : c.push_reserved.new.self.items ≡ l.journal.items ++ c.in_ok-token.mine ∷ [] = search rules in
     files_event kind g.J.Room.table l.table c.view.new.self l.journal.items c.push_reserved.new.self.items c.in_ok-token.token c.in_ok-token.mine c.args.caller.seat r (answered view_outcome c.args.answer) _ c.args.self.now

@@ -1,6 +1,5 @@
 use Rattle.std.proofs.Common.{rules, ◌≡◌, ◌++◌, ◌∷◌, [], refl, ◌∙◌, ap, sym, subst}
 use Rattle.std.specs.Prelude.{IsTrue}
-use Rattle.std.specs.Arc.{arc_value}
 use Rattle.boxcar.specs.Table.{Shows}
 use Rattle.bulk_ops.specs.Answers as plain
 use Rattle.bulk_ops.specs.Told.{told_of}
@@ -35,7 +34,7 @@ invariant_of-self-2 g c =
     let yes : IsTrue c.was_opened_by.result = search rules in
     let opened : WasOpenedBy l.table c.args.job c.args.opener.now.value = opened_in _ l.table c.args.job c.args.opener.now.value (c.was_opened_by.ensures yes) (search rules) in
     let step : Step kind l.table r (finished p) c.finish.new.self = finishes kind l.table c.finish.new.self c.args.job opened.job p c.finish.result opened.stands c.finish.ensures.memory c.finish.ensures.told c.finish.ensures.step in
-    let shows : Shows g.J.Room.table (arc_value c.in-Ok.mine) = search rules in
+    let shows : Shows g.J.Room.table c.in-Ok.mine = search rules in
     let entry : entry_at c.in-Ok.mine ≡ record { seat = c.args.caller.seat; request = r; outcome = finished p } = search rules in
     let is : c.push_reserved.new.self.items ≡ l.journal.items ++ c.in-Ok.mine ∷ [] = search rules in
     let beside : AllOpen g.J.Room.table c.finish.new.self c.close.new.freezes.items = subst (AllOpen g.J.Room.table c.finish.new.self) (sym c.close.ensures.others)
@@ -51,7 +50,7 @@ returns-clause-filed g c =
     let t = told_of c.in-Ok-finish.answer in
     let filed : plain.Told g.row.K.Denot g.row.V.Denot g.row.Q-Item.Denot → Entered g.row.K.Denot g.row.V.Denot g.row.Q.Denot (plain.Told g.row.K.Denot g.row.V.Denot g.row.Q-Item.Denot) = λ x. record { seat = c.args.caller.seat; request = r; outcome = finished x } in
     let step : Step kind l.table r (finished t) c.finish.new.self = c.in-Ok-finish.ensures.step in
-    let shows : Shows g.J.Room.table (arc_value c.in-Ok.token) = search rules in
+    let shows : Shows g.J.Room.table c.in-Ok.token = search rules in
     let entry : entry_at c.in-Ok.token ≡ filed t = c.in-Ok.ensures.entry ∙ ap filed (sym c.in-Ok-finish.ensures.told) in
     let is : c.push_reserved.new.self.items ≡ l.journal.items ++ c.in-Ok.mine ∷ [] = search rules in
     files_event kind g.J.Room.table l.table c.finish.new.self l.journal.items c.push_reserved.new.self.items c.in-Ok.token c.in-Ok.mine c.args.caller.seat r (finished t) _ c.args.self.now

@@ -1,4 +1,4 @@
-use Rattle.std.proofs.Common.{rules, ◌≡◌, ap, sym, ◌∙◌, subst}
+use Rattle.std.proofs.Common.{rules, ◌≡◌, sym, subst}
 use Rattle.std.specs.Prelude.{Contains}
 use Rattle.boxcar.specs.Table.{Shows}
 use Rattle.journal.specs.Kept.{WasOpenedBy}
@@ -10,8 +10,8 @@ pub agrees-requires : goal.agrees-requires
 agrees-requires g c =
     let f = c.in-Some.frozen.now in
     let beside = found_open g.J.Room.table c.self.inside.table c.self.inside.freezes.items f c.self.invariant.beside (subst (λ fs. Contains fs f) c.deref.ensures.value c.in-Some.ensures.there) in
-    let same : c.deref-token.result.now.index ≡ c.args.opener.now.index = search rules in (
-      shown_open g.J.Room.table c.args.entries.now c.self.inside.table f c.deref-token.result.now c.requires.table c.deref-token.ensures beside,
+    let same : f.token.index ≡ c.args.opener.now.index = search rules in (
+      shown_open g.J.Room.table c.args.entries.now c.self.inside.table f c.requires.table beside,
       subst (λ t. Shows t c.args.opener.now) (sym c.requires.table) c.requires.shown,
       same,
     )
@@ -20,5 +20,4 @@ pub returns : goal.returns
 returns g c holds =
     let f = c.in-Some.frozen.now in
     let beside = found_open g.J.Room.table c.self.inside.table c.self.inside.freezes.items f c.self.invariant.beside (subst (λ fs. Contains fs f) c.deref.ensures.value c.in-Some.ensures.there) in
-    let same : entry_at f.token ≡ c.args.opener.now.value = ap (λ w. w.value) (sym c.deref-token.ensures) ∙ c.agrees.ensures in
-    subst (λ s. WasOpenedBy s.state c.args.job c.args.opener.now.value) c.self.view_is (opened_as c.self.inside.table f.number c.args.job (entry_at f.token) c.args.opener.now.value c.in-Some.ensures.number same beside.opener)
+    subst (λ s. WasOpenedBy s.state c.args.job c.args.opener.now.value) c.self.view_is (opened_as c.self.inside.table f.number c.args.job (entry_at f.token) c.args.opener.now.value c.in-Some.ensures.number c.agrees.ensures beside.opener)

@@ -1,11 +1,21 @@
 use Rattle.std.proofs.Common.{rules, ◌≡◌, ◌++◌, ◌∷◌, [], Some, refl, subst}
+use Rattle.boxcar.specs.Table.{Shows}
 use Rattle.bulk_ops.specs.Answers as plain
 use Rattle.handles.specs.Machine.{Request, abandon, made, refused}
 use Rattle.handles.specs.Views.{machine}
 use Rattle.locked_map.specs.Seats.{Adds, Seated, placed_all}
 use Rattle.locked_map.specs.declared.filed.Filed.{Filed}
-use Rattle.locked_map.proofs.Adding.{ended_adds, event_adds}
+use Rattle.locked_map.proofs.Adding.{all_of_more, ended_adds, event_adds}
 use Rattle.locked_map.proofs.shared_map.SharedMap.abandon.Goals as goal
+
+pub invariant_of-seat : goal.invariant_of-seat
+invariant_of-seat g c =
+    let s = c.seat.inside in
+    let event = c.in-Ok.event in
+    let f : Filed g.row.K.Denot g.row.V.Denot g.row.Q.Denot g.row.Q-Item.Denot = record { token = event.token; place = event.place; floor = s.floor } in
+    let is : c.file.new.list.items ≡ s.list.items ++ f ∷ [] = search rules in
+    let shows : Shows g.J.Room.table event.token = search rules in
+    all_of_more g.J.Room.table s.list.items c.file.new.list.items f is c.seat.invariant shows
 
 pub returns-in-Ok-clause-adds : goal.returns-in-Ok-clause-adds
 returns-in-Ok-clause-adds g c =

@@ -1,15 +1,13 @@
-use Rattle.std.proofs.Common.{rules, ◌≡◌, ◌+◌, ◌++◌, ◌∷◌, [], refl, ap, subst, sym}
+use Rattle.std.proofs.Common.{rules, ◌≡◌, ◌+◌, ◌++◌, ◌∷◌, [], refl, ap, subst}
 use Rattle.bulk_ops.specs.Answers as plain
 use Rattle.handles.specs.Machine.{Request, freeze}
 use Rattle.handles.specs.Views.{machine, frozen_outcome}
 use Rattle.journal.specs.Answers.{answered}
-use Rattle.std.specs.Arc.{arc_value}
-use Rattle.std.proofs.lemmas.List.Elements.{All-push}
 use Rattle.boxcar.specs.Table.{Shows}
-use Rattle.locked_map.specs.Seats.{Adds, AllOf, Seated, placed_all}
+use Rattle.locked_map.specs.Seats.{Adds, Seated, placed_all}
 use Rattle.locked_map.specs.Tickets.{ticket_outcome}
 use Rattle.locked_map.specs.declared.filed.Filed.{Filed}
-use Rattle.locked_map.proofs.Adding.{event_adds}
+use Rattle.locked_map.proofs.Adding.{all_of_more, event_adds}
 use Rattle.locked_map.proofs.shared_map.SharedMap.freeze.Goals.{in-Ok-answer, in-Err-answer}
 use Rattle.locked_map.proofs.shared_map.SharedMap.freeze.Goals as goal
 
@@ -19,8 +17,8 @@ invariant_of-seat g c =
     let event = c.in-Ok.event in
     let f : Filed g.row.K.Denot g.row.V.Denot g.row.Q.Denot g.row.Q-Item.Denot = record { token = event.token; place = event.place; floor = s.floor } in
     let is : c.file-answer.new.list.items ≡ s.list.items ++ f ∷ [] = search rules in
-    let shows : Shows g.J.Room.table (arc_value event.token) = search rules in
-    subst (AllOf g.J.Room.table) (sym is) (All-push (λ (x : Filed g.row.K.Denot g.row.V.Denot g.row.Q.Denot g.row.Q-Item.Denot). Shows g.J.Room.table (arc_value x.token)) s.list.items f c.seat.invariant shows)
+    let shows : Shows g.J.Room.table event.token = search rules in
+    all_of_more g.J.Room.table s.list.items c.file-answer.new.list.items f is c.seat.invariant shows
 
 pub returns-after-answer-clause-adds : goal.returns-after-answer-clause-adds
 returns-after-answer-clause-adds g c =

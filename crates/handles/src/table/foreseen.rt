@@ -1,0 +1,68 @@
+//! Calls that are made once their answers were foreseen.
+ghost use Rattle.std.specs.Prelude.{◌≡◌, OnErr, OnOk, false, true};
+ghost use Rattle.handles.specs.Machine.{Step};
+ghost use Rattle.handles.specs.Views.{Foresees, call_outcome, is_counted, leaves_maps, machine, outcome_of, request_of};
+
+use super::{Table, lacks_memory};
+use crate::call::Call;
+use crate::call_reply::CallReply;
+use bulk_ops::Asks;
+use hash_path::PathKey;
+use std::alloc::Global;
+use versions::{NoMemory, Refusal};
+
+impl<K: PathKey + Drop, V: Eq + Drop, Q: Asks<K, V> + Drop> Table<K, V, Q> {
+    /// Makes the call as `serve` does, where this answer was foreseen: it is the outcome of the step. A call that is
+    /// answered so and leaves all maps is counted alone, with no second look at a map, and is never `NoMemory`.
+    pub fn serve_foreseen(
+        &mut self,
+        alloc: Global,
+        call: Call<K, V>,
+        answer: &Result<CallReply<V>, Refusal>,
+    ) -> Result<(), NoMemory>
+        requires foreseen { Foresees (machine K.cmp V.eq Q.target_of Q.answered) self.old (request_of call) call_outcome answer.now }
+        requires counted { is_counted answer.now ≡ true }
+        ensures step { OnOk result (Step (machine K.cmp V.eq Q.target_of Q.answered) self.old (request_of call) (outcome_of answer.now) self.new) }
+        ensures memory { OnErr result (leaves_maps call answer.now ≡ false) }
+        ensures err { OnErr result (self.new ≡ self.old) }
+    {
+        if leaves_maps(&call, answer) {
+            self.count(&call, answer);
+            return Ok(());
+        }
+        if lacks_memory(&self.serve(alloc, call)) {
+            return Err(NoMemory);
+        }
+        Ok(())
+    }
+
+    // Counts the entry of a call that leaves all maps.
+    fn count(&mut self, call: &Call<K, V>, answer: &Result<CallReply<V>, Refusal>)
+        requires foreseen { Foresees (machine K.cmp V.eq Q.target_of Q.answered) self.old (request_of call.now) call_outcome answer.now }
+        requires counted { is_counted answer.now ≡ true }
+        requires leaves { leaves_maps call.now answer.now ≡ true }
+        ensures { Step (machine K.cmp V.eq Q.target_of Q.answered) self.old (request_of call.now) (outcome_of answer.now) self.new }
+    {
+        if let Call::On(handle, _) = call {
+            self.places.law_of_same_map(*handle);
+        }
+        self.entries += 1;
+    }
+}
+
+// Whether a call that is answered so leaves all maps as they were.
+fn leaves_maps<K: PathKey + Drop, V: Eq + Drop>(
+    call: &Call<K, V>,
+    answer: &Result<CallReply<V>, Refusal>,
+) -> bool
+    ensures { result ≡ leaves_maps call.now answer.now }
+{
+    match answer {
+        Err(_) => true,
+        Ok(CallReply::Unit) => false,
+        Ok(CallReply::Reply(reply)) => match call {
+            Call::On(_, command) => command.leaves_map(reply),
+            _ => false,
+        },
+    }
+}
