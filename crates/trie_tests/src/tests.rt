@@ -11,6 +11,7 @@ mod stamps;
 use crate::held::Held;
 use crate::outline::Line;
 use std::alloc::Global;
+use std::process::Abort;
 use std::sync::Arc;
 use test_keys::ChosenKey;
 use trie_node::{NoMemory, Stamp};
@@ -56,6 +57,11 @@ fn trie_of(alloc: Global, pairs: &[(ChosenKey, u32)]) -> Result<Trie, NoMemory> 
         trie = put(alloc, &trie, *at, *value, 1)?;
     }
     Ok(trie)
+}
+
+/// The key has this value, or none.
+fn assert_value(rt: &impl Abort, trie: &Trie, at: ChosenKey, want: Option<u32>) {
+    assert_eq!(rt; trie.find(&at).map(|v| **v), want);
 }
 
 /// A branch in an outline.

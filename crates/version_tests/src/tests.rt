@@ -14,6 +14,7 @@ use hash_path::PathKey;
 use keys::ByteText;
 use std::alloc::Global;
 use std::fmt::Debug;
+use std::panic::Expect;
 use std::process::Abort;
 use std::sync::Arc;
 use std::test::Fail;
@@ -113,7 +114,7 @@ fn remove_text_where<C: Condition<i64>>(
     version: &mut Texts,
     at: &str,
     condition: &C,
-) -> Result<(Option<i64>, bool), NoMemory> {
+) -> Result<(Option<i64>, bool), Refusal> {
     let change = version.remove_where(alloc, &*text(alloc, at)?, condition)?;
     Ok((plainly(change.previous), change.done))
 }
@@ -128,10 +129,10 @@ fn fork<K: PathKey + Drop>(
     rt: &impl Abort,
     version: &mut Version<K, i64>,
     source: &mut Source,
-) -> Result<Version<K, i64>, NoMemory> {
+) -> Version<K, i64> {
     assert!(rt; version.stamp().0 <= source.issued());
     assert!(rt; source.issued() < 1_000_000);
-    version.fork(source)
+    version.fork(source).expect(rt, "no fork")
 }
 
 // A version that maps a to 1, b to 2 and c to 3.
@@ -202,15 +203,8 @@ fn assert_value(rt: &impl Abort, version: &Chosen, key: ChosenKey, want: Option<
 }
 
 // The value of the text, or none.
-fn assert_text(
-    rt: &impl Abort,
-    alloc: Global,
-    version: &Texts,
-    at: &str,
-    want: Option<i64>,
-) -> Result<(), NoMemory> {
-    assert_is(rt, at_text(alloc, version, at)?, want);
-    Ok(())
+fn assert_text(rt: &impl Abort, alloc: Global, version: &Texts, at: &str, want: Option<i64>) {
+    assert_is(rt, at_text(alloc, version, at), Ok(want));
 }
 
 // What a put of the text is answered.
@@ -231,14 +225,8 @@ fn assert_removal(
     version: &mut Texts,
     at: &str,
     want: Option<i64>,
-) -> Result<(), NoMemory> {
-    assert_is(rt, remove_text(alloc, version, at)?, want);
-    Ok(())
-}
-
-// The value before, and whether the write was done.
-fn assert_change(rt: &impl Abort, seen: (Option<i64>, bool), want: (Option<i64>, bool)) {
-    assert_is(rt, seen, want);
+) {
+    assert_is(rt, remove_text(alloc, version, at), Ok(want));
 }
 
 #[test]
@@ -249,7 +237,7 @@ fn a_new_map_is_empty(rt: HostRuntime) -> Result<(), Fail> {
     assert_is(&rt, (version.limit(), version.stamp()), (2, Stamp(7)));
     assert_is(&rt, version.own_nodes(), 1);
     assert_is(&rt, trie_node::size(version.root()), 0);
-    assert_text(&rt, alloc, &version, "a", None)?;
+    assert_text(&rt, alloc, &version, "a", None);
     Ok(())
 }
 
@@ -289,8 +277,8 @@ fn a_third_key_is_full_and_a_key_that_is_there_never_is(rt: HostRuntime) -> Resu
         assert_is(&rt, (value, given), (value, answer));
     }
     assert_is(&rt, len(&version), 2);
-    assert_text(&rt, alloc, &version, "c", None)?;
-    assert_removal(&rt, alloc, &mut version, "b", Some(20))?;
+    assert_text(&rt, alloc, &version, "c", None);
+    assert_removal(&rt, alloc, &mut version, "b", Some(20));
     assert_put(&rt, alloc, &mut version, ("c", 30), Ok(None));
     Ok(())
 }
@@ -307,41 +295,58 @@ fn with_one(alloc: Global) -> Result<(Texts, Source), Refusal> {
 fn a_put_shows_in_no_fork(rt: HostRuntime) -> Result<(), Fail> {
     let alloc = rt.alloc();
     let (mut first, mut source) = with_one(alloc)?;
-    let mut second = fork(&rt, &mut first, &mut source)?;
+    let mut second = fork(&rt, &mut first, &mut source);
     assert_put(&rt, alloc, &mut first, ("a", 9), Ok(Some(1)));
-    assert_text(&rt, alloc, &second, "a", Some(1))?;
-    let third = fork(&rt, &mut second, &mut source)?;
+    assert_text(&rt, alloc, &second, "a", Some(1));
+    let third = fork(&rt, &mut second, &mut source);
     assert_put(&rt, alloc, &mut second, ("b", 2), Ok(None));
-    assert_text(&rt, alloc, &third, "a", Some(1))?;
-    assert_text(&rt, alloc, &third, "b", None)?;
-    assert_text(&rt, alloc, &first, "a", Some(9))?;
+    assert_text(&rt, alloc, &third, "a", Some(1));
+    assert_text(&rt, alloc, &third, "b", None);
+    assert_text(&rt, alloc, &first, "a", Some(9));
     assert_is(&rt, (third.limit(), source.issued()), (10, 5));
     Ok(())
 }
 
+// The value before, and whether the write was done.
+fn assert_change(
+    rt: &impl Abort,
+    seen: Result<(Option<i64>, bool), Refusal>,
+    want: (Option<i64>, bool),
+) {
+    assert_is(rt, seen, Ok(want));
+}
+
 #[test]
-fn a_write_under_a_condition_tells_whether_it_was_done(rt: HostRuntime) -> Result<(), Fail> {
+fn a_put_under_a_condition_tells_whether_it_was_done(rt: HostRuntime) -> Result<(), Fail> {
     let alloc = rt.alloc();
     let mut map = empty(&rt, alloc, 1)?;
-    let told = put_text_where(alloc, &mut map, "a", 5, &IfPresent)?;
+    let told = put_text_where(alloc, &mut map, "a", 5, &IfPresent);
     assert_change(&rt, told, (None, false));
-    let told = put_text_where(alloc, &mut map, "a", 5, &IfAbsent)?;
+    let told = put_text_where(alloc, &mut map, "a", 5, &IfAbsent);
     assert_change(&rt, told, (None, true));
-    let told = put_text_where(alloc, &mut map, "a", 6, &IfAbsent)?;
+    let told = put_text_where(alloc, &mut map, "a", 6, &IfAbsent);
     assert_change(&rt, told, (Some(5), false));
-    let told = put_text_where(alloc, &mut map, "a", 6, &IfEqual(&6))?;
+    let told = put_text_where(alloc, &mut map, "a", 6, &IfEqual(&6));
     assert_change(&rt, told, (Some(5), false));
-    let told = put_text_where(alloc, &mut map, "a", 6, &IfEqual(&5))?;
+    let told = put_text_where(alloc, &mut map, "a", 6, &IfEqual(&5));
     assert_change(&rt, told, (Some(5), true));
     let told = put_text_where(alloc, &mut map, "b", 6, &IfAbsent);
     assert_is(&rt, told, Err(Refusal::Full));
-    let told = put_text_where(alloc, &mut map, "b", 6, &IfPresent)?;
+    let told = put_text_where(alloc, &mut map, "b", 6, &IfPresent);
     assert_change(&rt, told, (None, false));
-    let told = remove_text_where(alloc, &mut map, "a", &IfEqual(&5))?;
-    assert_change(&rt, told, (Some(6), false));
-    let told = remove_text_where(alloc, &mut map, "a", &IfEqual(&6))?;
-    assert_change(&rt, told, (Some(6), true));
-    let told = remove_text_where(alloc, &mut map, "a", &IfPresent)?;
+    assert_text(&rt, alloc, &map, "a", Some(6));
+    Ok(())
+}
+
+#[test]
+fn a_removal_under_a_condition_tells_whether_it_was_done(rt: HostRuntime) -> Result<(), Fail> {
+    let alloc = rt.alloc();
+    let mut map = of_three(alloc, Stamp(1))?;
+    let told = remove_text_where(alloc, &mut map, "a", &IfEqual(&5));
+    assert_change(&rt, told, (Some(1), false));
+    let told = remove_text_where(alloc, &mut map, "a", &IfEqual(&1));
+    assert_change(&rt, told, (Some(1), true));
+    let told = remove_text_where(alloc, &mut map, "a", &IfPresent);
     assert_change(&rt, told, (None, false));
     Ok(())
 }

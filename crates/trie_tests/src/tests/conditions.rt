@@ -1,7 +1,11 @@
-use super::{key, trie_of};
+use super::{Trie, key, trie_of};
+use std::alloc::Global;
+use std::panic::Expect;
+use std::process::Abort;
 use std::sync::Arc;
 use std::test::Fail;
-use trie_node::{Always, Condition, IfAbsent, IfEqual, IfPresent, Stamp};
+use test_keys::ChosenKey;
+use trie_node::{Always, Condition, IfAbsent, IfEqual, IfPresent, NoMemory, Stamp, Written};
 
 #[test]
 fn conditions_decide_on_the_value_found(rt: HostRuntime) -> Result<(), Fail> {
@@ -14,29 +18,39 @@ fn conditions_decide_on_the_value_found(rt: HostRuntime) -> Result<(), Fail> {
     Ok(())
 }
 
+// Puts 6 at the key if it is absent.
+fn put_if_absent(
+    alloc: Global,
+    trie: &Trie,
+    at: ChosenKey,
+) -> Result<Written<'_, ChosenKey, u32>, NoMemory> {
+    let key = Arc::new(alloc, at)?;
+    let value = Arc::new(alloc, 6)?;
+    trie.put_where(alloc, key, value, Stamp(2), &IfAbsent)
+}
+
+// Whether there is a new root, and what the key had before.
+fn assert_written(
+    rt: &impl Abort,
+    answer: Result<Written<'_, ChosenKey, u32>, NoMemory>,
+    is_new: bool,
+    previous: Option<u32>,
+) {
+    let written = answer.expect(rt, "not written");
+    assert_eq!(rt; written.root.is_some(), is_new);
+    assert_eq!(rt; written.previous.map(|v| **v), previous);
+}
+
 #[test]
 fn writes_under_a_condition_tell_what_was_there(rt: HostRuntime) -> Result<(), Fail> {
     let alloc = rt.alloc();
     let (p, q) = (key(0, 0), key(1, 0));
     let trie = trie_of(alloc, &[(p, 5)])?;
-    let six = Arc::new(alloc, 6)?;
-
-    let at = Arc::new(alloc, p)?;
-    let found = trie.put_where(alloc, at, Arc::try_clone(&six)?, Stamp(2), &IfAbsent)?;
-    assert!(rt; found.root.is_none());
-    assert_eq!(rt; found.previous.map(|v| **v), Some(5));
-
-    let at = Arc::new(alloc, q)?;
-    let found = trie.put_where(alloc, at, six, Stamp(2), &IfAbsent)?;
-    assert!(rt; found.root.is_some());
-    assert!(rt; found.previous.is_none());
-
-    let found = trie.removed_where(alloc, &p, Stamp(2), &IfEqual(&6))?;
-    assert!(rt; found.root.is_none());
-    assert_eq!(rt; found.previous.map(|v| **v), Some(5));
-
-    let found = trie.removed_where(alloc, &p, Stamp(2), &IfEqual(&5))?;
-    assert!(rt; found.root.is_some());
-    assert_eq!(rt; found.previous.map(|v| **v), Some(5));
+    assert_written(&rt, put_if_absent(alloc, &trie, p), false, Some(5));
+    assert_written(&rt, put_if_absent(alloc, &trie, q), true, None);
+    let answer = trie.removed_where(alloc, &p, Stamp(2), &IfEqual(&6));
+    assert_written(&rt, answer, false, Some(5));
+    let answer = trie.removed_where(alloc, &p, Stamp(2), &IfEqual(&5));
+    assert_written(&rt, answer, true, Some(5));
     Ok(())
 }

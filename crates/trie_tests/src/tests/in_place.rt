@@ -1,17 +1,17 @@
 //! Writes where a root stands: with memory refused, over nodes that others hold, and at the widest
 //! branch and a long bucket.
 
-use super::memory::{MOST_GIVEN, ONE, TWO, assert_same, spare_blocks, take_all};
-use super::random::{KEYS, WORDS, assert_holds, in_walk_order};
-use super::{Trie, branch, key, pairs, put_in, trie_of};
+use super::memory::{MOST_GIVEN, ONE, TWO, assert_same, spare_blocks};
+use super::random::{KEYS, WORDS, assert_holds, assert_is_map};
+use super::{Trie, assert_value, branch, key, pairs, put_in, trie_of};
 use crate::held::Held;
 use crate::outline::outline_of;
-use std::alloc::Global;
+use std::alloc::{AllocError, Global};
 use std::collections::BTreeMap;
 use std::process::Abort;
 use std::sync::Arc;
 use std::test::Fail;
-use test_keys::{ChosenKey, Random};
+use test_keys::{ChosenKey, Random, take_all};
 use trie_node::{Stamp, size};
 
 // Keys whose words differ in their last digit alone.
@@ -80,6 +80,18 @@ fn a_refused_put_leaves_a_bucket_as_it_stands(rt: HostRuntime) -> Result<(), Fai
     Ok(())
 }
 
+// Puts Q with so many requests granted. Whether it is done.
+fn is_put_with(alloc: Global, trie: &mut Trie, given: usize) -> Result<bool, AllocError> {
+    let key = Arc::new(alloc, Q)?;
+    let value = Arc::new(alloc, 3)?;
+    let mut spare = spare_blocks(alloc, TWO)?;
+    let _taken = take_all(alloc)?;
+    for _ in 0..given {
+        let _ = spare.pop();
+    }
+    Ok(trie.put_in(alloc, key, value, Stamp(2)).is_ok())
+}
+
 // Puts Q with one request more granted each time, until the put is done. Until then the trie is as
 // it was.
 fn assert_put_takes(
@@ -90,18 +102,9 @@ fn assert_put_takes(
 ) -> Result<(), Fail> {
     let before = outline_of(alloc, trie.root())?;
     for given in 0..MOST_GIVEN {
-        let at = Arc::new(alloc, Q)?;
-        let value = Arc::new(alloc, 3)?;
-        let mut spare = spare_blocks(alloc, TWO)?;
-        let taken = take_all(alloc)?;
-        for _ in 0..given {
-            let _ = spare.pop();
-        }
-        let answer = trie.put_in(alloc, at, value, Stamp(2));
-        drop(taken);
-        if answer.is_ok() {
+        if is_put_with(alloc, trie, given)? {
             assert_eq!(rt; given, requests);
-            assert_eq!(rt; trie.find(&Q).map(|v| **v), Some(3));
+            assert_value(rt, trie, Q, Some(3));
             return Ok(());
         }
         assert_same(rt, alloc, trie, &before);
@@ -126,6 +129,16 @@ fn refused_puts_leave_the_root_as_it_stands(rt: HostRuntime) -> Result<(), Fail>
     assert_put_takes(&rt, alloc, &mut sole, 12)
 }
 
+// Removes Q with so many requests granted. Whether it is done.
+fn is_removed_with(alloc: Global, trie: &mut Trie, given: usize) -> Result<bool, AllocError> {
+    let mut spare = spare_blocks(alloc, ONE)?;
+    let _taken = take_all(alloc)?;
+    for _ in 0..given {
+        let _ = spare.pop();
+    }
+    Ok(trie.remove_in(alloc, &Q, Stamp(2)).is_ok())
+}
+
 // A removal from a root that another holds copies seven branches.
 #[test]
 fn refused_removals_leave_the_root_as_it_stands(rt: HostRuntime) -> Result<(), Fail> {
@@ -134,17 +147,11 @@ fn refused_removals_leave_the_root_as_it_stands(rt: HostRuntime) -> Result<(), F
     let other = trie.try_clone()?;
     let before = outline_of(alloc, trie.root())?;
     for given in 0..MOST_GIVEN {
-        let mut spare = spare_blocks(alloc, ONE)?;
-        let taken = take_all(alloc)?;
-        for _ in 0..given {
-            let _ = spare.pop();
-        }
-        let answer = trie.remove_in(alloc, &Q, Stamp(2));
-        drop(taken);
+        let is_removed = is_removed_with(alloc, &mut trie, given)?;
         assert_same(&rt, alloc, &other, &before);
-        if answer.is_ok() {
+        if is_removed {
             assert_eq!(rt; given, 14);
-            assert!(rt; trie.find(&Q).is_none());
+            assert_value(&rt, &trie, Q, None);
             return Ok(());
         }
         assert_same(&rt, alloc, &trie, &before);
@@ -153,52 +160,59 @@ fn refused_removals_leave_the_root_as_it_stands(rt: HostRuntime) -> Result<(), F
     Ok(())
 }
 
-// A put or a removal, of the trie and of a plain map.
-fn write(
-    alloc: Global,
-    trie: &mut Trie,
-    map: &mut BTreeMap<ChosenKey, u32>,
-    at: ChosenKey,
-    put: bool,
-    step: u32,
-) -> Result<(), Fail> {
-    if put {
-        put_in(alloc, trie, at, step, u64::from(step))?;
-        map.insert(at, step)?;
-    } else {
-        trie.remove_in(alloc, &at, Stamp(u64::from(step)))?;
-        map.remove(&at);
+// A trie, and the map that it should be.
+#[derive(Drop)]
+struct Beside {
+    trie: Trie,
+    map: BTreeMap<ChosenKey, u32>,
+}
+
+impl Beside {
+    fn new(alloc: Global) -> Result<Beside, Fail> {
+        Ok(Beside {
+            trie: Held::new(alloc, Stamp::LOOSE)?,
+            map: BTreeMap::new(alloc),
+        })
     }
-    Ok(())
+
+    // The trie of the copy shares its root.
+    fn copy(&self) -> Result<Beside, Fail> {
+        Ok(Beside {
+            trie: self.trie.try_clone()?,
+            map: self.map.clone()?,
+        })
+    }
+
+    // Puts or removes the key.
+    fn write(&mut self, alloc: Global, at: ChosenKey, put: bool, step: u32) -> Result<(), Fail> {
+        if put {
+            put_in(alloc, &mut self.trie, at, step, u64::from(step))?;
+            self.map.insert(at, step)?;
+        } else {
+            self.trie.remove_in(alloc, &at, Stamp(u64::from(step)))?;
+            self.map.remove(&at);
+        }
+        Ok(())
+    }
 }
 
 #[test]
 fn roots_that_share_nodes_are_written_apart(rt: HostRuntime) -> Result<(), Fail> {
     let alloc = rt.alloc();
     let mut random = Random(10);
-    let mut first = Held::new(alloc, Stamp::LOOSE)?;
-    let mut second = first.try_clone()?;
-    let mut firsts = BTreeMap::new(alloc);
-    let mut seconds = BTreeMap::new(alloc);
+    let mut first = Beside::new(alloc)?;
+    let mut second = first.copy()?;
     for step in 0..4_000 {
         let at = key(WORDS[random.next(8) as usize % 8], random.next(KEYS));
         let put = random.next(2) == 0;
         match random.next(16) {
-            0 => {
-                second = first.try_clone()?;
-                seconds = firsts.clone()?;
-            }
-            1 => {
-                first = second.try_clone()?;
-                firsts = seconds.clone()?;
-            }
-            2..=8 => write(alloc, &mut first, &mut firsts, at, put, step)?,
-            _ => write(alloc, &mut second, &mut seconds, at, put, step)?,
+            0 => second = first.copy()?,
+            1 => first = second.copy()?,
+            2..=8 => first.write(alloc, at, put, step)?,
+            _ => second.write(alloc, at, put, step)?,
         }
-        let pairs = in_walk_order(alloc, &firsts)?;
-        assert_holds(&rt, alloc, &first, pairs.as_slice());
-        let pairs = in_walk_order(alloc, &seconds)?;
-        assert_holds(&rt, alloc, &second, pairs.as_slice());
+        assert_is_map(&rt, alloc, &first.trie, &first.map);
+        assert_is_map(&rt, alloc, &second.trie, &second.map);
     }
     Ok(())
 }
@@ -216,7 +230,7 @@ fn a_hundred_keys_of_one_word_share_a_bucket(rt: HostRuntime) -> Result<(), Fail
         [branch(0, 1 << 7, 100), pairs(1, 100)].as_slice()
     );
     for id in 0..100 {
-        assert_eq!(rt; trie.find(&key(7, id * 37 % 101)).map(|v| **v), Some(id));
+        assert_value(&rt, &trie, key(7, id * 37 % 101), Some(id));
     }
     for id in 0..99 {
         trie.remove_in(alloc, &key(7, id * 37 % 101), Stamp(2))?;
@@ -236,10 +250,7 @@ fn a_branch_has_thirty_two_children(rt: HostRuntime) -> Result<(), Fail> {
     assert_eq!(rt; seen.lines.len(), 33);
     assert_eq!(rt; seen.lines.first(), Some(&branch(0, u32::MAX, 32)));
     for digit in 0..32 {
-        assert_eq!(rt;
-            trie.find(&key(digit * 5 % 32, 0)).map(|v| **v),
-            Some(digit)
-        );
+        assert_value(&rt, &trie, key(digit * 5 % 32, 0), Some(digit));
     }
     for digit in 0..32 {
         trie.remove_in(alloc, &key(digit, 0), Stamp(2))?;

@@ -1,17 +1,17 @@
 ghost use Rattle.std.specs.Prelude.{◌<◌};
 
 use super::memory::{BRANCH, assert_same};
-use super::random::{KEYS, WORDS, assert_holds, in_walk_order};
+use super::random::{KEYS, WORDS, assert_is_map};
 use super::{Trie, branch, key, pairs, put, trie_of};
 use crate::held::Held;
-use crate::outline::{Line, outline_of};
+use crate::outline::{Line, Outline, outline_of};
 use std::alloc::{AllocError, Global};
 use std::collections::BTreeMap;
 use std::panic::Expect;
 use std::process::Abort;
 use std::test::Fail;
 use test_keys::{ChosenKey, Random, take_all};
-use trie_node::{Node, Stamp, union_of_maps, unions_of_maps};
+use trie_node::{NoMemory, Node, Stamp, union_of_maps, unions_of_maps};
 
 // The merged root has these nodes and pairs.
 fn assert_merged(
@@ -79,45 +79,65 @@ fn a_bucket_meets_a_branch(rt: HostRuntime) -> Result<(), Fail> {
     Ok(())
 }
 
-// The stamps show that the root is the other's, and none of the merge's.
+// The merged root is the one that is outlined. Its stamps show that it is none of the merge's.
+fn assert_merged_is(
+    rt: &impl Abort,
+    alloc: Global,
+    (left, right): (&Trie, &Trie),
+    before: &Outline,
+) {
+    let both = left.merged(alloc, right, Stamp(4)).expect(rt, "not merged");
+    assert_same(rt, alloc, &both, before);
+}
+
 #[test]
 fn an_empty_map_changes_nothing(rt: HostRuntime) -> Result<(), Fail> {
     let alloc = rt.alloc();
     let empty = Held::new(alloc, Stamp(3))?;
     let some = trie_of(alloc, &[(key(0, 0), 1), (key(1, 0), 2)])?;
     let before = outline_of(alloc, some.root())?;
-    let left = some.merged(alloc, &empty, Stamp(4))?;
-    assert_same(&rt, alloc, &left, &before);
-    let right = empty.merged(alloc, &some, Stamp(4))?;
-    assert_same(&rt, alloc, &right, &before);
-    let none = empty.merged(alloc, &empty, Stamp(4))?;
+    assert_merged_is(&rt, alloc, (&some, &empty), &before);
+    assert_merged_is(&rt, alloc, (&empty, &some), &before);
     let before = outline_of(alloc, empty.root())?;
-    assert_same(&rt, alloc, &none, &before);
+    assert_merged_is(&rt, alloc, (&empty, &empty), &before);
     Ok(())
+}
+
+// The trie of those of 1,024 words that stand before a position below a child of the root, or of the others.
+fn interval(alloc: Global, before: bool) -> Result<Trie, NoMemory> {
+    let mut trie = Held::new(alloc, Stamp(1))?;
+    for word in 0..1024 {
+        if ((word % 32, word / 32) < (10, 5)) == before {
+            trie = put(alloc, &trie, key(word, 0), word, 1)?;
+        }
+    }
+    Ok(trie)
+}
+
+// The map of the 1,024 words.
+fn all_words(alloc: Global) -> Result<BTreeMap<ChosenKey, u32>, AllocError> {
+    let mut map = BTreeMap::new(alloc);
+    for word in 0..1024 {
+        map.insert(key(word, 0), word)?;
+    }
+    Ok(map)
+}
+
+// The merged root has so many nodes, of which two are the merge's.
+fn assert_made(rt: &impl Abort, alloc: Global, both: &Trie, nodes: usize) {
+    let seen = outline_of(alloc, both.root()).expect(rt, "no outline");
+    assert_eq!(rt; seen.lines.len(), nodes);
+    assert_eq!(rt; seen.stamps.iter().filter(|stamp| stamp.0 == 2).count(), 2);
 }
 
 // The maps of two intervals of positions that meet below a child of the root.
 #[test]
 fn intervals_share_their_subtries(rt: HostRuntime) -> Result<(), Fail> {
     let alloc = rt.alloc();
-    let mut left = Held::new(alloc, Stamp(1))?;
-    let mut right = Held::new(alloc, Stamp(1))?;
-    let mut map = BTreeMap::new(alloc);
-    for word in 0..1024 {
-        let at = key(word, 0);
-        if (word % 32, word / 32) < (10, 5) {
-            left = put(alloc, &left, at, word, 1)?;
-        } else {
-            right = put(alloc, &right, at, word, 1)?;
-        }
-        map.insert(at, word)?;
-    }
+    let (left, right) = (interval(alloc, true)?, interval(alloc, false)?);
     let both = left.merged(alloc, &right, Stamp(2))?;
-    let all = in_walk_order(alloc, &map)?;
-    assert_holds(&rt, alloc, &both, all.as_slice());
-    let seen = outline_of(alloc, both.root())?;
-    assert_eq!(rt; seen.lines.len(), 1057);
-    assert_eq!(rt; seen.stamps.iter().filter(|stamp| stamp.0 == 2).count(), 2);
+    assert_is_map(&rt, alloc, &both, &all_words(alloc)?);
+    assert_made(&rt, alloc, &both, 1057);
     Ok(())
 }
 
@@ -147,8 +167,7 @@ fn random_merges_agree_with_ordered_maps(rt: HostRuntime) -> Result<(), Fail> {
             map.insert(*at, *value)?;
         }
         let both = left.merged(alloc, &right, Stamp(2))?;
-        let all = in_walk_order(alloc, &map)?;
-        assert_holds(&rt, alloc, &both, all.as_slice());
+        assert_is_map(&rt, alloc, &both, &map);
     }
     Ok(())
 }
@@ -170,26 +189,32 @@ fn requested(alloc: Global) -> Result<Vec<Vec<u8>>, AllocError> {
     Ok(blocks)
 }
 
+// Whether the roots are merged with so many requests granted.
+fn is_merged_with(
+    alloc: Global,
+    (left, right): (&Trie, &Trie),
+    given: usize,
+) -> Result<bool, AllocError> {
+    let mut spare = requested(alloc)?;
+    let _taken = take_all(alloc)?;
+    for _ in 0..given {
+        let _ = spare.pop();
+    }
+    Ok(left.merged(alloc, right, Stamp(2)).is_ok())
+}
+
 #[test]
 fn refused_merges_leave_the_roots(rt: HostRuntime) -> Result<(), Fail> {
     let alloc = rt.alloc();
     let left = trie_of(alloc, &[(key(32, 0), 1), (key(64, 0), 2)])?;
     let right = trie_of(alloc, &[(key(96, 0), 3), (key(128, 0), 4)])?;
-    let (left_before, right_before) = (
-        outline_of(alloc, left.root())?,
-        outline_of(alloc, right.root())?,
-    );
+    let left_before = outline_of(alloc, left.root())?;
+    let right_before = outline_of(alloc, right.root())?;
     for given in 0..5 {
-        let mut spare = requested(alloc)?;
-        let taken = take_all(alloc)?;
-        for _ in 0..given {
-            let _ = spare.pop();
-        }
-        let answer = left.merged(alloc, &right, Stamp(2));
-        drop(taken);
+        let is_merged = is_merged_with(alloc, (&left, &right), given)?;
         assert_same(&rt, alloc, &left, &left_before);
         assert_same(&rt, alloc, &right, &right_before);
-        assert_eq!(rt; answer.is_ok(), given == 4);
+        assert_eq!(rt; is_merged, given == 4);
     }
     Ok(())
 }

@@ -1,4 +1,4 @@
-use super::{Trie, key, put};
+use super::{Trie, assert_value, key, put};
 use crate::held::Held;
 use crate::outline::{lines_of, outline_of};
 use hash_path::PathKey;
@@ -52,14 +52,44 @@ pub(super) fn assert_holds(
     assert_eq!(rt; seen.lines.as_slice(), lines.as_slice());
 }
 
+// The trie has the pairs of the map, and the shape that they have.
+pub(super) fn assert_is_map(
+    rt: &impl Abort,
+    alloc: Global,
+    trie: &Trie,
+    map: &BTreeMap<ChosenKey, u32>,
+) {
+    let pairs = in_walk_order(alloc, map).expect(rt, "no list");
+    assert_holds(rt, alloc, trie, pairs.as_slice());
+}
+
 // Each key has the value that it has in the map.
 fn assert_finds(rt: &impl Abort, trie: &Trie, map: &BTreeMap<ChosenKey, u32>) {
     for word in WORDS {
         for id in 0..KEYS {
             let at = key(word, id);
-            assert_eq!(rt; trie.find(&at).map(|v| **v), map.get(&at).copied());
+            assert_value(rt, trie, at, map.get(&at).copied());
         }
     }
+}
+
+// Puts or removes a random key.
+fn write(
+    alloc: Global,
+    trie: &mut Trie,
+    map: &mut BTreeMap<ChosenKey, u32>,
+    random: &mut Random,
+    step: u32,
+) -> Result<(), Fail> {
+    let at = key(WORDS[random.next(8) as usize % 8], random.next(KEYS));
+    if random.next(2) == 0 {
+        *trie = put(alloc, trie, at, step, u64::from(step))?;
+        map.insert(at, step)?;
+    } else {
+        *trie = trie.with_removed(alloc, &at, Stamp(u64::from(step)))?;
+        map.remove(&at);
+    }
+    Ok(())
 }
 
 #[test]
@@ -73,18 +103,9 @@ fn random_writes_agree_with_an_ordered_map(rt: HostRuntime) -> Result<(), Fail> 
         if step % 500 == 0 {
             old.push((trie.try_clone()?, in_walk_order(alloc, &map)?))?;
         }
-        let word = WORDS[random.next(8) as usize % 8];
-        let at = key(word, random.next(KEYS));
-        if random.next(2) == 0 {
-            trie = put(alloc, &trie, at, step, u64::from(step))?;
-            map.insert(at, step)?;
-        } else {
-            trie = trie.with_removed(alloc, &at, Stamp(u64::from(step)))?;
-            map.remove(&at);
-        }
+        write(alloc, &mut trie, &mut map, &mut random, step)?;
         assert_finds(&rt, &trie, &map);
-        let pairs = in_walk_order(alloc, &map)?;
-        assert_holds(&rt, alloc, &trie, pairs.as_slice());
+        assert_is_map(&rt, alloc, &trie, &map);
     }
     for (trie, pairs) in &old {
         assert_holds(&rt, alloc, trie, pairs.as_slice());

@@ -113,7 +113,7 @@ impl Both {
     ) -> Result<Both, NoMemory> {
         Ok(Both {
             list: copied(alloc, &self.list)?,
-            version: fork(rt, &mut self.version, source)?,
+            version: fork(rt, &mut self.version, source),
         })
     }
 

@@ -13,13 +13,13 @@ fn a_fork_owns_no_node_until_it_is_written(rt: HostRuntime) -> Result<(), Fail> 
     let alloc = rt.alloc();
     let (mut version, mut source) = started(alloc)?;
     assert_own(&rt, &version, 4);
-    let mut copy = fork(&rt, &mut version, &mut source)?;
+    let mut copy = fork(&rt, &mut version, &mut source);
     assert_own(&rt, &version, 0);
     assert_own(&rt, &copy, 0);
     assert_put(&rt, alloc, &mut copy, ("a", 9), Ok(Some(1)));
     assert_own(&rt, &version, 0);
     assert_own(&rt, &copy, 2);
-    assert_text(&rt, alloc, &version, "a", Some(1))?;
+    assert_text(&rt, alloc, &version, "a", Some(1));
     Ok(())
 }
 
@@ -28,17 +28,17 @@ fn each_of_four_versions_owns_what_it_wrote(rt: HostRuntime) -> Result<(), Fail>
     let alloc = rt.alloc();
     let (mut first, mut source) = started(alloc)?;
     assert_own(&rt, &first, 4);
-    let mut second = fork(&rt, &mut first, &mut source)?;
-    let mut third = fork(&rt, &mut second, &mut source)?;
+    let mut second = fork(&rt, &mut first, &mut source);
+    let mut third = fork(&rt, &mut second, &mut source);
     assert_put(&rt, alloc, &mut second, ("b", 9), Ok(Some(2)));
     assert_own(&rt, &first, 0);
     assert_own(&rt, &second, 2);
     assert_own(&rt, &third, 0);
-    assert_removal(&rt, alloc, &mut third, "a", Some(1))?;
+    assert_removal(&rt, alloc, &mut third, "a", Some(1));
     assert_own(&rt, &third, 1);
-    assert_removal(&rt, alloc, &mut third, "a", None)?;
+    assert_removal(&rt, alloc, &mut third, "a", None);
     assert_own(&rt, &third, 1);
-    let fourth = fork(&rt, &mut third, &mut source)?;
+    let fourth = fork(&rt, &mut third, &mut source);
     assert_own(&rt, &third, 0);
     assert_own(&rt, &fourth, 0);
     assert_is(&rt, (len(&first), len(&second)), (3, 3));
@@ -113,8 +113,8 @@ fn many_keys_of_one_word_and_many_of_one_branch(rt: HostRuntime) -> Result<(), F
 fn a_cleared_fork_of_a_fork_has_one_node(rt: HostRuntime) -> Result<(), Fail> {
     let alloc = rt.alloc();
     let (mut version, mut source) = started(alloc)?;
-    let mut copy = fork(&rt, &mut version, &mut source)?;
-    let mut again = fork(&rt, &mut copy, &mut source)?;
+    let mut copy = fork(&rt, &mut version, &mut source);
+    let mut again = fork(&rt, &mut copy, &mut source);
     assert_is(&rt, clear(alloc, &mut again), Ok(()));
     assert_sizes(&rt, &again, (0, 1));
     assert_is(&rt, (len(&version), len(&copy)), (3, 3));

@@ -2,6 +2,7 @@
 mod limits;
 mod nodes;
 
+use super::assert_is;
 use keys::ByteText;
 use map_ops::{get_or_else_update, put, put_if_absent, remove, remove_if, replace, replace_if};
 use std::alloc::Global;
@@ -79,16 +80,16 @@ fn get_or_put(alloc: Global, map: &mut Map, at: &str, value: i64) -> Result<i64,
 fn conditional_writes_of_one_key(rt: HostRuntime) -> Result<(), Fail> {
     let alloc = rt.alloc();
     let mut map = empty(alloc)?;
-    assert_eq!(rt; put_at(alloc, &mut map, "a", 5), Ok(None));
-    assert_eq!(rt; add_at(alloc, &mut map, "a", 6), Ok(Some(5)));
-    assert_eq!(rt; swap_at(alloc, &mut map, "a", 6, 8), Ok(false));
-    assert_eq!(rt; swap_at(alloc, &mut map, "a", 5, 8), Ok(true));
-    assert_eq!(rt; remove_value_at(alloc, &mut map, "a", 5), Ok(false));
-    assert_eq!(rt; remove_value_at(alloc, &mut map, "a", 8), Ok(true));
-    assert_eq!(rt; replace_at(alloc, &mut map, "a", 1), Ok(None));
-    assert_eq!(rt; get_or_put(alloc, &mut map, "a", 4), Ok(4));
-    assert_eq!(rt; get_or_put(alloc, &mut map, "a", 6), Ok(4));
-    assert_eq!(rt; map.len(), 1);
+    assert_is(&rt, put_at(alloc, &mut map, "a", 5), Ok(None));
+    assert_is(&rt, add_at(alloc, &mut map, "a", 6), Ok(Some(5)));
+    assert_is(&rt, swap_at(alloc, &mut map, "a", 6, 8), Ok(false));
+    assert_is(&rt, swap_at(alloc, &mut map, "a", 5, 8), Ok(true));
+    assert_is(&rt, remove_value_at(alloc, &mut map, "a", 5), Ok(false));
+    assert_is(&rt, remove_value_at(alloc, &mut map, "a", 8), Ok(true));
+    assert_is(&rt, replace_at(alloc, &mut map, "a", 1), Ok(None));
+    assert_is(&rt, get_or_put(alloc, &mut map, "a", 4), Ok(4));
+    assert_is(&rt, get_or_put(alloc, &mut map, "a", 6), Ok(4));
+    assert_is(&rt, map.len(), 1);
     Ok(())
 }
 
@@ -96,16 +97,16 @@ fn conditional_writes_of_one_key(rt: HostRuntime) -> Result<(), Fail> {
 fn writes_of_a_key_that_is_there_and_of_one_that_is_not(rt: HostRuntime) -> Result<(), Fail> {
     let alloc = rt.alloc();
     let mut map = empty(alloc)?;
-    assert_eq!(rt; remove_at(alloc, &mut map, "a"), Ok(None));
-    assert_eq!(rt; remove_value_at(alloc, &mut map, "a", 0), Ok(false));
-    assert_eq!(rt; swap_at(alloc, &mut map, "a", 0, 1), Ok(false));
-    assert_eq!(rt; add_at(alloc, &mut map, "a", 1), Ok(None));
-    assert_eq!(rt; replace_at(alloc, &mut map, "a", 2), Ok(Some(1)));
-    assert_eq!(rt; put_at(alloc, &mut map, "a", 3), Ok(Some(2)));
-    assert_eq!(rt; value_at(alloc, &map, "a"), Ok(Some(3)));
-    assert_eq!(rt; remove_at(alloc, &mut map, "a"), Ok(Some(3)));
-    assert_eq!(rt; value_at(alloc, &map, "a"), Ok(None));
-    assert_eq!(rt; map.len(), 0);
+    assert_is(&rt, remove_at(alloc, &mut map, "a"), Ok(None));
+    assert_is(&rt, remove_value_at(alloc, &mut map, "a", 0), Ok(false));
+    assert_is(&rt, swap_at(alloc, &mut map, "a", 0, 1), Ok(false));
+    assert_is(&rt, add_at(alloc, &mut map, "a", 1), Ok(None));
+    assert_is(&rt, replace_at(alloc, &mut map, "a", 2), Ok(Some(1)));
+    assert_is(&rt, put_at(alloc, &mut map, "a", 3), Ok(Some(2)));
+    assert_is(&rt, value_at(alloc, &map, "a"), Ok(Some(3)));
+    assert_is(&rt, remove_at(alloc, &mut map, "a"), Ok(Some(3)));
+    assert_is(&rt, value_at(alloc, &map, "a"), Ok(None));
+    assert_is(&rt, map.len(), 0);
     Ok(())
 }
 
@@ -118,15 +119,15 @@ fn the_closure_runs_where_the_key_is_absent_alone(rt: HostRuntime) -> Result<(),
         ran = true;
         4
     })?;
-    assert_eq!(rt; *made, 4);
+    assert_is(&rt, *made, 4);
     assert!(rt; ran);
     let mut again = false;
     let found = get_or_else_update(&mut map, alloc, key(alloc, "a")?, || {
         again = true;
         6
     })?;
-    assert_eq!(rt; *found, 4);
+    assert_is(&rt, *found, 4);
     assert!(rt; !again);
-    assert_eq!(rt; value_at(alloc, &map, "a"), Ok(Some(4)));
+    assert_is(&rt, value_at(alloc, &map, "a"), Ok(Some(4)));
     Ok(())
 }

@@ -63,7 +63,7 @@ fn a_view_shows_no_later_write(rt: HostRuntime) -> Result<(), Fail> {
     assert_put(&rt, alloc, &mut version, ("a", 9), Ok(Some(1)));
     assert_own(&rt, &version, 4);
     assert_is(&rt, seen(&view, &*a), Some(1));
-    assert_removal(&rt, alloc, &mut version, "c", Some(3))?;
+    assert_removal(&rt, alloc, &mut version, "c", Some(3));
     assert_own(&rt, &version, 3);
     assert_is(&rt, has(&version, &*c), false);
     assert_has_all_three(&rt, &view, &*c);
@@ -105,6 +105,6 @@ fn a_map_of_a_root_may_get_another_limit(rt: HostRuntime) -> Result<(), Fail> {
     assert_put(&rt, alloc, &mut version, ("c", 3), Ok(None));
     assert_put(&rt, alloc, &mut version, ("d", 4), Err(Refusal::Full));
     assert_is(&rt, limit_and_stamp(&version), (3, Stamp(5)));
-    assert_text(&rt, alloc, &version, "b", Some(2))?;
+    assert_text(&rt, alloc, &version, "b", Some(2));
     Ok(())
 }

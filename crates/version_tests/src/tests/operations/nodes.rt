@@ -1,5 +1,6 @@
 //! Which nodes operations copy.
 use super::{Map, add_at, get_or_put, put_at, remove_at, remove_value_at, replace_at, swap_at};
+use crate::tests::assert_is;
 use generation::Source;
 use std::alloc::Global;
 use std::process::Abort;
@@ -22,16 +23,16 @@ fn forked(rt: &impl Abort, alloc: Global) -> Result<(Map, Map), Fail> {
 fn what_changes_nothing_copies_no_node(rt: HostRuntime) -> Result<(), Fail> {
     let alloc = rt.alloc();
     let (map, mut fork) = forked(&rt, alloc)?;
-    assert_eq!(rt; (map.own_nodes(), fork.own_nodes()), (0, 0));
-    assert_eq!(rt; add_at(alloc, &mut fork, "a", 9), Ok(Some(1)));
-    assert_eq!(rt; get_or_put(alloc, &mut fork, "a", 9), Ok(1));
-    assert_eq!(rt; replace_at(alloc, &mut fork, "c", 9), Ok(None));
-    assert_eq!(rt; swap_at(alloc, &mut fork, "a", 9, 8), Ok(false));
-    assert_eq!(rt; swap_at(alloc, &mut fork, "c", 9, 8), Ok(false));
-    assert_eq!(rt; remove_at(alloc, &mut fork, "c"), Ok(None));
-    assert_eq!(rt; remove_value_at(alloc, &mut fork, "a", 9), Ok(false));
-    assert_eq!(rt; remove_value_at(alloc, &mut fork, "c", 9), Ok(false));
-    assert_eq!(rt; (map.own_nodes(), fork.own_nodes()), (0, 0));
+    assert_is(&rt, (map.own_nodes(), fork.own_nodes()), (0, 0));
+    assert_is(&rt, add_at(alloc, &mut fork, "a", 9), Ok(Some(1)));
+    assert_is(&rt, get_or_put(alloc, &mut fork, "a", 9), Ok(1));
+    assert_is(&rt, replace_at(alloc, &mut fork, "c", 9), Ok(None));
+    assert_is(&rt, swap_at(alloc, &mut fork, "a", 9, 8), Ok(false));
+    assert_is(&rt, swap_at(alloc, &mut fork, "c", 9, 8), Ok(false));
+    assert_is(&rt, remove_at(alloc, &mut fork, "c"), Ok(None));
+    assert_is(&rt, remove_value_at(alloc, &mut fork, "a", 9), Ok(false));
+    assert_is(&rt, remove_value_at(alloc, &mut fork, "c", 9), Ok(false));
+    assert_is(&rt, (map.own_nodes(), fork.own_nodes()), (0, 0));
     Ok(())
 }
 
@@ -39,13 +40,13 @@ fn what_changes_nothing_copies_no_node(rt: HostRuntime) -> Result<(), Fail> {
 fn what_changes_a_key_copies_its_path(rt: HostRuntime) -> Result<(), Fail> {
     let alloc = rt.alloc();
     let (map, mut fork) = forked(&rt, alloc)?;
-    assert_eq!(rt; swap_at(alloc, &mut fork, "a", 1, 8), Ok(true));
-    assert_eq!(rt; fork.own_nodes(), 2);
-    assert_eq!(rt; replace_at(alloc, &mut fork, "b", 9), Ok(Some(2)));
-    assert_eq!(rt; fork.own_nodes(), 3);
-    assert_eq!(rt; remove_value_at(alloc, &mut fork, "a", 8), Ok(true));
-    assert_eq!(rt; (map.own_nodes(), fork.own_nodes()), (0, 2));
-    assert_eq!(rt; (map.len(), fork.len()), (2, 1));
+    assert_is(&rt, swap_at(alloc, &mut fork, "a", 1, 8), Ok(true));
+    assert_is(&rt, fork.own_nodes(), 2);
+    assert_is(&rt, replace_at(alloc, &mut fork, "b", 9), Ok(Some(2)));
+    assert_is(&rt, fork.own_nodes(), 3);
+    assert_is(&rt, remove_value_at(alloc, &mut fork, "a", 8), Ok(true));
+    assert_is(&rt, (map.own_nodes(), fork.own_nodes()), (0, 2));
+    assert_is(&rt, (map.len(), fork.len()), (2, 1));
     Ok(())
 }
 
@@ -53,8 +54,8 @@ fn what_changes_a_key_copies_its_path(rt: HostRuntime) -> Result<(), Fail> {
 fn a_clear_leaves_one_node_and_the_source_its_pairs(rt: HostRuntime) -> Result<(), Fail> {
     let alloc = rt.alloc();
     let (map, mut fork) = forked(&rt, alloc)?;
-    assert_eq!(rt; fork.clear(alloc), Ok(()));
-    assert_eq!(rt; (fork.own_nodes(), fork.len()), (1, 0));
-    assert_eq!(rt; (map.own_nodes(), map.len()), (0, 2));
+    assert_is(&rt, fork.clear(alloc), Ok(()));
+    assert_is(&rt, (fork.own_nodes(), fork.len()), (1, 0));
+    assert_is(&rt, (map.own_nodes(), map.len()), (0, 2));
     Ok(())
 }
