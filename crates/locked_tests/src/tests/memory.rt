@@ -1,7 +1,7 @@
 //! Calls with requests for memory refused: the first, the second and so on, until a call meets no refusal.
 ghost use Rattle.std.specs.Prelude.{⊤};
 
-use super::entries::entries_of;
+use super::entries::{Entered, TestClosed, entries_of};
 use super::making::{TestMap, TestSeat, TestTicket, make, taken};
 use super::model::assert_replayed;
 use super::questions::{ALL, EVEN, Query, Question, query_of, worked};
@@ -10,6 +10,7 @@ use super::requests::{
 };
 use super::{A, B, LARGEST, assert_is};
 use bulk_ops::Asks;
+use handles::Call;
 use locked_map::{Room, Seat, SharedMap, Ticket, Use, with};
 use std::alloc::{AllocError, Global};
 use std::process::Abort;
@@ -65,29 +66,48 @@ impl Use<ChosenKey, u64, Query> for Wanting {
         for request in self.before {
             make(rt, alloc, map, seat, &mut tickets, request)?;
         }
-        let refused = match self.tried {
-            Tried::GetOrStore(key, value) => get_or_store(rt, alloc, map, seat, key, value)?,
-            Tried::Ask(Request::Call(plain)) => call(rt, alloc, map, seat, plain)?,
-            Tried::Ask(Request::View(handle)) => view(rt, alloc, map, seat, handle)?,
-            Tried::Ask(Request::Freeze(handle, question)) => {
-                freeze(rt, alloc, map, seat, handle, question)?
-            }
-            Tried::Ask(Request::Finish(job)) => {
-                let ticket = taken(&mut tickets, job).ok_or(Refusal::NoJob)?;
-                let part = worked(alloc, ticket.view(), ticket.query())?;
-                finish(rt, alloc, map, seat, ticket, part)?
-            }
-            Tried::Ask(Request::Abandon(job)) => {
-                let ticket = taken(&mut tickets, job).ok_or(Refusal::NoJob)?;
-                abandon(rt, alloc, map, seat, ticket)?
-            }
-        };
-        Ok(refused)
+        refused(rt, alloc, map, seat, &mut tickets, self.tried)
     }
 }
 
-// Each of the following tries what it is named for with no memory, with a little, and so on, and tells how often memory
-// was wanting.
+// Tries it with no memory, with a little, and so on, and tells how often memory was wanting.
+fn refused<J: Room, R: Wait>(
+    rt: &R,
+    alloc: Global,
+    map: &TestMap<J>,
+    seat: &mut TestSeat<J>,
+    tickets: &mut Vec<TestTicket<J>>,
+    tried: Tried,
+) -> Result<u32, Refusal> {
+    match tried {
+        Tried::GetOrStore(key, value) => get_or_store(rt, alloc, map, seat, key, value),
+        Tried::Ask(Request::Call(plain)) => call(rt, alloc, map, seat, plain),
+        Tried::Ask(Request::View(handle)) => view(rt, alloc, map, seat, handle),
+        Tried::Ask(Request::Freeze(handle, question)) => {
+            freeze(rt, alloc, map, seat, handle, question)
+        }
+        Tried::Ask(Request::Finish(job)) => {
+            let ticket = taken(tickets, job).ok_or(Refusal::NoJob)?;
+            let part = worked(alloc, ticket.view(), ticket.query())?;
+            finish(rt, alloc, map, seat, ticket, part)
+        }
+        Tried::Ask(Request::Abandon(job)) => {
+            let ticket = taken(tickets, job).ok_or(Refusal::NoJob)?;
+            abandon(rt, alloc, map, seat, ticket)
+        }
+    }
+}
+
+// The call, as often as it is tried.
+fn calls_of(alloc: Global, plain: Plain) -> Result<Vec<Call<ChosenKey, u64>>, Refusal> {
+    let mut calls = Vec::new(alloc);
+    for _ in 0..TRIES {
+        calls.push(call_of(alloc, plain)?)?;
+    }
+    Ok(calls)
+}
+
+// Each of the following is for one kind of request.
 
 fn call<J: Room, R: Wait>(
     rt: &R,
@@ -96,10 +116,7 @@ fn call<J: Room, R: Wait>(
     seat: &mut TestSeat<J>,
     plain: Plain,
 ) -> Result<u32, Refusal> {
-    let mut calls = Vec::new(alloc);
-    for _ in 0..TRIES {
-        calls.push(call_of(alloc, plain)?)?;
-    }
+    let calls = calls_of(alloc, plain)?;
     let mut shortage = Shortage::new(alloc)?;
     for (refused, call) in (0..TRIES).zip(calls) {
         match map.call(rt, seat, call) {
@@ -256,6 +273,27 @@ fn wanted_of(
     Ok(requests)
 }
 
+// Makes the requests and tries one more: how often memory was wanting, and the map that is closed then.
+fn tried_after<R: AllocGlobal + Threads + Wait + Sync>(
+    rt: &R,
+    before: &[Request],
+    tried: Tried,
+) -> Result<(u32, TestClosed), Fail> {
+    let before = Vec::from_slice(rt.alloc(), before)?;
+    let out = with(rt, rt.alloc(), 1, LARGEST, Wanting { before, tried });
+    let (refused, closed) = out.ok().ok_or("a map is made")?;
+    let closed = closed.ok().ok_or("the map is closed")?;
+    Ok((refused?, closed))
+}
+
+fn requests_of(alloc: Global, entries: &[Entered]) -> Result<Vec<Request>, AllocError> {
+    let mut requests = Vec::new(alloc);
+    for entry in entries {
+        requests.push(entry.request)?;
+    }
+    Ok(requests)
+}
+
 // Behind so many entries it is refused some times, after which the map and the seat are as before, and then made. The
 // number of entries that it has is told. They are as a plain program has them.
 fn assert_refused<R: AllocGlobal + Abort + Threads + Wait + Sync>(
@@ -266,24 +304,13 @@ fn assert_refused<R: AllocGlobal + Abort + Threads + Wait + Sync>(
 ) -> Result<usize, Fail> {
     let alloc = rt.alloc();
     let before = filled(alloc, first, count)?;
-    let script = Wanting {
-        before: Vec::from_slice(alloc, &before)?,
-        tried,
-    };
-    let out = with(rt, alloc, 1, LARGEST, script);
-    let (out, closed) = out.ok().ok_or("a map is made")?;
-    let refused = out?;
+    let (refused, closed) = tried_after(rt, &before, tried)?;
     assert!(rt; refused > 0, "{tried:?} is never refused");
-    let closed = closed.ok().ok_or("the map is closed")?;
     let entries = entries_of(alloc, &closed)?;
     assert_replayed(rt, alloc, LARGEST, &closed, &entries)?;
     let made = entries.len().saturating_sub(before.len());
-    let mut requests = Vec::new(alloc);
-    for entry in &entries {
-        requests.push(entry.request)?;
-    }
     let wanted = wanted_of(alloc, &before, tried, made.saturating_sub(1))?;
-    assert_eq!(rt; requests, wanted);
+    assert_is(rt, requests_of(alloc, &entries)?, wanted);
     Ok(made)
 }
 
