@@ -255,3 +255,10 @@ pub(super) fn with_handle(alloc: Global) -> Result<Asking, Refusal> {
     table.open(alloc, 1)?;
     Ok(table)
 }
+
+// The same, where the key 97 has the value 4 on the handle.
+pub(super) fn with_four(alloc: Global) -> Result<Asking, Refusal> {
+    let mut table = with_handle(alloc)?;
+    put(alloc, &mut table, 1, 97, 4)?;
+    Ok(table)
+}

@@ -6,7 +6,7 @@ ghost use Rattle.handles.specs.Views.{call_outcome, machine};
 
 use super::asking::{
     Asked, Asking, NewValue, Shown, Within, changing, count_of, each_value, filter_of, freeze,
-    passing, plainly, put, with_handle, worked,
+    passing, plainly, put, with_four, with_handle, worked,
 };
 use super::{LARGEST, assert_is, entries, of_path};
 use bulk_ops::{Answer, Asks, Part};
@@ -14,6 +14,7 @@ use combiner::{Both, Greatest, Least, Sum};
 use handles::{Call, CallReply, Command, Limits, Reply, Table, law_of_answers, law_of_foresight};
 use hash_path::PathKey;
 use std::alloc::Global;
+use std::panic::Expect;
 use std::process::Abort;
 use std::sync::Arc;
 use std::test::Fail;
@@ -209,13 +210,12 @@ fn each_call_is_foreseen(rt: HostRuntime) -> Result<(), Fail> {
 #[test]
 fn twins_make_no_request(rt: HostRuntime) -> Result<(), Fail> {
     let alloc = rt.alloc();
-    let mut table = with_handle(alloc)?;
-    put(alloc, &mut table, 1, 97, 4)?;
-    let (key, value) = (of_path(alloc, 97)?, Arc::new(alloc, 4)?);
+    let table = with_four(alloc)?;
+    let value = Arc::new(alloc, 4)?;
+    let get = Drawn::Serve(Call::On(1, Command::Get(of_path(alloc, 97)?)));
     let count = count_of(alloc, 4)?;
 
     let taken = take_all(alloc)?;
-    let get = Drawn::Serve(Call::On(1, Command::Get(key)));
     let found = foreseen(&table, &get);
     let viewed = foreseen(&table, &Drawn::View(1));
     let frozen = foreseen(&table, &Drawn::Freeze(1, count));
@@ -290,44 +290,42 @@ fn finished_as_foreseen(
     Ok((plainly(foreseen), plainly(told)))
 }
 
-// A job with the query on the map of handle 1 is told this, as was foreseen.
-fn assert_told(
-    rt: &impl Abort,
-    alloc: Global,
-    table: &mut Asking,
-    query: Asked,
-    want: Shown,
-) -> Result<(), Fail> {
+// What a job with the query on the map of handle 1 is foreseen to tell, and what it tells.
+fn job_told(alloc: Global, table: &mut Asking, query: Asked) -> Result<(Shown, Shown), Refusal> {
     let query = Arc::new(alloc, query)?;
     let (job, view) = freeze(table, 1, &query)?;
-    let (foreseen, told) = finished_as_foreseen(alloc, table, job, &view, &*query)?;
+    finished_as_foreseen(alloc, table, job, &view, &*query)
+}
+
+// A job with the query on the map of handle 1 is told this, as was foreseen.
+fn assert_told(rt: &impl Abort, alloc: Global, table: &mut Asking, query: Asked, want: Shown) {
+    let (foreseen, told) = job_told(alloc, table, query).expect(rt, "not told");
     assert_is(rt, foreseen == told, true);
     assert_is(rt, told, want);
-    Ok(())
 }
 
 #[test]
 fn each_finish_is_foreseen(rt: HostRuntime) -> Result<(), Fail> {
     let alloc = rt.alloc();
-    let mut table = with_handle(alloc)?;
+    let mut table = with_four(alloc)?;
     let map = &mut table;
-    put(alloc, map, 1, 97, 4)?;
     put(alloc, map, 1, 98, 5)?;
 
     let query = Asked::Count(passing(Within(4, 4)));
-    assert_told(&rt, alloc, map, query, Shown::Count(1))?;
+    assert_told(&rt, alloc, map, query, Shown::Count(1));
     let query = Asked::Exists(passing(Within(4, 4)));
-    assert_told(&rt, alloc, map, query, Shown::Truth(true))?;
+    assert_told(&rt, alloc, map, query, Shown::Truth(true));
     let query = Asked::ForAll(passing(Within(4, 4)));
-    assert_told(&rt, alloc, map, query, Shown::Truth(false))?;
+    assert_told(&rt, alloc, map, query, Shown::Truth(false));
     let query = Asked::Find(passing(Within(5, 5)));
-    assert_told(&rt, alloc, map, query, Shown::Found(Some((98, 5))))?;
+    assert_told(&rt, alloc, map, query, Shown::Found(Some((98, 5))));
     let query = Asked::Filter(passing(Within(4, 4)), 2);
-    assert_told(&rt, alloc, map, query, Shown::Made(1))?;
+    assert_told(&rt, alloc, map, query, Shown::Made(1));
     let query = Asked::MapValues(changing(NewValue(7)), 3);
-    assert_told(&rt, alloc, map, query, Shown::Made(2))?;
+    assert_told(&rt, alloc, map, query, Shown::Made(2));
     let query = Asked::Fold(Both(Sum, Both(Least, Greatest)), each_value());
-    assert_told(&rt, alloc, map, query, Shown::Item((9, (Some(4), Some(5)))))
+    assert_told(&rt, alloc, map, query, Shown::Item((9, (Some(4), Some(5)))));
+    Ok(())
 }
 
 // Why a table with no jobs would refuse to finish one.

@@ -1,34 +1,42 @@
 //! Calls that make no request for memory, with every request refused.
 use super::asking::{
-    self, Shown, abandon, close, count_of, filter_of, freeze, opened, plainly, worked,
+    self, Shown, abandon, close, count_of, filter_of, freeze, opened, plainly, with_four, worked,
 };
 use super::{
-    assert_is, call, drop_handle, entries, of_path, open, put, snapshot, view, with_handle,
+    assert_is, call, drop_handle, entries, of_path, open, put, snapshot, some, view, with_handle,
 };
 use handles::{CallReply, Command, Reply};
+use std::alloc::Global;
 use std::sync::Arc;
 use std::test::Fail;
-use test_keys::take_all;
+use test_keys::{ChosenKey, take_all};
 use versions::Refusal;
+
+// A get and a put of the key 97, which share it, so that the get gives no memory back.
+fn get_and_put(
+    alloc: Global,
+) -> Result<(Command<ChosenKey, i64>, Command<ChosenKey, i64>), Refusal> {
+    let key = of_path(alloc, 97)?;
+    let again = Arc::try_clone(&key)?;
+    Ok((Command::Get(key), Command::Put(again, Arc::new(alloc, 6)?)))
+}
 
 #[test]
 fn a_snapshot_a_view_a_get_and_a_drop_make_no_request(rt: HostRuntime) -> Result<(), Fail> {
     let alloc = rt.alloc();
     let mut table = with_handle(alloc)?;
     put(alloc, &mut table, 1, 97, 5)?;
-    let key = of_path(alloc, 97)?;
-    let again = Arc::try_clone(&key)?;
-    let value = Arc::new(alloc, 6)?;
-    let five = Ok(Reply::Old(Some(Arc::new(alloc, 5)?)));
+    let (get, again) = get_and_put(alloc)?;
+    let five = some(alloc, 5);
 
     let taken = take_all(alloc)?;
     let opened = open(alloc, &mut table, 3);
     let copied = snapshot(&mut table, 1, 2);
-    let found = call(alloc, &mut table, 2, Command::Get(key));
+    let found = call(alloc, &mut table, 2, get);
     let size = call(alloc, &mut table, 2, Command::Size);
     let viewed = view(&mut table, 2);
     let closed = view(&mut table, 3);
-    let before = call(alloc, &mut table, 1, Command::Put(again, value));
+    let before = call(alloc, &mut table, 1, again);
     let dropped = drop_handle(&mut table, 2);
     drop(taken);
 
@@ -48,8 +56,7 @@ fn a_snapshot_a_view_a_get_and_a_drop_make_no_request(rt: HostRuntime) -> Result
 #[test]
 fn a_finish_and_a_refused_freeze_make_no_request(rt: HostRuntime) -> Result<(), Fail> {
     let alloc = rt.alloc();
-    let mut table = asking::with_handle(alloc)?;
-    asking::put(alloc, &mut table, 1, 97, 4)?;
+    let mut table = with_four(alloc)?;
     let filter = filter_of(alloc, 4, 5)?;
     let (job, view) = freeze(&mut table, 1, &filter)?;
     let query = &*filter;
@@ -73,8 +80,7 @@ fn a_finish_and_a_refused_freeze_make_no_request(rt: HostRuntime) -> Result<(), 
 #[test]
 fn a_freeze_and_an_abandon_make_no_request(rt: HostRuntime) -> Result<(), Fail> {
     let alloc = rt.alloc();
-    let mut table = asking::with_handle(alloc)?;
-    asking::put(alloc, &mut table, 1, 97, 4)?;
+    let mut table = with_four(alloc)?;
     let count = count_of(alloc, 4)?;
 
     let taken = take_all(alloc)?;

@@ -2,7 +2,7 @@
 ghost use Rattle.std.specs.Prelude.{◌≡◌};
 ghost use Rattle.handles.specs.Views.{is_counted};
 
-use super::asking::{Asked, Asking, put, with_handle};
+use super::asking::{Asked, Asking, with_four};
 use super::foresight::{CALLS, SMALL, drawn_handle, drawn_service, state_of};
 use super::{assert_is, entries, of_path};
 use bulk_ops::Asks;
@@ -54,16 +54,26 @@ fn a_call_is_made_as_it_was_foreseen(rt: HostRuntime) -> Result<(), Fail> {
     Ok(())
 }
 
-// Commands on a map of the key 97 with the value 4: a get, a size, and writes whose condition does not hold.
-fn leaving(alloc: Global) -> Result<Vec<Command<ChosenKey, i64>>, Refusal> {
-    let five = || Arc::new(alloc, 5);
+// A command that leaves a map of the key 97 with the value 4: a get, a size, or a write whose condition does not hold.
+fn leaving(alloc: Global, number: u32) -> Result<Command<ChosenKey, i64>, Refusal> {
+    let key = of_path(alloc, 97)?;
+    let five = Arc::new(alloc, 5)?;
+    Ok(match number {
+        0 => Command::Get(key),
+        1 => Command::Size,
+        2 => Command::PutIfAbsent(key, five),
+        3 => Command::Replace(of_path(alloc, 98)?, five),
+        4 => Command::ReplaceIf(key, Arc::try_clone(&five)?, five),
+        _ => Command::RemoveIf(key, five),
+    })
+}
+
+// All six.
+fn all_leaving(alloc: Global) -> Result<Vec<Command<ChosenKey, i64>>, Refusal> {
     let mut commands = Vec::new(alloc);
-    commands.push(Command::Get(of_path(alloc, 97)?))?;
-    commands.push(Command::Size)?;
-    commands.push(Command::PutIfAbsent(of_path(alloc, 97)?, five()?))?;
-    commands.push(Command::Replace(of_path(alloc, 98)?, five()?))?;
-    commands.push(Command::ReplaceIf(of_path(alloc, 97)?, five()?, five()?))?;
-    commands.push(Command::RemoveIf(of_path(alloc, 97)?, five()?))?;
+    for number in 0..6 {
+        commands.push(leaving(alloc, number)?)?;
+    }
     Ok(commands)
 }
 
@@ -84,14 +94,18 @@ fn wanting(
     Ok(wanting)
 }
 
+// A put of a key that is not there.
+fn new_put(alloc: Global) -> Result<Command<ChosenKey, i64>, Refusal> {
+    Ok(Command::Put(of_path(alloc, 98)?, Arc::new(alloc, 5)?))
+}
+
 #[test]
 fn what_leaves_the_maps_makes_no_request(rt: HostRuntime) -> Result<(), Fail> {
     let alloc = rt.alloc();
-    let mut table = with_handle(alloc)?;
-    put(alloc, &mut table, 1, 97, 4)?;
+    let mut table = with_four(alloc)?;
     let before = state_of(&table);
-    let commands = leaving(alloc)?;
-    let new = Command::Put(of_path(alloc, 98)?, Arc::new(alloc, 5)?);
+    let commands = all_leaving(alloc)?;
+    let new = new_put(alloc)?;
 
     let taken = take_all(alloc)?;
     let put = served(alloc, &mut table, Call::On(1, new));
