@@ -12,6 +12,8 @@ use crate::plans::{Plan, TestCore, step_of};
 use crate::told::{Told, told_of};
 use handles::Limits;
 use std::alloc::Global;
+use std::fmt::Debug;
+use std::process::Abort;
 use std::test::Fail;
 
 // The largest limits.
@@ -24,4 +26,9 @@ const LARGEST: Limits = Limits {
 fn take_step(alloc: Global, core: &mut TestCore, plan: Plan) -> Result<Told, Fail> {
     let step = step_of(alloc, plan)?;
     Ok(told_of(&core.step(alloc, step)?))
+}
+
+// What is seen is what is wanted. An assertion is proved wherever it is written out, so it stands here once.
+fn assert_is<T: PartialEq + Debug + Drop>(rt: &impl Abort, seen: T, want: T) {
+    assert_eq!(rt; seen, want);
 }

@@ -3,6 +3,8 @@ mod calls;
 mod memory;
 mod threads;
 
+use std::fmt::Debug;
+use std::process::Abort;
 use std::sync::Arc;
 use test_keys::ChosenKey;
 use trie_map::{Anything, TrieMap, View};
@@ -21,4 +23,9 @@ fn key(digit: u32, id: u32) -> ChosenKey {
 // What a shared value is.
 fn plain(value: Option<Arc<u64>>) -> Option<u64> {
     value.map(|value| *value)
+}
+
+// What is seen is what is wanted. An assertion is proved wherever it is written out, so it stands here once.
+fn assert_is<T: PartialEq + Debug + Drop>(rt: &impl Abort, seen: T, want: T) {
+    assert_eq!(rt; seen, want);
 }

@@ -1,7 +1,9 @@
 //! The worked steps of one board, by hand: two keys, at the positions 0 and 3, two workers, a count of all pairs, and
 //! pieces of one pair.
 
+use super::assert_is;
 use crate::asks::{Ask, Asked, Within, query_of};
+use crate::maps::END;
 use bulk_ops::Part;
 use core_steps::{Board, Progress, first_board, law_of_jobs, work_on};
 use std::alloc::Global;
@@ -34,21 +36,21 @@ fn pieces_are_taken_cut_and_stolen(rt: HostRuntime) -> Result<(), Fail> {
     let query = query_of(Ask::Count(Within::ALL));
     let mut board = begun(rt.alloc(), &query)?;
     assert_eq!(rt; board.workers(), 2);
-    assert_eq!(rt; board.take(1), Progress::Idle);
+    assert_is(&rt, board.take(1), Progress::Idle);
     assert_eq!(rt; board.workers(), 2);
-    assert_eq!(rt; board.take(0), Progress::Took(0, 0x1_0000_0000));
+    assert_is(&rt, board.take(0), Progress::Took(0, END));
     assert_eq!(rt; board.workers(), 2);
-    assert_eq!(rt; board.split(0, 1)?, Progress::Cut(0, 3, 0x1_0000_0000));
+    assert_is(&rt, board.split(0, 1), Ok(Progress::Cut(0, 3, END)));
     assert_eq!(rt; board.workers(), 2);
-    assert_eq!(rt; board.split(0, 1)?, Progress::Whole);
+    assert_is(&rt, board.split(0, 1), Ok(Progress::Whole));
     assert_eq!(rt; board.workers(), 2);
-    assert_eq!(rt; board.take(0), Progress::Idle);
+    assert_is(&rt, board.take(0), Progress::Idle);
     assert_eq!(rt; board.workers(), 2);
-    assert_eq!(rt; board.steal(1, 0), Progress::Took(3, 0x1_0000_0000));
+    assert_is(&rt, board.steal(1, 0), Progress::Took(3, END));
     assert_eq!(rt; board.workers(), 2);
-    assert_eq!(rt; board.steal(1, 0), Progress::Idle);
-    assert!(rt; board.part(0).is_some());
-    assert!(rt; board.part(2).is_none());
+    assert_is(&rt, board.steal(1, 0), Progress::Idle);
+    assert_is(&rt, board.part(0).is_some(), true);
+    assert_is(&rt, board.part(2).is_none(), true);
     Ok(())
 }
 
@@ -59,13 +61,12 @@ fn pieces_are_worked(rt: HostRuntime) -> Result<(), Fail> {
     let mut board = first_board(alloc, &query, 2, two_pairs(alloc)?)?;
     law_of_jobs::<ChosenKey, u64, Asked>(&query);
     assert_eq!(rt; board.workers(), 2);
-    let took = board.take(0);
-    assert_eq!(rt; took, Progress::Took(0, 0x1_0000_0000));
+    assert_is(&rt, board.take(0), Progress::Took(0, END));
     assert_eq!(rt; board.workers(), 2);
-    let worked = work_on(alloc, &query, &mut board, 0)?;
-    assert_eq!(rt; worked, Progress::Worked(0, 0x1_0000_0000, 2, false));
+    let worked = work_on(alloc, &query, &mut board, 0);
+    assert_is(&rt, worked, Ok(Progress::Worked(0, END, 2, false)));
     match board.part(0) {
-        Some(Part::Number(number)) => assert_eq!(rt; *number, 2),
+        Some(Part::Number(number)) => assert_is(&rt, *number, 2),
         _ => assert!(rt; false, "a count has a number"),
     }
     Ok(())

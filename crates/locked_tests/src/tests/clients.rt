@@ -1,7 +1,7 @@
 //! Two clients, each on a thread of its own.
 ghost use Rattle.std.specs.Prelude.{⊤};
 
-use super::entries::{assert_filed, entries_of};
+use super::entries::{TestClosed, assert_filed, entries_of};
 use super::making::make;
 use super::model::assert_replayed;
 use super::outcomes::Outcome;
@@ -9,7 +9,7 @@ use super::questions::Query;
 use super::requests::{Do, Request, on, open, put};
 use super::{A, LARGEST, assert_is};
 use locked_map::{Client, MOST_SEATS, Room, Seat, SharedMap, with_clients};
-use std::alloc::Global;
+use std::alloc::{AllocError, Global};
 use std::process::Abort;
 use std::sync::Wait;
 use std::test::Fail;
@@ -48,23 +48,39 @@ impl Client<ChosenKey, u64, Query> for Pair {
     }
 }
 
+// What a client was told of its two requests.
+type Two = (Outcome, Outcome);
+
+fn put_one() -> Request {
+    put(A, 1)
+}
+
+fn add_two() -> Request {
+    on(1, Do::PutIfAbsent(A, 2))
+}
+
 // Both open the handle. Then one puts a value, and the other one puts another if there is none.
-fn one_round<R: AllocGlobal + Abort + Threads + Wait + Sync>(rt: &R) -> Result<(), Fail> {
-    let alloc = rt.alloc();
-    let put_one = put(A, 1);
-    let add_two = on(1, Do::PutIfAbsent(A, 2));
+fn both_clients(alloc: Global) -> Result<Vec<Pair>, AllocError> {
     let mut clients = Vec::new(alloc);
-    for second in [put_one, add_two] {
+    for second in [put_one(), add_two()] {
         clients.push(Pair {
             first: open(1),
             second,
         })?;
     }
-    assert!(rt; clients.len() <= MOST_SEATS as usize);
-    let (outs, closed) = with_clients(rt, alloc, LARGEST, clients)?;
+    Ok(clients)
+}
+
+// What both were told, where they were.
+fn both_told(outs: Vec<Result<Two, Refusal>>) -> Result<(Two, Two), Fail> {
     let mut outs = outs.into_iter();
     let one = outs.next().ok_or("what the first came to")??;
     let two = outs.next().ok_or("what the second came to")??;
+    Ok((one, two))
+}
+
+// One opened the handle, and one put was the first.
+fn assert_told(rt: &impl Abort, one: Two, two: Two) {
     let taken = Outcome::Refused(Refusal::Taken);
     let opened = [(Outcome::Unit, taken), (taken, Outcome::Unit)];
     assert!(rt; opened.contains(&(one.0, two.0)));
@@ -73,13 +89,33 @@ fn one_round<R: AllocGlobal + Abort + Threads + Wait + Sync>(rt: &R) -> Result<(
         (Outcome::Old(Some(2)), Outcome::Old(None)),
     ];
     assert!(rt; put.contains(&(one.1, two.1)));
+}
+
+// The journal has what both were told.
+fn assert_journal(
+    rt: &impl Abort,
+    alloc: Global,
+    closed: &TestClosed,
+    one: Two,
+    two: Two,
+) -> Result<(), Fail> {
     assert_is(rt, closed.journal.len(), 4);
-    let entries = entries_of(alloc, &closed)?;
-    let filed = [(open(1), one.0), (put_one, one.1)];
+    let entries = entries_of(alloc, closed)?;
+    let filed = [(open(1), one.0), (put_one(), one.1)];
     assert_filed(rt, alloc, &entries, 0, &filed)?;
-    let filed = [(open(1), two.0), (add_two, two.1)];
+    let filed = [(open(1), two.0), (add_two(), two.1)];
     assert_filed(rt, alloc, &entries, 1, &filed)?;
-    assert_replayed(rt, alloc, LARGEST, &closed, &entries)
+    assert_replayed(rt, alloc, LARGEST, closed, &entries)
+}
+
+fn one_round<R: AllocGlobal + Abort + Threads + Wait + Sync>(rt: &R) -> Result<(), Fail> {
+    let alloc = rt.alloc();
+    let clients = both_clients(alloc)?;
+    assert!(rt; clients.len() <= MOST_SEATS as usize);
+    let (outs, closed) = with_clients(rt, alloc, LARGEST, clients)?;
+    let (one, two) = both_told(outs)?;
+    assert_told(rt, one, two);
+    assert_journal(rt, alloc, &closed, one, two)
 }
 
 #[test]

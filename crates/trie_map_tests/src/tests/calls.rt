@@ -1,7 +1,8 @@
 //! Calls by one thread.
-use super::{Map, Seen, key, plain};
+use super::{Map, Seen, assert_is, key, plain};
 use combiner::Sum;
 use std::alloc::Global;
+use std::process::Abort;
 use std::sync::Wait;
 use std::test::Fail;
 use test_keys::ChosenKey;
@@ -51,15 +52,21 @@ fn written_anew<R: Wait>(rt: &R, map: &Map) -> Result<[Option<u64>; 4], Refusal>
     ])
 }
 
+// The value that the map has.
+fn at<R: Wait>(rt: &R, map: &Map, key: ChosenKey) -> Result<Option<u64>, NoMemory> {
+    Ok(plain(map.get(rt, &key)?))
+}
+
 #[test]
 fn writes_of_one_key(rt: HostRuntime) -> Result<(), Fail> {
     let map: Map = TrieMap::new(&rt)?;
-    let answers = written(&rt, &map)?;
-    assert_eq!(rt; answers, [None, None, Some(5), Some(6), Some(6), Some(8)]);
-    assert_eq!(rt; exchanged(&rt, &map)?, [false, true, true]);
-    assert_eq!(rt; plain(map.get(&rt, &key(3, 0))?), Some(9));
-    assert_eq!(rt; removed(&rt, &map)?, [false, true, false]);
-    assert_eq!(rt; written_anew(&rt, &map)?, [None, None, Some(2), None]);
+    let answers = [None, None, Some(5), Some(6), Some(6), Some(8)];
+    assert_is(&rt, written(&rt, &map), Ok(answers));
+    assert_is(&rt, exchanged(&rt, &map), Ok([false, true, true]));
+    assert_is(&rt, at(&rt, &map, key(3, 0)), Ok(Some(9)));
+    assert_is(&rt, removed(&rt, &map), Ok([false, true, false]));
+    let answers = [None, None, Some(2), None];
+    assert_is(&rt, written_anew(&rt, &map), Ok(answers));
     assert!(rt; map.is_empty(&rt));
     Ok(())
 }
@@ -79,23 +86,25 @@ fn seen(view: &Seen, key: ChosenKey) -> Option<u64> {
     view.get(&key).map(|value| **value)
 }
 
+// At each digit, the map has no key any more; its view and its snapshot have both.
+fn assert_kept<R: Abort + Wait>(rt: &R, map: &Map, view: &Seen, snapshot: &Map) {
+    assert_is(rt, (map.len(rt), view.len(), snapshot.len(rt)), (0, 64, 64));
+    for digit in 0..32 {
+        assert_is(rt, map.contains_key(rt, &key(digit, 0)), false);
+        assert_is(rt, seen(view, key(digit, 0)), Some(1));
+        assert_is(rt, at(rt, snapshot, key(digit, 1)), Ok(Some(2)));
+    }
+}
+
 #[test]
 fn keys_of_every_first_digit(rt: HostRuntime) -> Result<(), Fail> {
     let map: Map = TrieMap::new(&rt)?;
     fill(&rt, rt.alloc(), &map)?;
     let view = map.view(&rt)?;
     let snapshot = map.snapshot(&rt)?;
-    assert_eq!(rt; map.len(&rt), 64);
+    assert_is(&rt, map.len(&rt), 64);
     map.clear(&rt)?;
-    assert_eq!(rt; (map.len(&rt), view.len(), snapshot.len(&rt)), (0, 64, 64));
-    for digit in 0..32 {
-        let there = map.contains_key(&rt, &key(digit, 0));
-        let kept = plain(snapshot.get(&rt, &key(digit, 1))?);
-        assert_eq!(rt;
-            (there, seen(&view, key(digit, 0)), kept),
-            (false, Some(1), Some(2))
-        );
-    }
+    assert_kept(&rt, &map, &view, &snapshot);
     Ok(())
 }
 
@@ -106,6 +115,14 @@ fn at_two<R: Wait>(rt: &R, map: &Map) -> Result<(Option<u64>, Option<u64>), NoMe
     Ok((first, last))
 }
 
+// Writes of a map, of its snapshot, and of the snapshot's.
+fn write_apart<R: Wait>(rt: &R, map: &Map, snapshot: &Map, again: &Map) -> Result<(), Refusal> {
+    map.put(rt, key(0, 0), 10)?;
+    snapshot.put(rt, key(31, 0), 20)?;
+    again.remove(rt, &key(0, 0))?;
+    Ok(())
+}
+
 #[test]
 fn a_snapshot_and_its_map_go_separate_ways(rt: HostRuntime) -> Result<(), Fail> {
     let map: Map = TrieMap::new(&rt)?;
@@ -113,12 +130,10 @@ fn a_snapshot_and_its_map_go_separate_ways(rt: HostRuntime) -> Result<(), Fail> 
     map.put(&rt, key(31, 0), 2)?;
     let snapshot = map.snapshot(&rt)?;
     let again = snapshot.snapshot(&rt)?;
-    map.put(&rt, key(0, 0), 10)?;
-    snapshot.put(&rt, key(31, 0), 20)?;
-    again.remove(&rt, &key(0, 0))?;
-    assert_eq!(rt; at_two(&rt, &map)?, (Some(10), Some(2)));
-    assert_eq!(rt; at_two(&rt, &snapshot)?, (Some(1), Some(20)));
-    assert_eq!(rt; at_two(&rt, &again)?, (None, Some(2)));
+    write_apart(&rt, &map, &snapshot, &again)?;
+    assert_is(&rt, at_two(&rt, &map), Ok((Some(10), Some(2))));
+    assert_is(&rt, at_two(&rt, &snapshot), Ok((Some(1), Some(20))));
+    assert_is(&rt, at_two(&rt, &again), Ok((None, Some(2))));
     Ok(())
 }
 
