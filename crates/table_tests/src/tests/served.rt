@@ -12,7 +12,7 @@ use std::alloc::Global;
 use std::sync::Arc;
 use std::test::Fail;
 use test_keys::{ChosenKey, Random, take_all};
-use versions::Refusal;
+use versions::{Refusal, View};
 
 // Whether a call that is answered so is an entry.
 fn is_counted<T>(answer: &Result<T, Refusal>) -> bool
@@ -94,6 +94,11 @@ fn wanting(
     Ok(wanting)
 }
 
+// A view of handle 1, which shares its nodes, so that each write has to copy some.
+fn viewed(table: &mut Asking) -> Result<View<ChosenKey, i64>, Refusal> {
+    table.view(1)
+}
+
 // A put of a key that is not there.
 fn new_put(alloc: Global) -> Result<Command<ChosenKey, i64>, Refusal> {
     Ok(Command::Put(of_path(alloc, 98)?, Arc::new(alloc, 5)?))
@@ -103,6 +108,7 @@ fn new_put(alloc: Global) -> Result<Command<ChosenKey, i64>, Refusal> {
 fn what_leaves_the_maps_makes_no_request(rt: HostRuntime) -> Result<(), Fail> {
     let alloc = rt.alloc();
     let mut table = with_four(alloc)?;
+    let view = viewed(&mut table)?;
     let before = state_of(&table);
     let commands = all_leaving(alloc)?;
     let new = new_put(alloc)?;
@@ -121,5 +127,6 @@ fn what_leaves_the_maps_makes_no_request(rt: HostRuntime) -> Result<(), Fail> {
         state_of(&table),
         (made.wrapping_add(12), live, pairs, stamps),
     );
+    assert_is(&rt, view.len(), 1);
     Ok(())
 }
