@@ -4,10 +4,14 @@ SCRIPT ?= examples/first.trie
 PREFIX ?= /usr/local
 PROGRAM := crates/trierun/out/trierun
 
-.PHONY: help run build check test install bench clean
+.PHONY: help try run build check test install bench clean
 
 help: ## Lists the targets.
 	@grep -E '^[a-z]+: .*## ' Makefile | sed -E 's/^([a-z]+):.*## /\1\t/' | expand -t 10
+
+try: ## Runs the program as it stands on SCRIPT, with no proof: for a first look, in about a minute.
+	@echo "make try: nothing is proved: the program as it stands is compiled and run, which takes about a minute; make run proves it" >&2
+	@file=$$(realpath -m -- "$(SCRIPT)") && cd crates/trierun && rt try -- "$$file"
 
 run: build ## Proves what the program needs, builds it, and runs it on SCRIPT.
 	@$(PROGRAM) $(SCRIPT)

@@ -4,7 +4,8 @@ use Rattle.std.specs.Prelude.{ℤ}
 use Rattle.versions.specs.Commands.{old}
 use Rattle.versions.specs.Map.{Map}
 use Rattle.handles.specs.Machine.{finish, frozen, replied}
-use Rattle.batch_cli.specs.Events.{ProgramOutcome, Event, reply_to, Ends}
+use Rattle.batch_cli.specs.Events.{Event, Ends}
+use Rattle.questions.specs.Program.{ProgramOutcome, reply_to}
 use Rattle.script.specs.declared.statement.Statement.{Statement}
 use Rattle.script.specs.declared.statement.Statement.TheVariants.{GetOrElse}
 use Rattle.script.specs.declared.reply.LineReply.{LineReply}

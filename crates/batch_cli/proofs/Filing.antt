@@ -20,7 +20,8 @@ use Rattle.script.specs.declared.statement.Statement.{Statement}
 use Rattle.script.specs.declared.statement.Statement.TheVariants.{GetOrElse}
 use Rattle.script.specs.declared.reply.LineReply.{LineReply}
 use Rattle.script.specs.declared.reply.LineReply.TheVariants.{Found, Refused}
-use Rattle.batch_cli.specs.Events.{ProgramTold, ProgramRequest, ProgramOutcome, Event, Ends, Makes, or_else_in, reply_to, request_for}
+use Rattle.batch_cli.specs.Events.{Event, Ends, Makes}
+use Rattle.questions.specs.Program.{ProgramTold, ProgramRequest, ProgramOutcome, or_else_in, reply_to, request_for}
 use Rattle.batch_cli.specs.Filing.{ProgramSeat, Files, FilesAnswer, FilesJob, FilesOrElse, FilesReply, FilesService, event_of, events_at}
 use Rattle.batch_cli.proofs.Ends.{missing_or_done}
 

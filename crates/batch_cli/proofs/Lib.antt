@@ -1,4 +1,3 @@
-pub mod Asked
 pub mod Ends
 pub mod Filing
 pub mod Lines

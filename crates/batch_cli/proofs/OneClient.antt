@@ -7,8 +7,10 @@ use Rattle.std.specs.Prelude.{All, map}
 use Rattle.handles.specs.Machine.{nothing, Run}
 use Rattle.journal.specs.Journals.{own, requests_in, outcomes_in}
 use Rattle.script.specs.declared.statement.CommandLine.{CommandLine}
-use Rattle.batch_cli.specs.Events.{program, ProgramState, Event, IsRun}
-use Rattle.batch_cli.specs.Runs.{LineAnswer, EachMakes, events_of, beside, ProgramEntry, events_in, largest, IsRunOf}
+use Rattle.batch_cli.specs.Events.{Event, IsRun}
+use Rattle.questions.specs.Program.{program, ProgramState}
+use Rattle.batch_cli.specs.Runs.{LineAnswer, EachMakes, events_of, beside, ProgramEntry, events_in, IsRunOf}
+use Rattle.questions.specs.Program.{largest}
 
 -- all lines are this client's
 abbrev pub AreOf : ℕ → List CommandLine → Type 0

@@ -8,8 +8,10 @@ use Rattle.std.proofs.lemmas.List.Elements.{All-head, All-more, All-tail}
 use Rattle.journal.specs.Journals.{IsLegal, own}
 use Rattle.script.specs.declared.statement.CommandLine.{CommandLine}
 use Rattle.script.specs.declared.reply.LineReply.{LineReply}
-use Rattle.batch_cli.specs.Events.{program, Event, ProgramState}
-use Rattle.batch_cli.specs.Runs.{AreMerged, AreRepliesTo, EachMakes, IsRunOf, LineAnswer, LinesMake, ProgramEntry, events_in, largest, lines_by, replies_in, text_for}
+use Rattle.batch_cli.specs.Events.{Event}
+use Rattle.questions.specs.Program.{program, ProgramState}
+use Rattle.batch_cli.specs.Runs.{AreMerged, AreRepliesTo, EachMakes, IsRunOf, LineAnswer, LinesMake, ProgramEntry, events_in, lines_by, replies_in, text_for}
+use Rattle.questions.specs.Program.{largest}
 use Rattle.locked_map.proofs.Seating.{listed_more, some_of}
 use Rattle.batch_cli.proofs.Assembled.{assembled, no_events_of}
 

@@ -6,8 +6,9 @@ use Rattle.locked_map.specs.Seats.{Placed, Seated}
 use Rattle.script.specs.declared.statement.Statement.{Statement}
 use Rattle.script.specs.declared.statement.Statement.TheVariants.{GetOrElse}
 use Rattle.script.specs.declared.reply.LineReply.{LineReply}
-use Rattle.batch_cli.specs.Events.{ProgramTold, ProgramRequest, ProgramOutcome, Event, Makes, reply_to}
-use Rattle.batch_cli.specs.Queries.{ScriptQuestion}
+use Rattle.batch_cli.specs.Events.{Event, Makes}
+use Rattle.questions.specs.Program.{ProgramTold, ProgramRequest, ProgramOutcome, reply_to}
+use Rattle.questions.specs.Queries.{ScriptQuestion}
 
 -- the seat of a client
 abbrev pub ProgramSeat : Type 0

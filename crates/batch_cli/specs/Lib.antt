@@ -2,6 +2,3 @@ pub mod Events
 pub mod Filing
 pub mod Runs
 pub mod CommandLine
-pub mod Folds
-pub mod FoldLaws
-pub mod Queries

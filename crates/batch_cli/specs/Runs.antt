@@ -2,12 +2,12 @@
 use Rattle.std.specs.Prelude.{◌≡◌, ◌<◌, ◌==◌, ℕ, ℤ, Bool, true, false, All, List, [], ◌∷◌, ◌++◌, Option, cond, filter, length, map, set, slice_index_or}
 use Rattle.std.specs.Io.KnownBytes.{Appends}
 use Rattle.std.specs.List.{flat_map}
-use Rattle.handles.specs.declared.limits.Limits.{Limits}
 use Rattle.journal.specs.Journals.{Entered, IsLegal, own}
 use Rattle.script.specs.Replies.{line_text}
 use Rattle.script.specs.Scripts.{Spells}
-use Rattle.batch_cli.specs.Events.{program, ProgramState, ProgramTold, Event, Makes}
-use Rattle.batch_cli.specs.Queries.{ScriptQuestion}
+use Rattle.batch_cli.specs.Events.{Event, Makes}
+use Rattle.questions.specs.Program.{largest, program, ProgramState, ProgramTold}
+use Rattle.questions.specs.Queries.{ScriptQuestion}
 use Rattle.script.specs.declared.statement.Statement.{Statement}
 use Rattle.script.specs.declared.statement.Statement.TheVariants.{Find}
 use Rattle.script.specs.declared.statement.CommandLine.{CommandLine}
@@ -64,10 +64,6 @@ pub record LinesMake (lines : List CommandLine) (events : List Event) (replies :
   pub made : EachMakes lines answers
   pub events_are : events ≡ events_of answers
   pub replies_are : replies ≡ replies_in answers
-
--- how much the maps and the journal of a script may hold
-abbrev pub largest : Limits
-largest = record { pairs = 16777216; entries = 1048576 }
 
 -- a run of the script has this journal and this text: the journal is legal; each line makes the events of its answer, and has its reply;
 -- the entries of each seat are the events of the lines of its client, in their order, and so a seat without lines has none;

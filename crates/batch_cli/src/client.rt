@@ -2,9 +2,9 @@
 
 use crate::events::{ProgramMap, ProgramSeat, answer};
 use crate::gate::LineGate;
-use crate::query::ScriptQuery;
 use keys::ByteText;
 use locked_map::{Client, Room};
+use questions::ScriptQuery;
 use script::{CommandLine, LineReply};
 use std::alloc::Global;
 use std::sync::Wait;

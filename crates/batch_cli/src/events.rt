@@ -4,16 +4,14 @@ ghost use Rattle.std.specs.Prelude.{◌≡◌, IfOk, OnErr, OnOk, Some, false, t
 ghost use Rattle.std.specs.Arc.{arc_value};
 ghost use Rattle.handles.specs.Machine.{is_entry, view};
 ghost use Rattle.handles.specs.Views.{is_counted, outcome_of, request_of};
-ghost use Rattle.batch_cli.specs.Events.{reply_to};
+ghost use Rattle.questions.specs.Program.{reply_to};
 ghost use Rattle.batch_cli.specs.Filing.{FilesAnswer, FilesOrElse, FilesReply};
 
-use crate::ask::{Ask, ask_of};
 use crate::jobs::worked;
-use crate::listing::listing_of;
-use crate::query::ScriptQuery;
 use handles::{Call, CallReply, Reply};
 use keys::ByteText;
 use locked_map::{Room, Seat, SharedMap};
+use questions::{Ask, ScriptQuery, ask_of, listing_of};
 use script::{LineReply, Statement};
 use std::alloc::Global;
 use std::sync::{Arc, Wait};

@@ -1,19 +1,17 @@
 //! The jobs of bulk verbs: each is a freeze, the work over the whole frozen map with no lock held, and a finish.
 
 ghost use Rattle.std.specs.Prelude.{◌≡◌, IfOk};
-ghost use Rattle.bulk_ops.specs.Told.{told_of};
 ghost use Rattle.handles.specs.Machine.{finish, freeze};
-ghost use Rattle.batch_cli.specs.Events.{told_reply};
 ghost use Rattle.batch_cli.specs.Filing.{FilesReply, FilesService};
-ghost use Rattle.batch_cli.specs.Queries.{IsPartFor};
+ghost use Rattle.questions.specs.Queries.{IsPartFor};
 
 use crate::events::{ProgramMap, ProgramSeat, refused};
-use crate::query::{ScriptPart, ScriptQuery};
-use bulk_ops::{Answer, work};
+use bulk_ops::work;
 use iter::parts_follow_intervals;
 use keys::ByteText;
 use locked_map::{Room, Ticket};
-use script::{LineReply, MapKey};
+use questions::{ScriptPart, ScriptQuery, told};
+use script::LineReply;
 use splitter::whole;
 use std::alloc::Global;
 use std::sync::{Arc, Wait};
@@ -65,19 +63,4 @@ fn part_of(
     parts_follow_intervals::<ByteText, i64>();
     let piece = whole(alloc, view);
     work(alloc, &piece, query)
-}
-
-/// The reply that tells the answer.
-fn told(answer: Answer<ByteText, i64, Option<i128>>) -> LineReply
-    ensures { result ≡ told_reply (told_of answer) }
-{
-    match answer {
-        Answer::Count(number) => LineReply::Count(number),
-        Answer::Truth(truth) => LineReply::Truth(truth),
-        Answer::Found(Some((key, value))) => LineReply::Pair(MapKey::new(key), *value),
-        Answer::Found(None) => LineReply::Absent,
-        Answer::Made(pairs) => LineReply::Count(pairs),
-        Answer::Item(Some(number)) => LineReply::Item(number),
-        Answer::Item(None) => LineReply::Absent,
-    }
 }

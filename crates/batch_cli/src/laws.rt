@@ -4,9 +4,9 @@ ghost use Rattle.std.specs.Prelude.{◌≡◌, ℕ, List};
 ghost use Rattle.batch_cli.specs.Runs.{FindsNoPair, HasOneClient, IsOutputOf};
 ghost use Rattle.script.specs.declared.statement.CommandLine.{CommandLine};
 
-use crate::query::ScriptQuery;
 use handles::law_of_freezes;
 use keys::ByteText;
+use questions::{ScriptQuery, finishes_tell_one_answer, requests_have_one_outcome};
 
 /// What is written for a script of one client is a function of the script, if no line of it is a `find`, which may be
 /// answered any pair that passes.
@@ -14,4 +14,6 @@ pub fn script_has_one_output()
     ensures { (script : List CommandLine) (one other : List ℕ) → HasOneClient script → FindsNoPair script → IsOutputOf script one → IsOutputOf script other → one ≡ other }
 {
     law_of_freezes::<ByteText, i64, ScriptQuery>();
+    requests_have_one_outcome();
+    finishes_tell_one_answer();
 }

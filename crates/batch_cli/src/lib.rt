@@ -6,18 +6,13 @@
 #![tactic(auto)]
 
 mod arguments;
-mod ask;
 mod client;
-mod closures;
 mod events;
-mod fold;
 mod gate;
 mod input;
 mod jobs;
 mod laws;
-mod listing;
 mod merge;
-mod query;
 mod run;
 mod status;
 mod words;
@@ -27,7 +22,7 @@ pub use client::ScriptClient;
 pub use gate::{Free, LineGate};
 pub use input::read_script;
 pub use laws::script_has_one_output;
-pub use query::ScriptQuery;
+pub use questions::ScriptQuery;
 pub use run::{Journal, RunFault, run_script};
 pub use script::{
     CommandLine, Folding, Key, LineReply, Listing, MapKey, Mapping, Reason, Script, ScriptFault,

@@ -88,17 +88,17 @@ fn values() -> StoredItem<ChosenKey, i64, ThreeItems, EachValue> {
     Stored::new(EachValue)
 }
 
-fn chosen(path: u32, id: u32) -> ChosenKey {
+fn chosen(path: u64, id: u32) -> ChosenKey {
     ChosenKey { path, id }
 }
 
-// The first pairs of three: key 2 at position 0 and key 3 at position 3 have the greatest value, key 1 at position 2^27
+// The first pairs of three: key 2 at position 0 and key 3 at position 12 have the greatest value, key 1 at position 2^59
 // has the least.
 fn first(alloc: Global, number: usize) -> Result<View<ChosenKey, i64>, Fail> {
     let mut version = Version::empty(alloc, 100, Stamp(1))?;
     let pairs = [
         (chosen(0, 2), i64::MAX),
-        (chosen(0xc000_0000, 3), i64::MAX),
+        (chosen(0xc000_0000_0000_0000, 3), i64::MAX),
         (chosen(1, 1), i64::MIN),
     ];
     for (key, value) in pairs.into_iter().take(number) {
@@ -111,7 +111,7 @@ fn first(alloc: Global, number: usize) -> Result<View<ChosenKey, i64>, Fail> {
 fn at_three(made: &Version<ChosenKey, i64>) -> (Option<i64>, Option<i64>, Option<i64>) {
     (
         at(made, chosen(0, 2)),
-        at(made, chosen(0xc000_0000, 3)),
+        at(made, chosen(0xc000_0000_0000_0000, 3)),
         at(made, chosen(1, 1)),
     )
 }

@@ -1,4 +1,5 @@
-//! What scripts print and what their journals have, by hand.
+//! What scripts print and what their journals have, by hand. Most scripts with their replies are cases of the built
+//! program, which `tests/programs` compares.
 mod clients;
 mod command_line;
 mod contention;
@@ -8,8 +9,6 @@ mod failures;
 mod gates;
 mod journals;
 mod memory;
-mod operations;
-mod questions;
 mod scripts;
 
 use batch_cli::{Journal, LineGate, Options, execute, parse_script, run_script};
@@ -63,17 +62,4 @@ fn assert_is<T: PartialEq + Debug + Drop>(rt: &impl Abort, seen: T, want: T) {
 /// The same for texts.
 fn assert_text(rt: &impl Abort, seen: &str, want: &str) {
     assert_eq!(rt; seen, want);
-}
-
-/// Whether the script ends well and prints these lines, and no more.
-fn prints<R: AllocGlobal + Abort + Threads + Wait + Sync>(
-    rt: &R,
-    script: &[u8],
-    replies: &str,
-) -> Result<(), Fail> {
-    let (status, out, err) = executed(rt, script)?;
-    assert_text(rt, out.as_str(), replies);
-    assert_text(rt, err.as_str(), "");
-    assert_is(rt, status, 0);
-    Ok(())
 }

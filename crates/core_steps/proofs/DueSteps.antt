@@ -7,15 +7,22 @@ use Rattle.versions.specs.declared.refusal.Refusal.TheVariants.{NoHandle, Taken,
 use Rattle.trie_shape.specs.declared.no_memory.NoMemory as want
 use Rattle.handles.specs.declared.call_reply.CallReply.{CallReply}
 use Rattle.handles.specs.Machine.{Kind, Request, open_handle, snapshot, drop_handle, on, view, freeze, finish, abandon, worker_step}
-use Rattle.handles.specs.Views.{AnswersWithoutMemory, lacks_memory}
+use Rattle.handles.specs.Views.{AnswersWithoutMemory, lacks_memory, request_of}
+use Rattle.handles.specs.declared.call.Call.{Call}
+use Rattle.handles.specs.declared.call.Call.TheVariants.{Open, Snapshot, Drop, On}
 use Rattle.core_steps.specs.declared.outcome.Outcome.{Outcome}
-use Rattle.core_steps.specs.Cores.{of_client}
-use Rattle.core_steps.specs.Steps.{refused_outcome, call_told, takes_no_memory, view_told}
+use Rattle.core_steps.specs.Cores.{CoreState, Division, of_client}
+use Rattle.core_steps.specs.Steps.{MayFinish, refused_outcome, call_told, takes_no_memory, view_told}
 
 -- what holds in any case holds at an error
 pub at_err : {A E P : Type 0} (result : Result A E) → P → OnErr result P
 at_err (Ok x) p = tt
 at_err (Err e) p = p
+
+-- what follows at an error
+pub if_err : {A E : Type 0} (P Q : Type 0) (result : Result A E) → (P → Q) → OnErr result P → OnErr result Q
+if_err P Q (Ok x) f p = tt
+if_err P Q (Err e) f p = f p
 
 clash : {P : Type 0} → true ≡ false → P
 clash h = cc
@@ -36,6 +43,13 @@ request_takes kind worker_step answer never lacks = refl
 request_takes kind (drop_handle h) answer never lacks = taking_some _ _ never lacks
 request_takes kind (abandon j) answer never lacks = taking_some _ _ never lacks
 request_takes kind (on h x) answer never lacks = taking_some _ _ never lacks
+
+-- a call is no finish
+pub call_may : {K V Q : Type 0} (division : Division K V Q) (s : CoreState K V Q) (c : Call K V) → MayFinish division s (of_client (request_of c))
+call_may division s (Open h) = tt
+call_may division s (Snapshot h to) = tt
+call_may division s (Drop h) = tt
+call_may division s (On h c) = tt
 
 module _ {K V I : Type 0} (P : Type 0) (result : Result (Outcome K V I) want.NoMemory) where
   -- what is told of a refusal by the table, where P holds if that is for want of memory

@@ -9,8 +9,8 @@ use Rattle.std.proofs.lemmas.Bool.{cases_Bool}
 use Rattle.std.proofs.lemmas.Bool.Decides.{nat_tests}
 use Rattle.std.proofs.lemmas.List.{length-map, set-get_or}
 use Rattle.std.proofs.lemmas.List.Elements.{All-get_or}
-use Rattle.std.proofs.lemmas.Option.{slice_get_read, slice_get_within, get_or_from_slice_get}
-use Rattle.versions.specs.Map.{Map, value_at}
+use Rattle.std.proofs.lemmas.Option.{slice_get-map, slice_get_read, slice_get_within, get_or_from_slice_get}
+use Rattle.versions.specs.Map.{Map, value_at, with_pair}
 use Rattle.versions.specs.declared.refusal.Refusal.TheVariants.{NoWorker}
 use Rattle.bulk_ops.specs.Answers as plain
 use Rattle.handles.specs.Machine.{Kind, State, Job, freeze, finish, frozen, Step, job_at, refusal}
@@ -22,17 +22,18 @@ use Rattle.core_steps.specs.Views.{turn_of}
 use Rattle.core_steps.specs.declared.progress.Progress.{Progress}
 use Rattle.core_steps.specs.declared.post.Post.{Post}
 use Rattle.core_steps.specs.Cores.{of_client, of_worker, IsUnfinished, worked_part, refusal_of}
-use Rattle.core_steps.specs.Desks.{Station, board, result_of, results, HasPart, IsJobOn}
-use Rattle.core_steps.specs.Collected.{IsCollected}
+use Rattle.core_steps.specs.Desks.{Station, board, desk_parts, result_of, results, HasPart, IsJobOn}
+use Rattle.core_steps.specs.Collected.{IsCollected, MayCollect}
 use Rattle.core_steps.specs.Moves.{MovesTo}
-use Rattle.core_steps.specs.Posts.{Posted, Fits, IsPlaceOf, IsWhole, core_of, post_of, posts_of}
+use Rattle.core_steps.specs.Posts.{Posted, Fits, IsPlaceOf, IsWhole, core_of, value_of, post_of, posts_of, all_parts}
+use Rattle.core_steps.specs.Parts.{part_at}
 use Rattle.core_steps.specs.Queries.{divided}
 use Rattle.core_steps.specs.declared.outcome.Outcome.TheVariants as outcomes
 use Rattle.core_steps.specs.Steps.{StepsTo}
 use Rattle.core_steps.proofs.KeptBoards.{CutsWithin}
-use Rattle.core_steps.proofs.Postings.{AllBelow, below_all_values, push_is_put, set_is_put, value_here, number_here}
+use Rattle.core_steps.proofs.Postings.{same_parts, parts_here, AllBelow, below_all_values, push_is_put, set_is_put, value_here, number_here}
 use Rattle.core_steps.proofs.Stations.{worker_is}
-use Rattle.core_steps.proofs.WholeSteps.{IsOpen, is_open, long_desks, frozen_whole, not_refused, unfinished_whole, collected_whole, refusal_is, no_worker, moved_whole}
+use Rattle.core_steps.proofs.WholeSteps.{IsOpen, is_open, long_desks, frozen_whole, not_refused, unfinished_whole, collected_whole, may_finish, refusal_is, no_worker, moved_whole}
 use Rattle.core_steps.proofs.Workings.{result_at}
 
 -- what stands at a place
@@ -99,9 +100,9 @@ module _ {K V Q P A I : Type 0} (R : K → K → Ordering) (path : K → ℕ) (a
 
     pub pushed_whole : (t : State K V Q) (h : ℕ) (q : Q) (m : Map K V) (p : Post K V Q P) → Step kind s (freeze h q) (frozen p.number m) t → arc_value p.query ≡ q → ready q
         → IsJobOn R path (answers (arc_value p.query)) m p.board → board p.board ≡ first_board w
-        → StepsTo kind (divided path Decides) (core_of s (posts_of ps) w g) (of_client (freeze h q)) (outcomes.Frozen p.number) (core_of t (posts_of (ps ++ p ∷ [])) w g) × IsWhole R path answers ready t (posts_of (ps ++ p ∷ [])) w g
+        → StepsTo kind (divided path Decides) (value_of s (posts_of ps) w g) (of_client (freeze h q)) (outcomes.Frozen p.number) (value_of t (posts_of (ps ++ p ∷ [])) w g) × IsWhole R path answers ready t (posts_of (ps ++ p ∷ [])) w g
     pushed_whole t h q m p step same can job first =
-        subst (λ (posts : Map ℕ (Posted K V Q P)). StepsTo kind (divided path Decides) (core_of s (posts_of ps) w g) (of_client (freeze h q)) (outcomes.Frozen p.number) (core_of t posts w g) × IsWhole R path answers ready t posts w g)
+        subst (λ (posts : Map ℕ (Posted K V Q P)). StepsTo kind (divided path Decides) (value_of s (posts_of ps) w g) (of_client (freeze h q)) (outcomes.Frozen p.number) (value_of t posts w g) × IsWhole R path answers ready t posts w g)
         (sym (push_is_put ps p (new_number p.number step.1.0)))
         (frozen_whole R path answers ready kind Decides cuts s t (posts_of ps) w g h p.number q m (post_of p).1 step same (subst ready (sym same) can) job first is)
 
@@ -134,6 +135,12 @@ module _ {K V Q P A I : Type 0} (R : K → K → Ordering) (path : K → ℕ) (a
               subst (λ (q : Q). answers q (worked_part (divided path Decides) (core_of s (posts_of ps) w g) j k) (f x)) (stands.has.query ∙ ap (λ (y : Job K V Q). y.query) its)
               (subst (λ (n : Map K V). answers (arc_value d.query) n (f x)) (λ i. parts path (sym stands.map_is i) (worker (sym stands.board_is i) k).worked) h)
 
+      -- the part is the one that the core shows
+      pub part_shown : {X : Type 0} (f : X → P) (o : Option X) (d : Post K V Q P) (k : ℕ) → d ≡ get_or ps place d → option_map f o ≡ option_map (λ x. x.part) (slice_get d.board k)
+          → option_map f o ≡ part_at (all_parts (posts_of ps)) j k
+      part_shown f o d k read same =
+          same ∙ sym (slice_get-map (λ (x : Station K V P). x.part) d.board k) ∙ ap (λ (qs : List P). slice_get qs k) (sym (parts_here (posts_of ps) j (post_of d).1 (open_here d read).here))
+
       -- a finish of it is not refused, nor a move of its workers
       pub finish_unrefused : refusal kind s (finish j) ≡ None
       finish_unrefused =
@@ -149,7 +156,7 @@ module _ {K V Q P A I : Type 0} (R : K → K → Ordering) (path : K → ℕ) (a
       -- 3. It is collected.
       pub unfinished_here : (d : Post K V Q P) (q : Q) (o : Option P) → d ≡ get_or ps place d → q ≡ arc_value d.query → o ≡ None
           → ((m : Map K V) → IsJobOn R path (answers q) m d.board → IsCollected path (answers q) (Decides q) m d.board o)
-          → StepsTo kind (divided path Decides) (core_of s (posts_of ps) w g) (of_client (finish j)) outcomes.Unfinished (core_of s (posts_of ps) w g)
+          → StepsTo kind (divided path Decides) (value_of s (posts_of ps) w g) (of_client (finish j)) outcomes.Unfinished (value_of s (posts_of ps) w g)
       unfinished_here d q o read same none collects =
           let stands = open_here d read in
           let left = subst (λ (r : Q). IsCollected path (answers r) (Decides r) stands.job.frozen d.board o) same (collects stands.job.frozen (subst (λ (r : Q). IsJobOn R path (answers r) stands.job.frozen d.board) (sym same) stands.has.desks)) in
@@ -166,24 +173,35 @@ module _ {K V Q P A I : Type 0} (R : K → K → Ordering) (path : K → ℕ) (a
             both.1,
           )
 
+      -- where it may be collected, a finish of it is not told that it is unfinished
+      pub may_finish_here : (d : Post K V Q P) (q : Q) → d ≡ get_or ps place d → q ≡ arc_value d.query → ((m : Map K V) → IsJobOn R path (answers q) m d.board → MayCollect path (answers q) (Decides q) m d.board)
+          → IsUnfinished (divided path Decides) (core_of s (posts_of ps) w g) j → ⊥
+      may_finish_here d q read same may =
+          let stands = open_here d read in
+          may_finish R path answers ready kind Decides cuts s (posts_of ps) w g j (post_of d).1 stands
+          (subst (λ (r : Q). MayCollect path (answers r) (Decides r) stands.job.frozen d.board) same (may stands.job.frozen (subst (λ (r : Q). IsJobOn R path (answers r) stands.job.frozen d.board) (sym same) stands.has.desks))) is
+
       -- 4. A worker moves on it, or is none of its workers.
       pub other_here : (x : Move) → list_any (λ v. nat_le w v) (named_by x) ≡ true
-          → StepsTo kind (divided path Decides) (core_of s (posts_of ps) w g) (of_worker j x) (outcomes.Refused NoWorker) (core_of s (posts_of ps) w g)
+          → StepsTo kind (divided path Decides) (value_of s (posts_of ps) w g) (of_worker j x) (outcomes.Refused NoWorker) (value_of s (posts_of ps) w g)
       other_here x e =
           let found = there_is ps place lies.inside in
           no_worker R path answers ready kind Decides cuts s (posts_of ps) w g j x (post_of found.0).1 (open_here found.0 found.1) e
 
       pub moved_here : (d : Post K V Q P) (x : Move) (p : Progress) (q : Q) (es : List (Station K V P)) → d ≡ get_or ps place d → q ≡ arc_value d.query → list_any (λ v. nat_le w v) (named_by x) ≡ false
           → ((m : Map K V) → IsJobOn R path (answers q) m d.board → MovesTo R path (answers q) (Decides q) m g d.board x (turn_of p) es)
-          → StepsTo kind (divided path Decides) (core_of s (posts_of ps) w g) (of_worker j x) (outcomes.Turn p) (core_of s (posts_of (set ps place (record d { board = es }))) w g)
+          → StepsTo kind (divided path Decides) (value_of s (posts_of ps) w g) (of_worker j x) (outcomes.Turn p) (value_of s (posts_of (set ps place (record d { board = es }))) w g)
           × IsWhole R path answers ready s (posts_of (set ps place (record d { board = es }))) w g
       moved_here d x p q es read same e moves =
           let stands = open_here d read in
           let number = number_here ps j place d lies read in
           let goes = subst (λ (r : Q). MovesTo R path (answers r) (Decides r) stands.job.frozen g d.board x (turn_of p) es) same (moves stands.job.frozen (subst (λ (r : Q). IsJobOn R path (answers r) stands.job.frozen d.board) (sym same) stands.has.desks)) in
-          subst (λ (posts : Map ℕ (Posted K V Q P)). StepsTo kind (divided path Decides) (core_of s (posts_of ps) w g) (of_worker j x) (outcomes.Turn p) (core_of s posts w g) × IsWhole R path answers ready s posts w g)
-          (sym (set_is_put ps place j d (record d { board = es }) is.sorted lies.inside read number number))
-          (moved_whole R path answers ready kind Decides cuts s (posts_of ps) w g j x p (post_of d).1 es stands e goes is)
+          let put = set_is_put ps place j d (record d { board = es }) is.sorted lies.inside read number number in
+          let quiet : desk_parts es ≡ desk_parts d.board → all_parts (with_pair nat_cmp (posts_of ps) j (post_of (record d { board = es })).1) ≡ all_parts (posts_of ps) =
+          λ parts. ap all_parts (sym put) ∙ same_parts ps place d (record d { board = es }) read (ap (λ (qs : List P). (d.number, qs)) parts) in
+          subst (λ (posts : Map ℕ (Posted K V Q P)). StepsTo kind (divided path Decides) (value_of s (posts_of ps) w g) (of_worker j x) (outcomes.Turn p) (value_of s posts w g) × IsWhole R path answers ready s posts w g)
+          (sym put)
+          (moved_whole R path answers ready kind Decides cuts s (posts_of ps) w g j x p (post_of d).1 es stands e goes quiet is)
 
       -- a move that finds no memory leaves all jobs
       pub unmoved_here : (d : Post K V Q P) (es : List (Station K V P)) → d ≡ get_or ps place d → es ≡ d.board → IsWhole R path answers ready s (posts_of (set ps place (record d { board = es }))) w g

@@ -1,6 +1,6 @@
 -- The open jobs of a core, in a list and as a map from their numbers.
-use Rattle.std.proofs.Common.{◌≡◌, ℕ, zero, suc, ◌<◌, Bool, true, false, not, ◌&&◌, T, cond, List, [], ◌∷◌, ◌++◌, length, filter, get_or, set, Option, Some, is_some, refl, ap, sym, ◌∙◌, arith}
-use Rattle.std.specs.Prelude.{option_map, unwrap_or}
+use Rattle.std.proofs.Common.{◌≡◌, ℕ, zero, suc, ◌<◌, Bool, true, false, not, ◌&&◌, T, cond, List, [], ◌∷◌, ◌++◌, length, map, filter, get_or, set, Option, Some, None, is_some, refl, ap, sym, ◌∙◌, arith}
+use Rattle.std.specs.Prelude.{option_map, unwrap_or, slice_get}
 use Rattle.std.proofs.lemmas.Option.{slice_get_read}
 use Rattle.std.proofs.lemmas.Float.{T_from_true}
 use Rattle.std.specs.declared.cmp.Ordering.{Ordering}
@@ -11,8 +11,9 @@ use Rattle.std.specs.FinMap.Entries.{by_order, below_all, is_sorted, is_sorted-p
 use Rattle.std.proofs.lemmas.Bool.Decides.{nat_tests}
 use Rattle.versions.specs.Map.{Map, IsMap, value_at, with_pair, without, is_other}
 use Rattle.core_steps.specs.Boards.{Board}
-use Rattle.core_steps.specs.Desks.{board}
-use Rattle.core_steps.specs.Posts.{Posted, IsPlaceOf, post_of, posts_of, shown, boards_of}
+use Rattle.core_steps.specs.Desks.{board, desk_parts}
+use Rattle.core_steps.specs.Posts.{Posted, IsPlaceOf, post_of, posts_of, boards_of, parts_shown, all_parts}
+use Rattle.core_steps.specs.Parts.{parts_of_job, part_at}
 use Rattle.core_steps.specs.declared.post.Post.{Post}
 use Rattle.core_steps.proofs.Stations.{map_append}
 
@@ -47,32 +48,62 @@ put_sorted m j x sorted = true_of (is_sorted nat_cmp (with_pair nat_cmp m j x)) 
 pub less_sorted : {X : Type 0} (m : Map ℕ X) (j : ℕ) → IsMap nat_cmp m → IsMap nat_cmp (without nat_cmp m j)
 less_sorted m j sorted = true_of (is_sorted nat_cmp (without nat_cmp m j)) (is_sorted-where_key nat_cmp (is_other nat_cmp j) m (T_from_true (is_sorted nat_cmp m) sorted))
 
-module _ {K V Q P : Type 0} where
-  -- 1. The boards of the open jobs.
-  pub shown_put : (m : Map ℕ (Posted K V Q P)) (n : ℕ) (x : Posted K V Q P) → boards_of (with_pair nat_cmp m n x) ≡ with_pair nat_cmp (boards_of m) n (board x.desks)
-  shown_put [] n x = refl
-  shown_put (e ∷ m) n x = step (nat_cmp n e.0) (shown_put m n x)
+-- 1. What is shown of the value of each number.
+module _ {X Y : Type 0} (f : X → Y) where
+  abbrev values_of : Map ℕ X → Map ℕ Y
+  values_of m = map (λ e. (e.0, f e.1)) m
+
+  pub value_put : (m : Map ℕ X) (n : ℕ) (x : X) → values_of (with_pair nat_cmp m n x) ≡ with_pair nat_cmp (values_of m) n (f x)
+  value_put [] n x = refl
+  value_put (e ∷ m) n x = step (nat_cmp n e.0) (value_put m n x)
     where
-      step : (o : Ordering) → boards_of (with_pair nat_cmp m n x) ≡ with_pair nat_cmp (boards_of m) n (board x.desks) → boards_of (by_order o ((n, x) ∷ e ∷ m) ((e.0, x) ∷ m) (e ∷ with_pair nat_cmp m n x)) ≡ by_order o ((n, board x.desks) ∷ shown e ∷ boards_of m) ((e.0, board x.desks) ∷ boards_of m) (shown e ∷ with_pair nat_cmp (boards_of m) n (board x.desks))
+      step : (o : Ordering) → values_of (with_pair nat_cmp m n x) ≡ with_pair nat_cmp (values_of m) n (f x)
+          → values_of (by_order o ((n, x) ∷ e ∷ m) ((e.0, x) ∷ m) (e ∷ with_pair nat_cmp m n x)) ≡ by_order o ((n, f x) ∷ (e.0, f e.1) ∷ values_of m) ((e.0, f x) ∷ values_of m) ((e.0, f e.1) ∷ with_pair nat_cmp (values_of m) n (f x))
       step Less rest = refl
       step Equal rest = refl
-      step Greater rest = ap (λ (r : Map ℕ Board). shown e ∷ r) rest
+      step Greater rest = ap (λ (r : Map ℕ Y). (e.0, f e.1) ∷ r) rest
 
-  pub shown_without : (m : Map ℕ (Posted K V Q P)) (n : ℕ) → boards_of (without nat_cmp m n) ≡ without nat_cmp (boards_of m) n
-  shown_without [] n = refl
-  shown_without (e ∷ m) n = step (is_other nat_cmp n e.0) (shown_without m n)
+  pub value_without : (m : Map ℕ X) (n : ℕ) → values_of (without nat_cmp m n) ≡ without nat_cmp (values_of m) n
+  value_without [] n = refl
+  value_without (e ∷ m) n = step (is_other nat_cmp n e.0) (value_without m n)
     where
-      step : (b : Bool) → boards_of (without nat_cmp m n) ≡ without nat_cmp (boards_of m) n → boards_of (cond b (e ∷ without nat_cmp m n) (without nat_cmp m n)) ≡ cond b (shown e ∷ without nat_cmp (boards_of m) n) (without nat_cmp (boards_of m) n)
-      step true rest = ap (λ (r : Map ℕ Board). shown e ∷ r) rest
+      step : (b : Bool) → values_of (without nat_cmp m n) ≡ without nat_cmp (values_of m) n
+          → values_of (cond b (e ∷ without nat_cmp m n) (without nat_cmp m n)) ≡ cond b ((e.0, f e.1) ∷ without nat_cmp (values_of m) n) (without nat_cmp (values_of m) n)
+      step true rest = ap (λ (r : Map ℕ Y). (e.0, f e.1) ∷ r) rest
       step false rest = rest
 
-  pub shown_at : (m : Map ℕ (Posted K V Q P)) (n : ℕ) → value_at nat_cmp (boards_of m) n ≡ option_map (λ x. board x.desks) (value_at nat_cmp m n)
-  shown_at [] n = refl
-  shown_at (e ∷ m) n = step (eq_by_cmp nat_cmp n e.0) (shown_at m n)
+  pub value_shown : (m : Map ℕ X) (n : ℕ) → value_at nat_cmp (values_of m) n ≡ option_map f (value_at nat_cmp m n)
+  value_shown [] n = refl
+  value_shown (e ∷ m) n = step (eq_by_cmp nat_cmp n e.0) (value_shown m n)
     where
-      step : (b : Bool) → value_at nat_cmp (boards_of m) n ≡ option_map (λ x. board x.desks) (value_at nat_cmp m n) → cond b (Some (board e.1.desks)) (value_at nat_cmp (boards_of m) n) ≡ option_map (λ x. board x.desks) (cond b (Some e.1) (value_at nat_cmp m n))
+      step : (b : Bool) → value_at nat_cmp (values_of m) n ≡ option_map f (value_at nat_cmp m n) → cond b (Some (f e.1)) (value_at nat_cmp (values_of m) n) ≡ option_map f (cond b (Some e.1) (value_at nat_cmp m n))
       step true rest = refl
       step false rest = rest
+
+module _ {K V Q P : Type 0} where
+  -- the boards of the open jobs
+  pub shown_put : (m : Map ℕ (Posted K V Q P)) (n : ℕ) (x : Posted K V Q P) → boards_of (with_pair nat_cmp m n x) ≡ with_pair nat_cmp (boards_of m) n (board x.desks)
+  shown_put = value_put (λ x. board x.desks)
+
+  pub shown_without : (m : Map ℕ (Posted K V Q P)) (n : ℕ) → boards_of (without nat_cmp m n) ≡ without nat_cmp (boards_of m) n
+  shown_without = value_without (λ x. board x.desks)
+
+  pub shown_at : (m : Map ℕ (Posted K V Q P)) (n : ℕ) → value_at nat_cmp (boards_of m) n ≡ option_map (λ x. board x.desks) (value_at nat_cmp m n)
+  shown_at = value_shown (λ x. board x.desks)
+
+  -- the parts of their workers
+  pub parts_put : (m : Map ℕ (Posted K V Q P)) (n : ℕ) (x : Posted K V Q P) → all_parts (with_pair nat_cmp m n x) ≡ with_pair nat_cmp (all_parts m) n (desk_parts x.desks)
+  parts_put = value_put (λ x. desk_parts x.desks)
+
+  pub parts_without : (m : Map ℕ (Posted K V Q P)) (n : ℕ) → all_parts (without nat_cmp m n) ≡ without nat_cmp (all_parts m) n
+  parts_without = value_without (λ x. desk_parts x.desks)
+
+  pub parts_here : (m : Map ℕ (Posted K V Q P)) (n : ℕ) (x : Posted K V Q P) → value_at nat_cmp m n ≡ Some x → parts_of_job (all_parts m) n ≡ desk_parts x.desks
+  parts_here m n x here = ap (λ o. unwrap_or o []) (value_shown (λ (y : Posted K V Q P). desk_parts y.desks) m n ∙ ap (option_map (λ (y : Posted K V Q P). desk_parts y.desks)) here)
+
+  -- a job that is not open has no parts
+  pub parts_absent : (m : Map ℕ (Posted K V Q P)) (n w : ℕ) → value_at nat_cmp m n ≡ None → None ≡ part_at (all_parts m) n w
+  parts_absent m n w none = sym (ap (λ o. slice_get (unwrap_or o []) w) (value_shown (λ (y : Posted K V Q P). desk_parts y.desks) m n ∙ ap (option_map (λ (y : Posted K V Q P). desk_parts y.desks)) none))
 
   -- 2. The list of the open jobs.
   -- whether it is another job
@@ -118,6 +149,12 @@ module _ {K V Q P : Type 0} where
       let parts = both_parts (below_all nat_cmp p.number (posts_of ps)) (is_sorted nat_cmp (posts_of ps)) sorted in
       ap (λ (r : Map ℕ (Posted K V Q P)). post_of p ∷ r) (set_is_put ps k n d e parts.1 (omega (arith, there)) read number same)
       ∙ sym (ap (λ (o : Ordering). by_order o ((n, (post_of e).1) ∷ post_of p ∷ posts_of ps) ((p.number, (post_of e).1) ∷ posts_of ps) (post_of p ∷ with_pair nat_cmp (posts_of ps) n (post_of e).1)) (above n p.number (omega (arith, number, below_at p.number ps k d parts.0 (omega (arith, there)) read))))
+
+  -- a job whose workers have the same parts
+  pub same_parts : (ps : List (Post K V Q P)) (place : ℕ) (d e : Post K V Q P) → d ≡ get_or ps place d → parts_shown (post_of e) ≡ parts_shown (post_of d) → all_parts (posts_of (set ps place e)) ≡ all_parts (posts_of ps)
+  same_parts [] place d e read same = refl
+  same_parts (p ∷ ps) zero d e read same = ap (λ (x : ℕ × List P). x ∷ all_parts (posts_of ps)) (same ∙ ap (λ (q : Post K V Q P). parts_shown (post_of q)) read)
+  same_parts (p ∷ ps) (suc k) d e read same = ap (λ (r : Map ℕ (List P)). parts_shown (post_of p) ∷ r) (same_parts ps k d e read same)
 
 -- 3. A new number.
 module _ {X : Type 0} where

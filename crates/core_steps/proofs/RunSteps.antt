@@ -4,7 +4,10 @@ use Rattle.std.proofs.lemmas.List.{take_more, map-append}
 use Rattle.bulk_ops.specs.Answers as plain
 use Rattle.handles.specs.Machine.{Kind}
 use Rattle.core_steps.specs.Cores.{CoreState, Asked, Told, Division, CoreStep}
+use Rattle.core_steps.specs.Parts.{CoreValue}
 use Rattle.core_steps.specs.Traces.{CoreRun}
+use Rattle.core_steps.specs.Invariants.{IsCore}
+use Rattle.core_steps.specs.Laws.{NoneWorkedTwice}
 use Rattle.core_steps.specs.Steps.{Shows, AllShow, StepsTo, HasRun, Ran, asked_by}
 use Rattle.core_steps.specs.declared.outcome.Outcome.{Outcome}
 use Rattle.core_steps.specs.declared.step.Step.{Step}
@@ -28,27 +31,28 @@ module _ {K V Q I A : Type 0} (kind : Kind K V Q A (plain.Told K V I)) (division
   runs_more s t u (a ∷ xs) [] x y run step = absurd run
   runs_more s t u (a ∷ xs) (z ∷ ys) x y run step = (run.0, run.1, runs_more run.0 t u xs ys x y run.2 step)
 
-  -- one step more
-  pub run_more : (s t u : CoreState K V Q) (xs : List (Asked K V Q)) (os : List (Outcome K V I)) (x : Asked K V Q) (o : Outcome K V I)
-      → HasRun kind division s xs os t → StepsTo kind division t x o u → HasRun kind division s (xs ++ x ∷ []) (os ++ o ∷ []) u
-  run_more s t u xs os x o run step = record {
-    told = run.told ++ step.told ∷ [];
-    shown = shows_more xs os run.told x o step.told run.shown step.shown;
-    run = runs_more s t u xs run.told x step.told run.run step.step;
-  }
-
   -- no step
   pub run_none : (s : CoreState K V Q) → HasRun kind division s [] [] s
   run_none s = record { told = []; shown = tt; run = refl }
 
-  -- what clients see of it is a run of the machine
-  pub ran : (s t : CoreState K V Q) (xs : List (Asked K V Q)) (os : List (Outcome K V I)) → HasRun kind division s xs os t → Ran kind division s xs os t
-  ran s t xs os run = record { steps = run; machine = run_of_machine kind division s t xs run.told run.run }
+  -- what clients see of it is a run of the machine, and of no job a position was worked twice
+  pub ran : NoneWorkedTwice kind division → (s t : CoreState K V Q) (xs : List (Asked K V Q)) (os : List (Outcome K V I)) → IsCore s → HasRun kind division s xs os t → Ran kind division s xs os t
+  ran never s t xs os is run = record { steps = run; machine = run_of_machine kind division s t xs run.told run.run; apart = λ j. never s t xs run.told j is run.run }
+
+module _ {K V Q P I A : Type 0} (kind : Kind K V Q A (plain.Told K V I)) (division : Division K V Q) where
+  -- one step more
+  pub run_more : (s : CoreState K V Q) (t u : CoreValue K V Q P) (xs : List (Asked K V Q)) (os : List (Outcome K V I)) (x : Asked K V Q) (o : Outcome K V I)
+      → HasRun kind division s xs os t.state → StepsTo kind division t x o u → HasRun kind division s (xs ++ x ∷ []) (os ++ o ∷ []) u.state
+  run_more s t u xs os x o run step = record {
+    told = run.told ++ step.told ∷ [];
+    shown = shows_more xs os run.told x o step.told run.shown step.shown;
+    run = runs_more kind division s t.state u.state xs run.told x step.told run.run step.step;
+  }
 
   -- of steps in a list, one step more
-  pub steps_more : (s t u : CoreState K V Q) (steps : List (Step K V Q)) (k : ℕ) (step : Step K V Q) (os : List (Outcome K V I)) (o : Outcome K V I) → k < length steps → step ≡ get_or steps k step
-      → HasRun kind division s (map asked_by (take k steps)) os t → StepsTo kind division t (asked_by step) o u → HasRun kind division s (map asked_by (take (k + 1) steps)) (os ++ o ∷ []) u
+  pub steps_more : (s : CoreState K V Q) (t u : CoreValue K V Q P) (steps : List (Step K V Q)) (k : ℕ) (step : Step K V Q) (os : List (Outcome K V I)) (o : Outcome K V I) → k < length steps → step ≡ get_or steps k step
+      → HasRun kind division s (map asked_by (take k steps)) os t.state → StepsTo kind division t (asked_by step) o u → HasRun kind division s (map asked_by (take (k + 1) steps)) (os ++ o ∷ []) u.state
   steps_more s t u steps k step os o there read run last =
       let longer : map asked_by (take (k + 1) steps) ≡ map asked_by (take k steps) ++ asked_by step ∷ [] =
       ap (map asked_by) (take_more steps k step there ∙ ap (λ (x : Step K V Q). take k steps ++ x ∷ []) (sym read)) ∙ map-append asked_by (take k steps) (step ∷ []) in
-      subst (λ (xs : List (Asked K V Q)). HasRun kind division s xs (os ++ o ∷ []) u) (sym longer) (run_more s t u (map asked_by (take k steps)) os (asked_by step) o run last)
+      subst (λ (xs : List (Asked K V Q)). HasRun kind division s xs (os ++ o ∷ []) u.state) (sym longer) (run_more s t u (map asked_by (take k steps)) os (asked_by step) o run last)

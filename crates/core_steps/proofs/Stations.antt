@@ -5,9 +5,10 @@ use Rattle.std.proofs.lemmas.List.{map-set, set-set, set-get_or, get_or-set_same
 use Rattle.std.proofs.lemmas.Option.{slice_get-map}
 use Rattle.std.proofs.lemmas.List.Elements.{All-get_or, All-set}
 use Rattle.trie_shape.specs.Map.{Map}
+use Rattle.iter.specs.declared.interval.Interval.{Interval}
 use Rattle.splitter.specs.Portion.{Portion}
 use Rattle.core_steps.specs.Boards.{Worker, Board, worker, with_queue, with_held, newest, without_newest, oldest, without_oldest, Turn}
-use Rattle.core_steps.specs.Desks.{Station, interval_of, worker_of, board, result_of, results, HasPieces, Leaves}
+use Rattle.core_steps.specs.Desks.{Station, interval_of, worker_of, board, result_of, results, desk_parts, HasPieces, Leaves}
 
 pub newest_interval : {K V : Type 0} (ps : List (Portion K V)) → newest (map interval_of ps) ≡ option_map interval_of (newest ps)
 newest_interval ps = ap (λ n. slice_get (map interval_of ps) (n - 1)) (length-map ps interval_of) ∙ slice_get-map interval_of ps (length ps - 1)
@@ -93,3 +94,11 @@ module _ {K V P : Type 0} where
         pieces = λ m all. all;
         parts_stay = refl;
       })
+
+  -- desks with the same results have the same parts
+  parts_shown_by : (ds : List (Station K V P)) → desk_parts ds ≡ map (λ (r : P × List Interval). r.0) (results ds)
+  parts_shown_by [] = refl
+  parts_shown_by (d ∷ ds) = ap (λ ps. d.part ∷ ps) (parts_shown_by ds)
+
+  pub same_desk_parts : (ds es : List (Station K V P)) → results es ≡ results ds → desk_parts es ≡ desk_parts ds
+  same_desk_parts ds es same = parts_shown_by es ∙ ap (map (λ (r : P × List Interval). r.0)) same ∙ sym (parts_shown_by ds)

@@ -16,6 +16,11 @@ pub if_ok : {X E : Type 0} (A B : X → Type 0) (r : Result X E) → ((x : X) �
 if_ok A B (Ok x) f h = f x h
 if_ok A B (Err e) f h = tt
 
+-- two things that are so where it is some
+pub both_ok : {X E : Type 0} (A B : X → Type 0) (r : Result X E) → IfOk r A → IfOk r B → IfOk r (λ x. A x × B x)
+both_ok A B (Ok x) a b = (a, b)
+both_ok A B (Err e) a b = tt
+
 -- what stands at a place of a list that all of it is
 at_place : {X : Type 0} (Q : X → Type 0) (xs : List X) (k : ℕ) (x : X) → slice_get xs k ≡ Some x → All Q xs → Q x
 at_place Q xs k x e all = subst Q (get_or_from_slice_get xs k x x e) (All-get_or Q xs k x (slice_get_within xs k x e) all)

@@ -1,5 +1,5 @@
 -- Each client's step on a core and its open jobs.
-use Rattle.std.proofs.Common.{◌≡◌, ℕ, ◌<◌, Bool, true, false, not, cond, List, [], ◌∷◌, length, Option, Some, None, is_some, refl, sym, ap, ◌∙◌, subst, inl, inr, arith}
+use Rattle.std.proofs.Common.{◌≡◌, ℕ, ◌<◌, Bool, true, false, not, cond, List, [], ◌∷◌, length, set, Option, Some, None, is_some, refl, sym, ap, ◌∙◌, subst, inl, inr, arith}
 use Rattle.std.specs.Prelude.{All, IsSomeAnd, Result, Ok, Err, option_map, unwrap_or, nat_le}
 use Rattle.std.specs.List.{list_any}
 use Rattle.std.proofs.lemmas.Bool.Decides.{nat_tests}
@@ -22,22 +22,23 @@ use Rattle.handles.specs.Laws.{OthersKeepJobs}
 use Rattle.iter.specs.declared.interval.Interval.{Interval}
 use Rattle.iter.specs.Intervals.{whole, Tile, part, parts}
 use Rattle.splitter.specs.Cuts.{cut_point}
-use Rattle.core_steps.specs.Boards.{Board, worker, first_board, all_worked, Move, mover, named_by, moved, Turn, took, cut, uncut, done, idle, tells_settled, TellsTruly}
+use Rattle.core_steps.specs.Boards.{Board, worker, first_board, all_worked, Move, taking, stealing, splitting, working, mover, named_by, moved, Turn, took, cut, uncut, done, idle, tells_settled, TellsTruly}
 use Rattle.core_steps.specs.Cores as cores
 use Rattle.core_steps.specs.Views.{turn_of}
 use Rattle.core_steps.specs.declared.progress.Progress.{Progress}
 use Rattle.core_steps.specs.Cores.{CoreState, Asked, of_client, of_worker, Told, to_client, to_worker, no_turn, CoreStep, board_of, frozen_map, refusal_of, IsUnfinished, IsSettled}
-use Rattle.core_steps.specs.Desks.{Station, worker_of, board, IsJobOn}
+use Rattle.core_steps.specs.Desks.{Station, worker_of, board, desk_parts, IsJobOn}
 use Rattle.core_steps.specs.Invariants.{IsBoard, waiting}
-use Rattle.core_steps.specs.Collected.{IsCollected}
+use Rattle.core_steps.specs.Collected.{IsCollected, MayCollect}
 use Rattle.core_steps.specs.Moves.{MovesTo, turn_on}
-use Rattle.core_steps.specs.Posts.{Posted, HasDesks, Fits, IsWhole, core_of, boards_of}
+use Rattle.core_steps.specs.Posts.{Posted, HasDesks, Fits, IsWhole, core_of, value_of, boards_of, all_parts}
+use Rattle.core_steps.specs.Parts.{PartsMove, PartsTurn, PartsStep}
 use Rattle.core_steps.specs.Queries.{divided}
 use Rattle.core_steps.specs.declared.outcome.Outcome.TheVariants as outcomes
 use Rattle.core_steps.specs.Steps.{IsAnswered, StepsTo, refused_outcome, call_told, view_told}
 use Rattle.core_steps.proofs.KeptBoards.{CutsWithin}
 use Rattle.core_steps.proofs.KeptCores.{step_kept, at_put, at_without, its_board, all_below}
-use Rattle.core_steps.proofs.Postings.{same_ties, put_sorted, less_sorted, shown_put, shown_without, shown_at}
+use Rattle.core_steps.proofs.Postings.{same_ties, put_sorted, less_sorted, shown_put, shown_without, shown_at, parts_put, parts_without, parts_here}
 use Rattle.core_steps.proofs.Wholes.{job_tiles}
 
 module _ {K V Q P A I : Type 0} (R : K → K → Ordering) (path : K → ℕ) (answers : Q → Map K V → P → Type 0) (ready : Q → Type 0)
@@ -70,15 +71,15 @@ module _ {K V Q P A I : Type 0} (R : K → K → Ordering) (path : K → ℕ) (a
 
     -- a client's step that is refused
     refused_whole : (s t : State K V Q) (posts : Map ℕ (Posted K V Q P)) (w g : ℕ) (r : Request K V Q) (e : Refusal) → Step kind s r (refused e) t → Whole s posts w g
-        → StepsTo kind (divided path Decides) (core_of s posts w g) (of_client r) (outcomes.Refused e) (core_of t posts w g) × Whole t posts w g
+        → StepsTo kind (divided path Decides) (value_of s posts w g) (of_client r) (outcomes.Refused e) (value_of t posts w g) × Whole t posts w g
     refused_whole s t posts w g r e step is =
         let core = refused_step s t posts w g r e step in (
-          record { told = to_client (refused e); shown = refl; step = core },
+          record { told = to_client (refused e); shown = refl; step = core; parts = refl },
           quiet s t posts w g r (refused e) (ap (λ (x : State K V Q). x.jobs) step.1) core is,
         )
 
     pub refusal_whole : {T : Type 0} (shown : T → Outcome K V (plain.Told K V I)) (s t : State K V Q) (posts : Map ℕ (Posted K V Q P)) (w g : ℕ) (r : Request K V Q) (e : Refusal) → IsStep kind s r shown (Err e) t → Whole s posts w g
-        → IsAnswered kind (divided path Decides) (core_of s posts w g) (of_client r) (refused_outcome e) (core_of t posts w g) × Whole t posts w g
+        → IsAnswered kind (divided path Decides) (value_of s posts w g) (of_client r) (refused_outcome e) (value_of t posts w g) × Whole t posts w g
     refusal_whole shown s t posts w g r NoHandle step is = refused_whole s t posts w g r NoHandle step is
     refusal_whole shown s t posts w g r Taken step is = refused_whole s t posts w g r Taken step is
     refusal_whole shown s t posts w g r Full step is = refused_whole s t posts w g r Full step is
@@ -88,7 +89,7 @@ module _ {K V Q P A I : Type 0} (R : K → K → Ordering) (path : K → ℕ) (a
     refusal_whole shown s t posts w g r TooManyJobs step is = refused_whole s t posts w g r TooManyJobs step is
     refusal_whole shown s t posts w g r JournalFull step is = refused_whole s t posts w g r JournalFull step is
     refusal_whole shown s t posts w g r BadNumber step is = refused_whole s t posts w g r BadNumber step is
-    refusal_whole shown s t posts w g r NoMemory step is = (ap (λ (x : State K V Q). core_of x posts w g) step, subst (λ (x : State K V Q). Whole x posts w g) (sym step) is)
+    refusal_whole shown s t posts w g r NoMemory step is = (ap (λ (x : State K V Q). value_of x posts w g) step, subst (λ (x : State K V Q). Whole x posts w g) (sym step) is)
 
     call_step : (s t : State K V Q) (posts : Map ℕ (Posted K V Q P)) (w g : ℕ) (c : Call K V) (y : CallReply V)
         → Step kind s (request_of c) (call_outcome y) t → CoreStep kind (divided path Decides) (core_of s posts w g) (of_client (request_of c)) (to_client (call_outcome y)) (core_of t posts w g)
@@ -113,13 +114,24 @@ module _ {K V Q P A I : Type 0} (R : K → K → Ordering) (path : K → ℕ) (a
     closes_none (Drop h) = refl
     closes_none (On h c) = refl
 
+    -- a call leaves all parts
+    call_parts : (ps : Map ℕ (List P)) (c : Call K V) (y : CallReply V) → PartsStep {P = P} {K = K} {V = V} {Q = Q} {B = plain.Told K V I} ps (to_client (call_outcome y)) (of_client (request_of c)) ps
+    call_parts ps (Open h) replies.Unit = refl
+    call_parts ps (Open h) (replies.Reply y) = refl
+    call_parts ps (Snapshot h to) replies.Unit = refl
+    call_parts ps (Snapshot h to) (replies.Reply y) = refl
+    call_parts ps (Drop h) replies.Unit = refl
+    call_parts ps (Drop h) (replies.Reply y) = refl
+    call_parts ps (On h c) replies.Unit = refl
+    call_parts ps (On h c) (replies.Reply y) = refl
+
     -- a call
     pub call_whole : OthersKeepJobs kind → (s t : State K V Q) (posts : Map ℕ (Posted K V Q P)) (w g : ℕ) (c : Call K V) (answer : Result (CallReply V) Refusal)
         → IsStep kind s (request_of c) call_outcome answer t → Whole s posts w g
-        → IsAnswered kind (divided path Decides) (core_of s posts w g) (of_client (request_of c)) (call_told answer) (core_of t posts w g) × Whole t posts w g
+        → IsAnswered kind (divided path Decides) (value_of s posts w g) (of_client (request_of c)) (call_told answer) (value_of t posts w g) × Whole t posts w g
     call_whole keep s t posts w g c (Ok y) step is =
         let core = call_step s t posts w g c y step in (
-          record { told = to_client (call_outcome y); shown = refl; step = core },
+          record { told = to_client (call_outcome y); shown = refl; step = core; parts = call_parts (all_parts posts) c y },
           quiet s t posts w g (request_of c) (call_outcome y) (keep s t (request_of c) (call_outcome y) (opens_none c) (closes_none c) step) core is,
         )
     call_whole keep s t posts w g c (Err e) step is = refusal_whole call_outcome s t posts w g (request_of c) e step is
@@ -127,10 +139,10 @@ module _ {K V Q P A I : Type 0} (R : K → K → Ordering) (path : K → ℕ) (a
     -- a view
     pub view_whole : OthersKeepJobs kind → (s t : State K V Q) (posts : Map ℕ (Posted K V Q P)) (w g h : ℕ) (answer : Result (Map K V) Refusal)
         → IsStep kind s (view h) view_outcome answer t → Whole s posts w g
-        → IsAnswered kind (divided path Decides) (core_of s posts w g) (of_client (view h)) (view_told answer) (core_of t posts w g) × Whole t posts w g
+        → IsAnswered kind (divided path Decides) (value_of s posts w g) (of_client (view h)) (view_told answer) (value_of t posts w g) × Whole t posts w g
     view_whole keep s t posts w g h (Ok m) step is =
         let core : CoreStep kind (divided path Decides) (core_of s posts w g) (of_client (view h)) (to_client (viewed m)) (core_of t posts w g) = (t, step, tt, refl) in (
-          record { told = to_client (viewed m); shown = refl; step = core },
+          record { told = to_client (viewed m); shown = refl; step = core; parts = refl },
           quiet s t posts w g (view h) (viewed m) (keep s t (view h) (viewed m) refl refl step) core is,
         )
     view_whole keep s t posts w g h (Err e) step is = refusal_whole view_outcome s t posts w g (view h) e step is
@@ -138,7 +150,7 @@ module _ {K V Q P A I : Type 0} (R : K → K → Ordering) (path : K → ℕ) (a
     -- 2. A job is opened.
     pub frozen_whole : (s t : State K V Q) (posts : Map ℕ (Posted K V Q P)) (w g h j : ℕ) (q : Q) (m : Map K V) (post : Posted K V Q P)
         → Step kind s (freeze h q) (frozen j m) t → post.query ≡ q → ready post.query → IsJobOn R path (answers post.query) m post.desks → board post.desks ≡ first_board w → Whole s posts w g
-        → StepsTo kind (divided path Decides) (core_of s posts w g) (of_client (freeze h q)) (outcomes.Frozen j) (core_of t (with_pair nat_cmp posts j post) w g) × Whole t (with_pair nat_cmp posts j post) w g
+        → StepsTo kind (divided path Decides) (value_of s posts w g) (of_client (freeze h q)) (outcomes.Frozen j) (value_of t (with_pair nat_cmp posts j post) w g) × Whole t (with_pair nat_cmp posts j post) w g
     frozen_whole s t posts w g h j q m post step same can job first is =
         let boards : boards_of (with_pair nat_cmp posts j post) ≡ with_pair nat_cmp (boards_of posts) j (first_board w) = shown_put posts j post ∙ ap (with_pair nat_cmp (boards_of posts) j) first in
         let after : CoreState K V Q = core_of t (with_pair nat_cmp posts j post) w g in
@@ -146,7 +158,7 @@ module _ {K V Q P A I : Type 0} (R : K → K → Ordering) (path : K → ℕ) (a
         (t, step, tt, λ i. record { machine = t; boards = boards i; workers = w; grain = g }) in
         let opened : Job K V Q = record { query = q; frozen = m } in
         let jobs : (k : ℕ) → job_at t k ≡ cond (eq_by_cmp nat_cmp k j) (Some opened) (job_at s k) = λ k. ap (λ (x : State K V Q). job_at x k) step.1.2 ∙ at_put s.jobs j k opened in (
-          record { told = to_client (frozen j m); shown = (m, refl); step = core },
+          record { told = to_client (frozen j m); shown = (m, refl); step = core; parts = (desk_parts post.desks, parts_put posts j post) },
           record {
             core = step_kept kind (divided path Decides) cuts (core_of s posts w g) (of_client (freeze h q)) (to_client (frozen j m)) after core is.core;
             sorted = put_sorted posts j post is.sorted;
@@ -177,11 +189,11 @@ module _ {K V Q P A I : Type 0} (R : K → K → Ordering) (path : K → ℕ) (a
         by_number false o r fits = tt
 
     pub abandoned_whole : (s t : State K V Q) (posts : Map ℕ (Posted K V Q P)) (w g j : ℕ) → Step kind s (abandon j) made t → Whole s posts w g
-        → StepsTo kind (divided path Decides) (core_of s posts w g) (of_client (abandon j)) outcomes.Abandoned (core_of t (without nat_cmp posts j) w g) × Whole t (without nat_cmp posts j) w g
+        → StepsTo kind (divided path Decides) (value_of s posts w g) (of_client (abandon j)) outcomes.Abandoned (value_of t (without nat_cmp posts j) w g) × Whole t (without nat_cmp posts j) w g
     abandoned_whole s t posts w g j step is =
         let core : CoreStep kind (divided path Decides) (core_of s posts w g) (of_client (abandon j)) (to_client made) (core_of t (without nat_cmp posts j) w g) =
         (t, step, tt, λ i. record { machine = t; boards = shown_without posts j i; workers = w; grain = g }) in (
-          record { told = to_client made; shown = refl; step = core },
+          record { told = to_client made; shown = refl; step = core; parts = parts_without posts j },
           closed_whole s t posts w g j (abandon j) made (ap (λ (x : State K V Q). x.jobs) step.1) core is,
         )
 
@@ -193,6 +205,7 @@ module _ {K V Q P A I : Type 0} (R : K → K → Ordering) (path : K → ℕ) (a
       pub has : HasDesks R path answers ready job post
       pub board_is : board_of (core_of s posts w g) j ≡ board post.desks
       pub map_is : frozen_map (core_of s posts w g) j ≡ job.frozen
+      pub here : value_at nat_cmp posts j ≡ Some post
 
     pub is_open : (s : State K V Q) (posts : Map ℕ (Posted K V Q P)) (w g j : ℕ) (post : Posted K V Q P) → value_at nat_cmp posts j ≡ Some post → Whole s posts w g → IsOpen s posts w g j post
     is_open s posts w g j post here is =
@@ -203,6 +216,7 @@ module _ {K V Q P A I : Type 0} (R : K → K → Ordering) (path : K → ℕ) (a
           has = job.2;
           board_is = ap (λ o. unwrap_or o []) (shown_at posts j ∙ ap (option_map (λ x. board x.desks)) here);
           map_is = ap (λ (o : Option (Job K V Q)). unwrap_or (option_map (λ x. x.frozen) o) []) job.1;
+          here = here;
         }
       where
         its_job : (o : Option (Job K V Q)) (p : Posted K V Q P) → Fits R path answers ready o (Some p) → (x : Job K V Q) × (o ≡ Some x) × HasDesks R path answers ready x p
@@ -238,7 +252,7 @@ module _ {K V Q P A I : Type 0} (R : K → K → Ordering) (path : K → ℕ) (a
     -- an open job that can't be collected
     pub unfinished_whole : (s : State K V Q) (posts : Map ℕ (Posted K V Q P)) (w g j : ℕ) (post : Posted K V Q P) (stands : IsOpen s posts w g j post)
         → IsCollected path (answers post.query) (Decides post.query) stands.job.frozen post.desks None → Whole s posts w g
-        → StepsTo kind (divided path Decides) (core_of s posts w g) (of_client (finish j)) outcomes.Unfinished (core_of s posts w g)
+        → StepsTo kind (divided path Decides) (value_of s posts w g) (of_client (finish j)) outcomes.Unfinished (value_of s posts w g)
     unfinished_whole s posts w g j post stands left is = record {
       told = to_client unfinished;
       shown = refl;
@@ -251,7 +265,16 @@ module _ {K V Q P A I : Type 0} (R : K → K → Ordering) (path : K → ℕ) (a
         },
         refl,
       );
+      parts = refl;
     }
+
+    -- where a part may be collected, the job is not unfinished
+    pub may_finish : (s : State K V Q) (posts : Map ℕ (Posted K V Q P)) (w g j : ℕ) (post : Posted K V Q P) (stands : IsOpen s posts w g j post)
+        → MayCollect path (answers post.query) (Decides post.query) stands.job.frozen post.desks → Whole s posts w g → IsUnfinished (divided path Decides) (core_of s posts w g) j → ⊥
+    may_finish s posts w g j post stands (inl none) is un =
+        un.untiled ((job_tiles (core_of s posts w g) j is.core (ap is_some stands.named)).1 (ap waiting stands.board_is ∙ none))
+    may_finish s posts w g j post stands (inr some) is un =
+        un.unsettled some.0 (omega (arith, some.1, long_desks s posts w g j post stands is)) (settled_from (job_at s j) (frozen_map (core_of s posts w g) j) stands.job.frozen (board_of (core_of s posts w g) j) (board post.desks) stands.job post.query some.0 stands.named stands.map_is stands.board_is stands.has.query some.2)
 
     -- the part that was collected answers the job's whole map
     pub collected_whole : ((m : Map K V) (is : List Interval) → Tile is whole → parts path m is ≡ m) → (s : State K V Q) (posts : Map ℕ (Posted K V Q P)) (w g j : ℕ) (post : Posted K V Q P) (stands : IsOpen s posts w g j post) (part : P)
@@ -260,21 +283,21 @@ module _ {K V Q P A I : Type 0} (R : K → K → Ordering) (path : K → ℕ) (a
     collected_whole tiled s posts w g j post stands part (inl joined) is =
         let tile = (job_tiles (core_of s posts w g) j is.core (ap is_some stands.named)).1 (ap waiting stands.board_is ∙ joined.0) in (
           subst (λ q. answers q stands.job.frozen part) stands.has.query (subst (λ (m : Map K V). answers post.query m part) (tiled stands.job.frozen (all_worked (board post.desks)) (subst (λ (b : Board). Tile (all_worked b) whole) stands.board_is tile)) joined.1),
-          λ un. un.untiled tile,
+          may_finish s posts w g j post stands (inl joined.0) is,
         )
     collected_whole tiled s posts w g j post stands part (inr settled) is = (
       subst (λ q. answers q stands.job.frozen part) stands.has.query settled.0,
-      λ un. un.unsettled settled.1.0 (omega (arith, settled.1.1, long_desks s posts w g j post stands is)) (settled_from (job_at s j) (frozen_map (core_of s posts w g) j) stands.job.frozen (board_of (core_of s posts w g) j) (board post.desks) stands.job post.query settled.1.0 stands.named stands.map_is stands.board_is stands.has.query settled.1.2),
+      may_finish s posts w g j post stands (inr settled.1) is,
     )
 
     -- a job is closed by its answer
     pub finished_whole : (s t : State K V Q) (posts : Map ℕ (Posted K V Q P)) (w g j : ℕ) (a : Answer K V I) → Step kind s (finish j) (finished (told_of a)) t
         → (IsUnfinished (divided path Decides) (core_of s posts w g) j → ⊥) → Whole s posts w g
-        → StepsTo kind (divided path Decides) (core_of s posts w g) (of_client (finish j)) (outcomes.Answer a) (core_of t (without nat_cmp posts j) w g) × Whole t (without nat_cmp posts j) w g
+        → StepsTo kind (divided path Decides) (value_of s posts w g) (of_client (finish j)) (outcomes.Answer a) (value_of t (without nat_cmp posts j) w g) × Whole t (without nat_cmp posts j) w g
     finished_whole s t posts w g j a step exact is =
         let core : CoreStep kind (divided path Decides) (core_of s posts w g) (of_client (finish j)) (to_client (finished (told_of a))) (core_of t (without nat_cmp posts j) w g) =
         (t, step, exact, λ i. record { machine = t; boards = shown_without posts j i; workers = w; grain = g }) in (
-          record { told = to_client (finished (told_of a)); shown = refl; step = core },
+          record { told = to_client (finished (told_of a)); shown = refl; step = core; parts = parts_without posts j },
           closed_whole s t posts w g j (finish j) (finished (told_of a)) (ap (λ (x : State K V Q). x.jobs) step.1.left) core is,
         )
 
@@ -295,19 +318,36 @@ module _ {K V Q P A I : Type 0} (R : K → K → Ordering) (path : K → ℕ) (a
 
     -- a move that names no worker
     pub no_worker : (s : State K V Q) (posts : Map ℕ (Posted K V Q P)) (w g j : ℕ) (x : Move) (post : Posted K V Q P) → IsOpen s posts w g j post → list_any (λ v. nat_le w v) (named_by x) ≡ true
-        → StepsTo kind (divided path Decides) (core_of s posts w g) (of_worker j x) (outcomes.Refused NoWorker) (core_of s posts w g)
-    no_worker s posts w g j x post stands e = record { told = no_turn NoWorker; shown = refl; step = (refusal_is s posts w g j x post true stands e, refl) }
+        → StepsTo kind (divided path Decides) (value_of s posts w g) (of_worker j x) (outcomes.Refused NoWorker) (value_of s posts w g)
+    no_worker s posts w g j x post stands e = record { told = no_turn NoWorker; shown = refl; step = (refusal_is s posts w g j x post true stands e, refl); parts = refl }
 
     -- the workers that a move names have desks
     pub names_desks : (s : State K V Q) (posts : Map ℕ (Posted K V Q P)) (w g j : ℕ) (x : Move) (post : Posted K V Q P) → IsOpen s posts w g j post → list_any (λ v. nat_le w v) (named_by x) ≡ false → Whole s posts w g
         → All (λ v. v < length post.desks) (named_by x)
     names_desks s posts w g j x post stands e is = subst (λ n. All (λ v. v < n) (named_by x)) (sym (long_desks s posts w g j post stands is)) (all_below w (named_by x) e)
 
+    -- a move leaves the parts of all others
+    parts_turn : (posts : Map ℕ (Posted K V Q P)) (j : ℕ) (post : Posted K V Q P) (es : List (Station K V P)) (x : Move) (y : Turn) → value_at nat_cmp posts j ≡ Some post
+        → (desk_parts es ≡ desk_parts post.desks → all_parts (with_pair nat_cmp posts j (record post { desks = es })) ≡ all_parts posts)
+        → PartsMove (desk_parts post.desks) x y (desk_parts es) → PartsTurn (all_parts posts) j x y (all_parts (with_pair nat_cmp posts j (record post { desks = es })))
+    parts_turn posts j post es (taking w) y here quiet same = quiet same
+    parts_turn posts j post es (stealing w from) y here quiet same = quiet same
+    parts_turn posts j post es (splitting w) y here quiet same = quiet same
+    parts_turn posts j post es (working w) (took lo hi) here quiet same = quiet same
+    parts_turn posts j post es (working w) (cut lo mid hi) here quiet same = quiet same
+    parts_turn posts j post es (working w) uncut here quiet same = quiet same
+    parts_turn posts j post es (working w) idle here quiet same = quiet same
+    parts_turn posts j post es (working w) (done lo hi n settled) here quiet (p, is) = (
+      p,
+      parts_put posts j (record post { desks = es }) ∙ ap (with_pair nat_cmp (all_parts posts) j) (is ∙ ap (λ (ps : List P). set ps w p) (sym (parts_here posts j post here))),
+    )
+
     -- a worker moves
     pub moved_whole : (s : State K V Q) (posts : Map ℕ (Posted K V Q P)) (w g j : ℕ) (x : Move) (p : Progress) (post : Posted K V Q P) (es : List (Station K V P)) (stands : IsOpen s posts w g j post)
-        → list_any (λ v. nat_le w v) (named_by x) ≡ false → MovesTo R path (answers post.query) (Decides post.query) stands.job.frozen g post.desks x (turn_of p) es → Whole s posts w g
-        → StepsTo kind (divided path Decides) (core_of s posts w g) (of_worker j x) (outcomes.Turn p) (core_of s (with_pair nat_cmp posts j (record post { desks = es })) w g) × Whole s (with_pair nat_cmp posts j (record post { desks = es })) w g
-    moved_whole s posts w g j x p post es stands e moves is =
+        → list_any (λ v. nat_le w v) (named_by x) ≡ false → MovesTo R path (answers post.query) (Decides post.query) stands.job.frozen g post.desks x (turn_of p) es
+        → (desk_parts es ≡ desk_parts post.desks → all_parts (with_pair nat_cmp posts j (record post { desks = es })) ≡ all_parts posts) → Whole s posts w g
+        → StepsTo kind (divided path Decides) (value_of s posts w g) (of_worker j x) (outcomes.Turn p) (value_of s (with_pair nat_cmp posts j (record post { desks = es })) w g) × Whole s (with_pair nat_cmp posts j (record post { desks = es })) w g
+    moved_whole s posts w g j x p post es stands e moves quiet is =
         let S : CoreState K V Q = core_of s posts w g in
         let next : Posted K V Q P = record post { desks = es } in
         let T : CoreState K V Q = core_of s (with_pair nat_cmp posts j next) w g in
@@ -330,7 +370,7 @@ module _ {K V Q P A I : Type 0} (R : K → K → Ordering) (path : K → ℕ) (a
             truly = tells_of (turn_of p) _ _ decided undecided moves.truly;
           },
         ) in (
-          record { told = to_worker (turn_of p); shown = refl; step = core },
+          record { told = to_worker (turn_of p); shown = refl; step = core; parts = parts_turn posts j post es x (turn_of p) stands.here quiet moves.parts },
           record {
             core = step_kept kind (divided path Decides) cuts S (of_worker j x) (to_worker (turn_of p)) T core is.core;
             sorted = put_sorted posts j next is.sorted;

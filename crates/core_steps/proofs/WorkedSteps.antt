@@ -68,13 +68,13 @@ IsWorkedRun division xs ys = (t : CoreState ℕ ℕ Query) × CoreRun kind divis
 -- the first steps of the runs: two pairs, a job on them, and a later pair
 abbrev start : Query → List (Asked ℕ ℕ Query) → List (Asked ℕ ℕ Query)
 start q xs =
-    of_client (open_handle 1) ∷ of_client (on 1 (put 0 1)) ∷ of_client (on 1 (put 3221225472 2)) ∷ of_client (freeze 1 q) ∷ of_client (on 1 (put 5 3))
+    of_client (open_handle 1) ∷ of_client (on 1 (put 0 1)) ∷ of_client (on 1 (put 13835058055282163712 2)) ∷ of_client (freeze 1 q) ∷ of_client (on 1 (put 5 3))
     ∷ of_worker 0 (taking 0) ∷ of_worker 0 (splitting 0) ∷ xs
 
 abbrev started : List (Told ℕ ℕ Answer) → List (Told ℕ ℕ Answer)
 started ys =
-    to_client made ∷ to_client (replied (old None)) ∷ to_client (replied (old None)) ∷ to_client (frozen 0 ((0, 1) ∷ (3221225472, 2) ∷ [])) ∷ to_client (replied (old None))
-    ∷ to_worker (took 0 4294967296) ∷ to_worker (cut 0 3 4294967296) ∷ ys
+    to_client made ∷ to_client (replied (old None)) ∷ to_client (replied (old None)) ∷ to_client (frozen 0 ((0, 1) ∷ (13835058055282163712, 2) ∷ [])) ∷ to_client (replied (old None))
+    ∷ to_worker (took 0 18446744073709551616) ∷ to_worker (cut 0 12 18446744073709551616) ∷ ys
 
 -- other answers of workers
 other_answers : IsWorkedRun by_words
@@ -129,7 +129,7 @@ other_answers = (
 -- two pairs, two workers: the second steals the upper side; a finish before all is worked is refused
 stolen_and_counted : IsWorkedRun by_words
     (start count_all (of_worker 0 (stealing 1 0) ∷ of_worker 0 (working 1) ∷ of_client (finish 0) ∷ of_worker 0 (working 0) ∷ of_client (finish 0) ∷ of_worker 0 (taking 0) ∷ of_client (on 1 size) ∷ []))
-    (started (to_worker (took 3 4294967296) ∷ to_worker (done 3 4294967296 1 false) ∷ to_client unfinished ∷ to_worker (done 0 3 1 false) ∷ to_client (finished (counted 2)) ∷ no_turn NoJob ∷ to_client (replied (count 3)) ∷ []))
+    (started (to_worker (took 12 18446744073709551616) ∷ to_worker (done 12 18446744073709551616 1 false) ∷ to_client unfinished ∷ to_worker (done 0 12 1 false) ∷ to_client (finished (counted 2)) ∷ no_turn NoJob ∷ to_client (replied (count 3)) ∷ []))
 unfolding position
 stolen_and_counted = (
   _,
@@ -168,7 +168,7 @@ stolen_and_counted = (
                         (refl, record { told = refl; left = refl; truly = λ d. d }),
                         (
                           _,
-                          (_, (refl, record { job = _; answer = counted 2; named = refl; is_answer = refl; told = refl; left = refl }), (λ u. u.untiled (cut_tiles whole 3 (omega arith) (omega arith))), refl),
+                          (_, (refl, record { job = _; answer = counted 2; named = refl; is_answer = refl; told = refl; left = refl }), (λ u. u.untiled (cut_tiles whole 12 (omega arith) (omega arith))), refl),
                           (
                             _,
                             (refl, refl),
@@ -195,7 +195,7 @@ stolen_and_counted = (
 -- a worker's part that decides the query is enough
 settled_is_enough : IsWorkedRun by_words
     (start (exists_value 2) (of_worker 0 (stealing 1 0) ∷ of_worker 0 (working 1) ∷ of_client (finish 0) ∷ []))
-    (started (to_worker (took 3 4294967296) ∷ to_worker (done 3 4294967296 1 true) ∷ to_client (finished (truth true)) ∷ []))
+    (started (to_worker (took 12 18446744073709551616) ∷ to_worker (done 12 18446744073709551616 1 true) ∷ to_client (finished (truth true)) ∷ []))
 unfolding position
 settled_is_enough = (
   _,
@@ -245,11 +245,11 @@ settled_is_enough = (
 abbrev between : ℕ → ℕ → Interval
 between lo hi = record { lo = lo; hi = hi }
 
-one_waits : Tile (between 0 1610612736 ∷ []) whole → ⊥
-one_waits tile = omega (arith, tile 4294967295)
+one_waits : Tile (between 0 6917529027641081856 ∷ []) whole → ⊥
+one_waits tile = omega (arith, tile 18446744073709551615)
 
-all_three : Tile (between 0 1610612736 ∷ between 1610612736 2415919104 ∷ between 2415919104 4294967296 ∷ []) whole
-all_three = cuts_tile whole 1610612736 2415919104 (omega arith) (omega arith) (omega arith)
+all_three : Tile (between 0 6917529027641081856 ∷ between 6917529027641081856 10376293541461622784 ∷ between 10376293541461622784 18446744073709551616 ∷ []) whole
+all_three = cuts_tile whole 6917529027641081856 10376293541461622784 (omega arith) (omega arith) (omega arith)
 
 -- three pairs, two workers
 three_pieces : IsWorkedRun by_bytes
@@ -257,8 +257,8 @@ three_pieces : IsWorkedRun by_bytes
     ∷ of_worker 0 (taking 0) ∷ of_worker 0 (splitting 0) ∷ of_worker 0 (splitting 0) ∷ of_worker 0 (working 0) ∷ of_worker 0 (taking 0) ∷ of_worker 0 (splitting 0) ∷ of_worker 0 (stealing 1 0)
     ∷ of_client (finish 0) ∷ of_worker 0 (working 1) ∷ of_worker 0 (working 0) ∷ of_client (finish 0) ∷ [])
     (to_client made ∷ to_client (replied (old None)) ∷ to_client (replied (old None)) ∷ to_client (replied (old None)) ∷ to_client (frozen 0 ((97, 1) ∷ (98, 2) ∷ (99, 3) ∷ []))
-    ∷ to_worker (took 0 4294967296) ∷ to_worker (cut 0 1610612736 4294967296) ∷ to_worker uncut ∷ to_worker (done 0 1610612736 1 false) ∷ to_worker (took 1610612736 4294967296) ∷ to_worker (cut 1610612736 2415919104 4294967296) ∷ to_worker (took 2415919104 4294967296)
-    ∷ to_client unfinished ∷ to_worker (done 2415919104 4294967296 1 false) ∷ to_worker (done 1610612736 2415919104 1 false) ∷ to_client (finished (counted 3)) ∷ [])
+    ∷ to_worker (took 0 18446744073709551616) ∷ to_worker (cut 0 6917529027641081856 18446744073709551616) ∷ to_worker uncut ∷ to_worker (done 0 6917529027641081856 1 false) ∷ to_worker (took 6917529027641081856 18446744073709551616) ∷ to_worker (cut 6917529027641081856 10376293541461622784 18446744073709551616) ∷ to_worker (took 10376293541461622784 18446744073709551616)
+    ∷ to_client unfinished ∷ to_worker (done 10376293541461622784 18446744073709551616 1 false) ∷ to_worker (done 6917529027641081856 10376293541461622784 1 false) ∷ to_client (finished (counted 3)) ∷ [])
 unfolding position
 three_pieces = (
   _,

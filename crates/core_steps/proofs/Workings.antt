@@ -14,8 +14,9 @@ use Rattle.iter.specs.Intervals.{AreApart, lies_in, cover, part, parts}
 use Rattle.splitter.specs.Portion.{Portion}
 use Rattle.combiner.specs.Unions as unions
 use Rattle.combiner.specs.Bulks.{Apart, IsJoined}
-use Rattle.core_steps.specs.Boards.{Worker, Board, worker, with_worked, with_held, intervals, intervals_of, work, Turn, done, idle, tells_settled, TellsTruly}
-use Rattle.core_steps.specs.Desks.{Station, interval_of, worker_of, board, result_of, results, HasPieces, HasPart, IsJobOn, CanWork, HasWorked, WorksHeld, Works, working_turn}
+use Rattle.core_steps.specs.Boards.{Worker, Board, worker, with_worked, with_held, intervals, intervals_of, work, working, Turn, done, idle, tells_settled, TellsTruly}
+use Rattle.core_steps.specs.Desks.{Station, interval_of, worker_of, board, result_of, results, desk_parts, HasPieces, HasPart, IsJobOn, CanWork, HasWorked, WorksHeld, Works, working_turn}
+use Rattle.core_steps.specs.Parts.{PartsMove}
 use Rattle.core_steps.proofs.Covers.{once}
 use Rattle.core_steps.proofs.Stations.{worker_is, read_same, still_there, with_held_is}
 
@@ -152,6 +153,18 @@ module _ {K V P : Type 0} (R : K → K → Ordering) (path : K → ℕ) (answers
   pub works_on : (D : Map K V → Type 0) (ds : List (Station K V P)) (w : ℕ) (d e : Station K V P) (y : Turn) → w < length ds → d ≡ get_or ds w d
       → IsJobOn R path answers m ds → WorksHeld R path answers m D d d.held y e → Works R path answers m D ds w y (set ds w e)
   works_on D ds w d e y there read job works = works_by D ds w d e y d.held there read job refl works
+
+  -- and the others keep their parts
+  works_parts_by : (D : Map K V → Type 0) (ds : List (Station K V P)) (w : ℕ) (d e : Station K V P) (y : Turn) (o : Option (Portion K V)) → d ≡ get_or ds w d
+      → WorksHeld R path answers m D d o y e → PartsMove (desk_parts ds) (working w) y (desk_parts (set ds w e))
+  works_parts_by D ds w d e y None read works =
+      subst (λ (t : Turn). PartsMove (desk_parts ds) (working w) t (desk_parts (set ds w e))) (sym works.0) (ap desk_parts (ap (set ds w) (works.1 ∙ read) ∙ set-get_or ds w d))
+  works_parts_by D ds w d e y (Some p) read works =
+      subst (λ (t : Turn). PartsMove (desk_parts ds) (working w) t (desk_parts (set ds w e))) (sym works.told_is) (e.part, map-set (λ (x : Station K V P). x.part) ds w e)
+
+  pub works_parts : (D : Map K V → Type 0) (ds : List (Station K V P)) (w : ℕ) (d e : Station K V P) (y : Turn) → d ≡ get_or ds w d
+      → WorksHeld R path answers m D d d.held y e → PartsMove (desk_parts ds) (working w) y (desk_parts (set ds w e))
+  works_parts D ds w d e y read works = works_parts_by D ds w d e y d.held read works
 
 module _ {K V P : Type 0} (R : K → K → Ordering) (path : K → ℕ)
     (law_one : (m : Map K V) (i : Interval) → part path m i ≡ parts path m (i ∷ []))

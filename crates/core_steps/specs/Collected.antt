@@ -24,6 +24,10 @@ module _ {K V P : Type 0} (path : K → ℕ) (answers : Map K V → P → Type 0
   abbrev pub IsJoined : List (Station K V P) → P → Type 0
   IsJoined ds part = (waiting (board ds) ≡ []) × answers (parts path m (all_worked (board ds))) part
 
+  -- there is a part that answers the whole map: nothing waits and nothing is held, or some worker's own pairs decide
+  abbrev pub MayCollect : List (Station K V P) → Type 0
+  MayCollect ds = (waiting (board ds) ≡ []) ⊎ SomeDecided ds
+
   -- a part of all that was worked where nothing else is left, or one that answers the whole map already; none where there is neither
   abbrev pub IsCollected : List (Station K V P) → Option P → Type 0
   IsCollected ds (Some part) = IsJoined ds part ⊎ (answers m part × SomeDecided ds)

@@ -36,6 +36,10 @@ module _ {K V P : Type 0} where
   abbrev pub results : List (Station K V P) → List (P × List Interval)
   results ds = map result_of ds
 
+  -- the parts of the workers
+  abbrev pub desk_parts : List (Station K V P) → List P
+  desk_parts ds = map (λ d. d.part) ds
+
   -- a desk where the newest piece is taken, where none is held and there is one
   abbrev pub station_taken : Station K V P → Option (Portion K V) → Option (Portion K V) → Turn × Station K V P
   station_taken d None (Some p) = (took p.interval.lo p.interval.hi, record d { queue = without_newest d.queue; held = Some p })

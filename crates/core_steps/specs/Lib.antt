@@ -1,5 +1,6 @@
 pub mod Boards
 pub mod Cores
+pub mod Parts
 pub mod Invariants
 pub mod Traces
 pub mod Laws

@@ -6,7 +6,8 @@ use Rattle.iter.specs.Intervals.{part, parts}
 use Rattle.splitter.specs.Cuts.{cut_point}
 use Rattle.core_steps.specs.Boards as boards
 use Rattle.core_steps.specs.Boards.{Board, worker, mover, moved, Turn, tells_settled, TellsTruly}
-use Rattle.core_steps.specs.Desks.{Station, board, IsJobOn}
+use Rattle.core_steps.specs.Desks.{Station, board, desk_parts, IsJobOn}
+use Rattle.core_steps.specs.Parts.{PartsMove}
 use Rattle.core_steps.specs.declared.moves.Move.{Move}
 use Rattle.core_steps.specs.declared.moves.Move.TheVariants.{Take, Steal, Split, Work}
 
@@ -29,9 +30,10 @@ module _ {K V P : Type 0} (path : K → ℕ) (m : Map K V) where
   turn_on grain ds x y = moved (λ i. cut_point path m i grain) (λ i. length (part path m i)) (tells_settled y) (board ds) x
 
 module _ {K V P : Type 0} (R : K → K → Ordering) (path : K → ℕ) (answers : Map K V → P → Type 0) (Decides : Map K V → Type 0) (m : Map K V) where
-  -- a worker's move on the desks of a job: the board's, and what it tells of settling is true
+  -- a worker's move on the desks of a job: the board's, what it tells of settling is true, and the others keep their parts
   pub record MovesTo (grain : ℕ) (old : List (Station K V P)) (x : boards.Move) (y : Turn) (new : List (Station K V P)) : Type 0 where
     pub told : y ≡ (turn_on path m grain old x y).0
     pub left : board new ≡ (turn_on path m grain old x y).1
     pub truly : TellsTruly y (Decides (parts path m (worker (board new) (mover x)).worked))
+    pub parts : PartsMove (desk_parts old) x y (desk_parts new)
     pub job : IsJobOn R path answers m new

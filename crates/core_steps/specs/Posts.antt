@@ -7,7 +7,8 @@ use Rattle.versions.specs.Map.{Map, IsMap, value_at}
 use Rattle.handles.specs.Machine.{State, Job, job_at}
 use Rattle.core_steps.specs.Boards.{Board}
 use Rattle.core_steps.specs.Cores.{CoreState}
-use Rattle.core_steps.specs.Desks.{Station, board, IsJobOn}
+use Rattle.core_steps.specs.Parts.{CoreValue}
+use Rattle.core_steps.specs.Desks.{Station, board, desk_parts, IsJobOn}
 use Rattle.core_steps.specs.Invariants.{IsCore}
 use Rattle.core_steps.specs.declared.post.Post.{Post}
 
@@ -33,6 +34,14 @@ module _ {K V Q P : Type 0} where
   abbrev pub boards_of : Map ℕ (Posted K V Q P) → Map ℕ Board
   boards_of m = map shown m
 
+  -- the parts of the workers of an open job, under its number
+  abbrev pub parts_shown : ℕ × Posted K V Q P → ℕ × List P
+  parts_shown x = (x.0, desk_parts x.1.desks)
+
+  -- the parts of the workers of all open jobs
+  abbrev pub all_parts : Map ℕ (Posted K V Q P) → Map ℕ (List P)
+  all_parts m = map parts_shown m
+
   -- the job of the number stands at this place
   pub record IsPlaceOf (ps : List (Post K V Q P)) (n place : ℕ) : Type 0 where
     pub inside : place < length ps
@@ -41,6 +50,10 @@ module _ {K V Q P : Type 0} where
   -- the core of a machine and its open jobs
   abbrev pub core_of : State K V Q → Map ℕ (Posted K V Q P) → ℕ → ℕ → CoreState K V Q
   core_of s posts workers grain = record { machine = s; boards = boards_of posts; workers = workers; grain = grain }
+
+  -- the same with the parts of the workers
+  abbrev pub value_of : State K V Q → Map ℕ (Posted K V Q P) → ℕ → ℕ → CoreValue K V Q P
+  value_of s posts workers grain = record { state = core_of s posts workers grain; parts = all_parts posts }
 
 module _ {K V Q P : Type 0} (R : K → K → Ordering) (path : K → ℕ) (answers : Q → Map K V → P → Type 0) (ready : Q → Type 0) where
   -- the job has these desks: they are those of its query and its frozen map, and the query may be called on every pair

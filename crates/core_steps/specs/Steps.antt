@@ -1,5 +1,5 @@
 -- How the steps of a core and their outcomes appear to its definitions.
-use Rattle.std.specs.Prelude.{◌≡◌, Bool, List, [], ◌∷◌, Option, Result, Ok, Err, true, false}
+use Rattle.std.specs.Prelude.{◌≡◌, ℕ, Bool, List, [], ◌∷◌, Option, Result, Ok, Err, true, false}
 use Rattle.std.specs.Arc.{arc_value}
 use Rattle.versions.specs.Map.{Map}
 use Rattle.versions.specs.declared.refusal.Refusal.{Refusal}
@@ -11,10 +11,12 @@ use Rattle.handles.specs.declared.call_reply.CallReply.{CallReply}
 use Rattle.handles.specs.Machine.{Kind, Request, view, freeze, finish, abandon, made, viewed, frozen, finished, unfinished, Run}
 use Rattle.handles.specs.Machine as machine
 use Rattle.handles.specs.Views.{request_of, call_outcome}
+use Rattle.iter.specs.Intervals.{AreApart}
 use Rattle.core_steps.specs.Boards.{taking, stealing, splitting, working}
-use Rattle.core_steps.specs.Cores.{CoreState, Asked, of_client, of_worker, Told, to_client, to_worker, no_turn, Division, CoreStep, refusal_of}
+use Rattle.core_steps.specs.Cores.{CoreState, Asked, of_client, of_worker, Told, to_client, to_worker, no_turn, Division, IsUnfinished, CoreStep, refusal_of}
+use Rattle.core_steps.specs.Parts.{CoreValue, PartsStep}
 use Rattle.core_steps.specs.Moves.{moves_without_memory}
-use Rattle.core_steps.specs.Traces.{client_requests, client_outcomes, CoreRun}
+use Rattle.core_steps.specs.Traces.{client_requests, client_outcomes, covered, CoreRun}
 use Rattle.core_steps.specs.Views.{turn_of}
 use Rattle.core_steps.specs.declared.step.Step.{Step}
 use Rattle.core_steps.specs.declared.step.Step.TheVariants.{Call, View, Freeze, Finish, Abandon, Take, Steal, Split, Work}
@@ -81,15 +83,21 @@ takes_no_memory (of_client (finish j)) = false
 takes_no_memory (of_client r) = machine.takes_no_memory r
 takes_no_memory (of_worker j x) = moves_without_memory x
 
-module _ {K V Q I A : Type 0} (kind : Kind K V Q A (plain.Told K V I)) (division : Division K V Q) where
-  -- one step of the core, of which the outcome shows what is told
-  pub record StepsTo (s : CoreState K V Q) (x : Asked K V Q) (o : Outcome K V I) (t : CoreState K V Q) : Type 0 where
+-- where what is asked is a finish, its job is not unfinished
+abbrev pub MayFinish : {K V Q : Type 0} → Division K V Q → CoreState K V Q → Asked K V Q → Type 0
+MayFinish division s (of_client (finish j)) = IsUnfinished division s j → ⊥
+MayFinish division s x = Unit {0}
+
+module _ {K V Q P I A : Type 0} (kind : Kind K V Q A (plain.Told K V I)) (division : Division K V Q) where
+  -- one step of the core, of which the outcome shows what is told; each worker keeps its part, but for one that has worked a piece
+  pub record StepsTo (s : CoreValue K V Q P) (x : Asked K V Q) (o : Outcome K V I) (t : CoreValue K V Q P) : Type 0 where
     pub told : Told K V (plain.Told K V I)
     pub shown : Shows x o told
-    pub step : CoreStep kind division s x told t
+    pub step : CoreStep kind division s.state x told t.state
+    pub parts : PartsStep s.parts told x t.parts
 
   -- the same of a step that may want memory, which changes nothing then
-  abbrev pub IsAnswered : CoreState K V Q → Asked K V Q → Result (Outcome K V I) NoMemory → CoreState K V Q → Type 0
+  abbrev pub IsAnswered : CoreValue K V Q P → Asked K V Q → Result (Outcome K V I) NoMemory → CoreValue K V Q P → Type 0
   IsAnswered s x (Ok o) t = StepsTo s x o t
   IsAnswered s x (Err e) t = t ≡ s
 
@@ -107,7 +115,8 @@ module _ {K V Q I A : Type 0} (kind : Kind K V Q A (plain.Told K V I)) (division
     pub shown : AllShow xs os told
     pub run : CoreRun kind division s xs told t
 
-  -- the same, and what clients see of it is a run of the machine
+  -- the same; what clients see of it is a run of the machine, and of no job a position was worked twice
   pub record Ran (s : CoreState K V Q) (xs : List (Asked K V Q)) (os : List (Outcome K V I)) (t : CoreState K V Q) : Type 0 where
     pub steps : HasRun s xs os t
     pub machine : Run kind s.machine (client_requests xs) (client_outcomes steps.told) t.machine
+    pub apart : (j : ℕ) → AreApart (covered j xs steps.told)

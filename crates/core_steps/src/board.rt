@@ -1,11 +1,12 @@
 //! The board of one job: the desks of its workers.
 
 ghost use Rattle.std.specs.Prelude.{All, ◌≡◌, ◌<◌, ◌≤◌, [], IfOk, OnErr, length, option_map, slice_get, slice_index_or, slice_set};
-ghost use Rattle.core_steps.specs.Boards.{first_board};
+ghost use Rattle.core_steps.specs.Boards.{first_board, working};
 ghost use Rattle.versions.specs.Map.{Map};
 ghost use Rattle.splitter.specs.Cuts.{cut_point};
 ghost use Rattle.std.specs.VecDeque.{deque_capacity, deque_len};
-ghost use Rattle.core_steps.specs.Desks.{HasPieces, IsJobOn, IsVacant, Leaves, Station, Works, board, splitting_turn, stealing_turn, taking_turn};
+ghost use Rattle.core_steps.specs.Desks.{HasPieces, IsJobOn, IsVacant, Leaves, Station, Works, board, desk_parts, splitting_turn, stealing_turn, taking_turn};
+ghost use Rattle.core_steps.specs.Parts.{PartsMove};
 ghost use Rattle.core_steps.specs.Views.{turn_of};
 
 use crate::desk::Desk;
@@ -170,6 +171,7 @@ pub fn work_on<K: PathKey + Drop, V: Drop, B: Bulk<K, V>>(
     requires worker { worker < length board.old }
     requires job { (m : Map K V) × IsJobOn K.cmp K.path_of (B.answers bulk.now) m board.old }
     ensures ok { IfOk result (λ progress. (m : Map K V) → IsJobOn K.cmp K.path_of (B.answers bulk.now) m board.old → Works K.cmp K.path_of (B.answers bulk.now) m (B.decides bulk.now) board.old worker (turn_of progress) board.new) }
+    ensures parts { IfOk result (λ progress. PartsMove (desk_parts board.old) (working worker) (turn_of progress) (desk_parts board.new)) }
     ensures err { OnErr result (board.new ≡ board.old) }
 {
     work_held(alloc, bulk, &mut board.desks[worker as usize])

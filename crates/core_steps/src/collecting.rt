@@ -1,11 +1,11 @@
 //! How the parts of a job's workers are put together.
-ghost use Rattle.std.specs.Prelude.{◌≡◌, ◌↔◌, [], IfOk, true};
+ghost use Rattle.std.specs.Prelude.{◌≡◌, ◌↔◌, [], IfOk, OnErr, true};
 ghost use Rattle.versions.specs.Map.{Map};
 ghost use Rattle.iter.specs.Intervals.{parts};
 ghost use Rattle.core_steps.specs.Boards.{all_worked};
 ghost use Rattle.core_steps.specs.Desks.{IsJobOn, board};
 ghost use Rattle.core_steps.specs.Invariants.{waiting};
-ghost use Rattle.core_steps.specs.Collected.{IsCollected, IsSettledPart};
+ghost use Rattle.core_steps.specs.Collected.{IsCollected, IsSettledPart, MayCollect, SomeDecided};
 
 use crate::board::Board;
 use crate::desk::Desk;
@@ -16,14 +16,15 @@ use std::alloc::Global;
 use trie_node::NoMemory;
 
 /// A part that answers the whole map of a job: where nothing waits and nothing is held the parts of all workers,
-/// joined; else the part of a worker whose own pairs decide. None where there is neither.
+/// joined; else the part of a worker whose own pairs decide. None where there is neither, whatever the memory.
 pub fn collected<K: PathKey + Drop, V: Drop, B: Bulk<K, V>>(
     alloc: Global,
     bulk: &B,
     board: &Board<K, V, B::Part>,
 ) -> Result<Option<B::Part>, NoMemory>
     requires { (m : Map K V) × IsJobOn K.cmp K.path_of (B.answers bulk.now) m board.now }
-    ensures { IfOk result (λ part. (m : Map K V) → IsJobOn K.cmp K.path_of (B.answers bulk.now) m board.now → IsCollected K.path_of (B.answers bulk.now) (B.decides bulk.now) m board.now part) }
+    ensures part { IfOk result (λ part. (m : Map K V) → IsJobOn K.cmp K.path_of (B.answers bulk.now) m board.now → IsCollected K.path_of (B.answers bulk.now) (B.decides bulk.now) m board.now part) }
+    ensures wanting { OnErr result ((m : Map K V) → IsJobOn K.cmp K.path_of (B.answers bulk.now) m board.now → MayCollect K.path_of (B.answers bulk.now) (B.decides bulk.now) m board.now) }
 {
     let desks = board.desks();
     if is_done(desks) {
@@ -74,7 +75,8 @@ fn settled_part<K: PathKey + Drop, V: Drop, B: Bulk<K, V>>(
     desks: &[Desk<K, V, B::Part>],
 ) -> Result<Option<B::Part>, NoMemory>
     requires { (m : Map K V) × IsJobOn K.cmp K.path_of (B.answers bulk.now) m desks.now }
-    ensures { IfOk result (λ part. (m : Map K V) → IsJobOn K.cmp K.path_of (B.answers bulk.now) m desks.now → IsSettledPart K.path_of (B.answers bulk.now) (B.decides bulk.now) m desks.now part) }
+    ensures part { IfOk result (λ part. (m : Map K V) → IsJobOn K.cmp K.path_of (B.answers bulk.now) m desks.now → IsSettledPart K.path_of (B.answers bulk.now) (B.decides bulk.now) m desks.now part) }
+    ensures wanting { OnErr result ((m : Map K V) → IsJobOn K.cmp K.path_of (B.answers bulk.now) m desks.now → SomeDecided K.path_of (B.answers bulk.now) (B.decides bulk.now) m desks.now) }
 {
     parts_follow_intervals::<K, V>();
     for desk in desks {

@@ -1,16 +1,18 @@
 //! The core: a table of handles, with a board for each open job.
-ghost use Rattle.std.specs.Prelude.{◌≡◌, ◌≤◌, ◌<◌, ◌&&◌, ◌++◌, ◌∷◌, [], All, IfErr, IfOk, IfSome, OnErr, OnOk, None, Some, is_none, is_some, not, nat_lt, map, take, length, false, true};
+ghost use Rattle.std.specs.Prelude.{◌≡◌, ◌≤◌, ◌<◌, ◌&&◌, ◌++◌, ◌∷◌, [], All, IfErr, IfOk, IfSome, OnErr, OnOk, None, Some, is_none, is_some, not, nat_lt, map, option_map, take, length, false, true};
 ghost use Rattle.handles.specs.Machine.{Job, abandon, finish, freeze, job_at, refusal, view};
 ghost use Rattle.handles.specs.Views.{request_of};
-ghost use Rattle.core_steps.specs.Cores.{new_core, of_client, of_worker, worked_part};
+ghost use Rattle.core_steps.specs.Cores.{of_client, of_worker, worked_part};
 ghost use Rattle.core_steps.specs.Invariants.{IsCore};
 ghost use Rattle.core_steps.specs.Moves.{move_of, moves_without_memory};
+ghost use Rattle.core_steps.specs.Parts.{new_value, part_at};
 ghost use Rattle.core_steps.specs.Queries.{asked, divided};
-ghost use Rattle.core_steps.specs.Steps.{CanAsk, IsAnswered, Ran, StepsTo, asked_by, refusal_due, takes_no_memory};
+ghost use Rattle.core_steps.specs.Steps.{CanAsk, IsAnswered, MayFinish, Ran, StepsTo, asked_by, refusal_due, takes_no_memory};
 ghost use Rattle.core_steps.specs.declared.outcome.Outcome.{Outcome};
 
 use crate::board::{begin_whole, vacant};
 use crate::collecting::collected;
+use crate::laws::law_of_coverings;
 use crate::moves::{Move, make_move};
 use crate::outcome::{Outcome, Trace, call_outcome, refused, view_outcome};
 use crate::post::{Post, close, place_of};
@@ -41,12 +43,12 @@ pub struct Core<K: PathKey, V, Q: Asks<K, V>> {
 }
 
 impl<K: PathKey, V, Q: Asks<K, V>> Model for Core<K, V, Q> {
-    ghost use Rattle.core_steps.specs.Cores.{CoreState};
-    ghost use Rattle.core_steps.specs.Posts.{IsWhole, core_of, posts_of};
+    ghost use Rattle.core_steps.specs.Parts.{CoreValue};
+    ghost use Rattle.core_steps.specs.Posts.{IsWhole, posts_of, value_of};
 
-    ghost Value = { CoreState K V Q };
+    ghost Value = { CoreValue K V Q Q.Part };
 
-    ghost view = { λ c. core_of c.table (posts_of c.posts.items) c.workers c.grain };
+    ghost view = { λ c. value_of c.table (posts_of c.posts.items) c.workers c.grain };
 
     ghost invariant = { λ c. IsWhole K.cmp K.path_of Q.answers Q.ready c.table (posts_of c.posts.items) c.workers c.grain };
 }
@@ -68,7 +70,7 @@ impl<K: PathKey + Drop, V: Eq + Drop, Q: Asks<K, V> + Drop> Core<K, V, Q> {
         requires most_workers { workers ≤ 16 }
         requires least_grain { 1 ≤ grain }
         requires most_grain { grain ≤ 65536 }
-        ensures { IfOk result (λ core. core ≡ new_core limits workers grain) }
+        ensures { IfOk result (λ core. core ≡ new_value limits workers grain) }
     {
         let table = Table::new(alloc, limits)?;
         Ok(Core {
@@ -81,8 +83,9 @@ impl<K: PathKey + Drop, V: Eq + Drop, Q: Asks<K, V> + Drop> Core<K, V, Q> {
 
     /// The part of what a worker of an open job has worked: none where the job is not open or the worker not there.
     pub fn part(&self, job: u64, worker: u32) -> Option<&Q::Part>
-        ensures none { is_none result ≡ not (is_some (job_at self.now.machine job) && nat_lt worker self.now.workers) }
-        ensures some { IfSome result (λ part. (asking : Job K V Q) → job_at self.now.machine job ≡ Some asking → Q.answers asking.query (worked_part (divided K.path_of Q.decides) self.now job worker) part.now) }
+        ensures none { is_none result ≡ not (is_some (job_at self.now.state.machine job) && nat_lt worker self.now.state.workers) }
+        ensures shown { option_map (λ part. part.now) result ≡ part_at self.now.parts job worker }
+        ensures some { IfSome result (λ part. (asking : Job K V Q) → job_at self.now.state.machine job ≡ Some asking → Q.answers asking.query (worked_part (divided K.path_of Q.decides) self.now.state job worker) part.now) }
     {
         law_of_cuts::<K, V>();
         match place_of(&self.posts, job) {
@@ -93,8 +96,9 @@ impl<K: PathKey + Drop, V: Eq + Drop, Q: Asks<K, V> + Drop> Core<K, V, Q> {
 
     /// Makes one step of a client or of a worker.
     ///
-    /// A query that is frozen may be called on every pair. A refusal that is due is told whatever the memory. After
-    /// `NoMemory` all is as before. A drop of a handle, an abandon, a size, a take and a steal are never answered so.
+    /// A query that is frozen may be called on every pair. A refusal that is due is told whatever the memory, and so is
+    /// that a job is unfinished. After `NoMemory` all is as before, and each step leaves all parts as they were, but for
+    /// that of a worker that works a piece, and those of a job that it opens or closes. A drop of a handle, an abandon, a size, a take and a steal are never answered so.
     pub fn step(
         &mut self,
         alloc: Global,
@@ -102,9 +106,10 @@ impl<K: PathKey + Drop, V: Eq + Drop, Q: Asks<K, V> + Drop> Core<K, V, Q> {
     ) -> Result<Outcome<K, V, Q::Item>, NoMemory>
         requires { CanAsk Q.ready (asked_by step) }
         ensures step { IsAnswered (asked K.cmp V.eq Q.target_of Q.answered) (divided K.path_of Q.decides) self.old (asked_by step) result self.new }
-        ensures due { OnErr result (refusal_due (asked K.cmp V.eq Q.target_of Q.answered) self.old (asked_by step) ≡ None) }
+        ensures due { OnErr result (refusal_due (asked K.cmp V.eq Q.target_of Q.answered) self.old.state (asked_by step) ≡ None) }
+        ensures unfinished { OnErr result (MayFinish (divided K.path_of Q.decides) self.old.state (asked_by step)) }
         ensures memory { OnErr result (takes_no_memory (asked_by step) ≡ false) }
-        ensures core { IsCore self.new }
+        ensures core { IsCore self.new.state }
     {
         let answer = self.made(alloc, step);
         // called for its contract alone, which tells that this is a core
@@ -112,7 +117,8 @@ impl<K: PathKey + Drop, V: Eq + Drop, Q: Asks<K, V> + Drop> Core<K, V, Q> {
         answer
     }
 
-    /// Makes the steps in order, and gives their outcomes. What clients see of them is a run of the machine of handles.
+    /// Makes the steps in order, and gives their outcomes. What clients see of them is a run of the machine of handles,
+    /// and no position of a job is worked twice.
     ///
     /// Where memory is wanting, the outcomes are those of the steps before, and the core is as after those.
     pub fn run(
@@ -121,11 +127,14 @@ impl<K: PathKey + Drop, V: Eq + Drop, Q: Asks<K, V> + Drop> Core<K, V, Q> {
         steps: &[Step<K, V, Q>],
     ) -> Result<Trace<K, V, Q::Item>, (Trace<K, V, Q::Item>, NoMemory)>
         requires { All (λ step. CanAsk Q.ready (asked_by step)) steps.now }
-        ensures run { IfOk result (λ trace. Ran (asked K.cmp V.eq Q.target_of Q.answered) (divided K.path_of Q.decides) self.old (map asked_by steps.now) trace.outcomes.items self.new) }
+        ensures run { IfOk result (λ trace. Ran (asked K.cmp V.eq Q.target_of Q.answered) (divided K.path_of Q.decides) self.old.state (map asked_by steps.now) trace.outcomes.items self.new.state) }
         ensures short { IfErr result (λ e. length e.0.outcomes.items < length steps.now) }
-        ensures err { IfErr result (λ e. Ran (asked K.cmp V.eq Q.target_of Q.answered) (divided K.path_of Q.decides) self.old (map asked_by (take (length e.0.outcomes.items) steps.now)) e.0.outcomes.items self.new) }
-        ensures core { IsCore self.new }
+        ensures err { IfErr result (λ e. Ran (asked K.cmp V.eq Q.target_of Q.answered) (divided K.path_of Q.decides) self.old.state (map asked_by (take (length e.0.outcomes.items) steps.now)) e.0.outcomes.items self.new.state) }
+        ensures core { IsCore self.new.state }
     {
+        law_of_coverings::<K, V, Q>();
+        // called for its contract alone, which tells that this is a core
+        self.workers();
         let mut outcomes = Vec::new(alloc);
         for step in steps {
             if self.one_more(alloc, step, &mut outcomes).is_err() {
@@ -133,7 +142,6 @@ impl<K: PathKey + Drop, V: Eq + Drop, Q: Asks<K, V> + Drop> Core<K, V, Q> {
                 return Err((Trace { outcomes }, NoMemory));
             }
         }
-        // as in `step`, for what its contract tells
         self.workers();
         Ok(Trace { outcomes })
     }
@@ -158,8 +166,8 @@ impl<K: PathKey + Drop, V: Eq + Drop, Q: Asks<K, V> + Drop> Core<K, V, Q> {
 
     /// How many workers each job has.
     pub fn workers(&self) -> u32
-        ensures count { result ≡ self.now.workers }
-        ensures core { IsCore self.now }
+        ensures count { result ≡ self.now.state.workers }
+        ensures core { IsCore self.now.state }
     {
         self.workers
     }
@@ -172,7 +180,8 @@ impl<K: PathKey + Drop, V: Eq + Drop, Q: Asks<K, V> + Drop> Core<K, V, Q> {
     ) -> Result<Outcome<K, V, Q::Item>, NoMemory>
         requires { CanAsk Q.ready (asked_by step) }
         ensures step { IsAnswered (asked K.cmp V.eq Q.target_of Q.answered) (divided K.path_of Q.decides) self.old (asked_by step) result self.new }
-        ensures due { OnErr result (refusal_due (asked K.cmp V.eq Q.target_of Q.answered) self.old (asked_by step) ≡ None) }
+        ensures due { OnErr result (refusal_due (asked K.cmp V.eq Q.target_of Q.answered) self.old.state (asked_by step) ≡ None) }
+        ensures unfinished { OnErr result (MayFinish (divided K.path_of Q.decides) self.old.state (asked_by step)) }
         ensures memory { OnErr result (takes_no_memory (asked_by step) ≡ false) }
     {
         match step {
@@ -191,7 +200,8 @@ impl<K: PathKey + Drop, V: Eq + Drop, Q: Asks<K, V> + Drop> Core<K, V, Q> {
     // A client makes a call.
     fn call(&mut self, alloc: Global, call: Call<K, V>) -> Result<Outcome<K, V, Q::Item>, NoMemory>
         ensures step { IsAnswered (asked K.cmp V.eq Q.target_of Q.answered) (divided K.path_of Q.decides) self.old (of_client (request_of call)) result self.new }
-        ensures due { OnErr result (refusal_due (asked K.cmp V.eq Q.target_of Q.answered) self.old (of_client (request_of call)) ≡ None) }
+        ensures due { OnErr result (refusal_due (asked K.cmp V.eq Q.target_of Q.answered) self.old.state (of_client (request_of call)) ≡ None) }
+        ensures unfinished { OnErr result (MayFinish (divided K.path_of Q.decides) self.old.state (of_client (request_of call))) }
         ensures memory { OnErr result (takes_no_memory {Q = Q} (of_client (request_of call)) ≡ false) }
     {
         law_of_cuts::<K, V>();
@@ -202,7 +212,7 @@ impl<K: PathKey + Drop, V: Eq + Drop, Q: Asks<K, V> + Drop> Core<K, V, Q> {
     // A client views a map.
     fn view(&mut self, handle: u32) -> Result<Outcome<K, V, Q::Item>, NoMemory>
         ensures step { IsAnswered (asked K.cmp V.eq Q.target_of Q.answered) (divided K.path_of Q.decides) self.old (of_client (view handle)) result self.new }
-        ensures due { OnErr result (refusal_due (asked K.cmp V.eq Q.target_of Q.answered) self.old (of_client (view handle)) ≡ None) }
+        ensures due { OnErr result (refusal_due (asked K.cmp V.eq Q.target_of Q.answered) self.old.state (of_client (view handle)) ≡ None) }
     {
         law_of_cuts::<K, V>();
         law_of_open_jobs::<K, V, Q>();
@@ -219,7 +229,7 @@ impl<K: PathKey + Drop, V: Eq + Drop, Q: Asks<K, V> + Drop> Core<K, V, Q> {
     ) -> Result<Outcome<K, V, Q::Item>, NoMemory>
         requires { Q.ready query.value }
         ensures step { IsAnswered (asked K.cmp V.eq Q.target_of Q.answered) (divided K.path_of Q.decides) self.old (of_client (freeze handle query.value)) result self.new }
-        ensures due { OnErr result (refusal_due (asked K.cmp V.eq Q.target_of Q.answered) self.old (of_client (freeze handle query.value)) ≡ None) }
+        ensures due { OnErr result (refusal_due (asked K.cmp V.eq Q.target_of Q.answered) self.old.state (of_client (freeze handle query.value)) ≡ None) }
     {
         law_of_cuts::<K, V>();
         law_of_freezes::<K, V, Q>();
@@ -250,9 +260,9 @@ impl<K: PathKey + Drop, V: Eq + Drop, Q: Asks<K, V> + Drop> Core<K, V, Q> {
         handle: u32,
         query: Arc<Q>,
     ) -> Result<Outcome<K, V, Q::Item>, NoMemory>
-        requires { is_some (refusal_due (asked K.cmp V.eq Q.target_of Q.answered) self.old (of_client (freeze handle query.value))) ≡ true }
+        requires { is_some (refusal_due (asked K.cmp V.eq Q.target_of Q.answered) self.old.state (of_client (freeze handle query.value))) ≡ true }
         ensures step { IsAnswered (asked K.cmp V.eq Q.target_of Q.answered) (divided K.path_of Q.decides) self.old (of_client (freeze handle query.value)) result self.new }
-        ensures due { OnErr result (refusal_due (asked K.cmp V.eq Q.target_of Q.answered) self.old (of_client (freeze handle query.value)) ≡ None) }
+        ensures due { OnErr result (refusal_due (asked K.cmp V.eq Q.target_of Q.answered) self.old.state (of_client (freeze handle query.value)) ≡ None) }
     {
         law_of_cuts::<K, V>();
         match self.table.freeze(handle, query) {
@@ -264,7 +274,8 @@ impl<K: PathKey + Drop, V: Eq + Drop, Q: Asks<K, V> + Drop> Core<K, V, Q> {
     // A client collects the answer of a job.
     fn finish(&mut self, alloc: Global, job: u64) -> Result<Outcome<K, V, Q::Item>, NoMemory>
         ensures step { IsAnswered (asked K.cmp V.eq Q.target_of Q.answered) (divided K.path_of Q.decides) self.old (of_client (finish job)) result self.new }
-        ensures due { OnErr result (refusal_due (asked K.cmp V.eq Q.target_of Q.answered) self.old (of_client (finish job)) ≡ None) }
+        ensures due { OnErr result (refusal_due (asked K.cmp V.eq Q.target_of Q.answered) self.old.state (of_client (finish job)) ≡ None) }
+        ensures unfinished { OnErr result (MayFinish (divided K.path_of Q.decides) self.old.state (of_client (finish job))) }
     {
         law_of_cuts::<K, V>();
         parts_follow_intervals::<K, V>();
@@ -286,7 +297,7 @@ impl<K: PathKey + Drop, V: Eq + Drop, Q: Asks<K, V> + Drop> Core<K, V, Q> {
     // A client closes a job without an answer.
     fn abandon(&mut self, job: u64) -> Result<Outcome<K, V, Q::Item>, NoMemory>
         ensures step { IsAnswered (asked K.cmp V.eq Q.target_of Q.answered) (divided K.path_of Q.decides) self.old (of_client (abandon job)) result self.new }
-        ensures due { OnErr result (refusal_due (asked K.cmp V.eq Q.target_of Q.answered) self.old (of_client (abandon job)) ≡ None) }
+        ensures due { OnErr result (refusal_due (asked K.cmp V.eq Q.target_of Q.answered) self.old.state (of_client (abandon job)) ≡ None) }
         ensures memory { OnErr result (takes_no_memory {K = K} {V = V} {Q = Q} (of_client (abandon job)) ≡ false) }
     {
         law_of_cuts::<K, V>();
@@ -306,7 +317,7 @@ impl<K: PathKey + Drop, V: Eq + Drop, Q: Asks<K, V> + Drop> Core<K, V, Q> {
         chosen: Move,
     ) -> Result<Outcome<K, V, Q::Item>, NoMemory>
         ensures step { IsAnswered (asked K.cmp V.eq Q.target_of Q.answered) (divided K.path_of Q.decides) self.old (of_worker job (move_of chosen)) result self.new }
-        ensures due { OnErr result (refusal_due (asked K.cmp V.eq Q.target_of Q.answered) self.old (of_worker job (move_of chosen)) ≡ None) }
+        ensures due { OnErr result (refusal_due (asked K.cmp V.eq Q.target_of Q.answered) self.old.state (of_worker job (move_of chosen)) ≡ None) }
         ensures memory { OnErr result (moves_without_memory (move_of chosen) ≡ false) }
     {
         law_of_cuts::<K, V>();

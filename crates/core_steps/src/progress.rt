@@ -1,17 +1,19 @@
 //! What workers are answered.
 
+use hash_path::Bound;
+
 /// What a worker's move on an open job is answered. Intervals are told by their first position and the one after the
 /// last.
 #[derive(Clone, Copy, Debug, PartialEq, Eq)]
 pub enum Progress {
     /// It holds this interval now.
-    Took(u64, u64),
+    Took(Bound, Bound),
     /// What it held is cut at the middle position: it holds the lower interval, and the upper one waits in its queue.
-    Cut(u64, u64, u64),
+    Cut(Bound, Bound, Bound),
     /// What it holds has no cut point.
     Whole,
     /// It has worked this interval, with so many pairs; and whether its part is settled.
-    Worked(u64, u64, u64, bool),
+    Worked(Bound, Bound, u64, bool),
     /// There was nothing to do.
     Idle,
 }

@@ -10,23 +10,23 @@ use std::alloc::Global;
 use test_keys::{ChosenKey, Random};
 
 /// Words that part at each level, some of them at several.
-const WORDS: [u32; 16] = [
+const WORDS: [u64; 16] = [
     0,
-    0xc000_0000,
-    0x4000_0000,
-    0xffff_ffff,
-    0x3fff_ffff,
-    0x3eff_ffff,
+    0xc000_0000_0000_0000,
+    0x4000_0000_0000_0000,
+    0xffff_ffff_ffff_ffff,
+    0x3fff_ffff_ffff_ffff,
+    0x3eff_ffff_ffff_ffff,
     1,
     33,
-    0x0010_0001,
-    0x0110_0001,
-    0x0000_8001,
-    0x0000_8002,
-    0x0000_0400,
-    0xe40c_292c,
-    0xe70c_2de5,
-    0xe60c_2c52,
+    0x0010_0000_0000_0001,
+    0x0110_0000_0000_0001,
+    0x0000_8000_0000_0001,
+    0x0000_8000_0000_0002,
+    0x0000_0400_0000_0000,
+    0xaf63_dc4c_8601_ec8c,
+    0xaf63_df4c_8601_f1a5,
+    0xaf63_de4c_8601_eff2,
 ];
 
 /// How many keys have one word.

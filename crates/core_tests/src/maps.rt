@@ -3,10 +3,10 @@
 use std::alloc::{AllocError, Global};
 
 /// Where a key stands: the position of its path word, and its number.
-pub type Place = (u64, u32);
+pub type Place = (u128, u32);
 
 /// The positions from the first on and below the second.
-pub type Span = (u64, u64);
+pub type Span = (u128, u128);
 
 /// A pair by the place of its key and its value.
 #[derive(Clone, Copy, Debug, PartialEq, Eq)]
@@ -16,20 +16,36 @@ pub struct Row {
 }
 
 /// The end of all positions.
-pub const END: u64 = 1 << 32;
+pub const END: u128 = 1 << 64;
 
 /// How many positions share their digits up to each level, from the first level down.
-const WIDTHS: [u64; 7] = [1 << 27, 1 << 22, 1 << 17, 1 << 12, 1 << 7, 1 << 2, 1];
+const WIDTHS: [u128; 13] = [
+    1 << 59,
+    1 << 54,
+    1 << 49,
+    1 << 44,
+    1 << 39,
+    1 << 34,
+    1 << 29,
+    1 << 24,
+    1 << 19,
+    1 << 14,
+    1 << 9,
+    1 << 4,
+    1,
+];
 
-/// The position of a path word: its digits of five bits, the lowest first, and its last two bits.
-pub fn position_of(word: u32) -> u64 {
+/// The position of a path word: its digits of five bits, the lowest first, and its last four bits.
+pub fn position_of(word: u64) -> u128 {
     let mut rest = word;
-    let mut position = 0u64;
-    for _ in 0..6 {
-        position = position.wrapping_mul(32).wrapping_add(u64::from(rest % 32));
+    let mut position = 0u128;
+    for _ in 0..12 {
+        position = position
+            .wrapping_mul(32)
+            .wrapping_add(u128::from(rest % 32));
         rest /= 32;
     }
-    position.wrapping_mul(4).wrapping_add(u64::from(rest))
+    position.wrapping_mul(16).wrapping_add(u128::from(rest))
 }
 
 /// The value at a place, or none.
@@ -89,7 +105,7 @@ pub fn rows_within(alloc: Global, rows: &[Row], spans: &[Span]) -> Result<Vec<Ro
 }
 
 // Whether some span has the position.
-fn lies_within(position: u64, spans: &[Span]) -> bool {
+fn lies_within(position: u128, spans: &[Span]) -> bool {
     for span in spans {
         if span.0 <= position && position < span.1 {
             return true;
@@ -100,7 +116,7 @@ fn lies_within(position: u64, spans: &[Span]) -> bool {
 
 /// Where rows are cut: nowhere if they are no more than `grain` or share one position; else at the middle one of the
 /// first digits that differ, after the digits that all share and with zeros behind.
-pub fn cut_point(alloc: Global, rows: &[Row], grain: u64) -> Result<Option<u64>, AllocError> {
+pub fn cut_point(alloc: Global, rows: &[Row], grain: u64) -> Result<Option<u128>, AllocError> {
     if rows.len() as u64 <= grain {
         return Ok(None);
     }
@@ -114,7 +130,7 @@ pub fn cut_point(alloc: Global, rows: &[Row], grain: u64) -> Result<Option<u64>,
 }
 
 // The multiples of a width that have rows before the next multiple, each once, in rising order.
-fn starts_of(alloc: Global, rows: &[Row], width: u64) -> Result<Vec<u64>, AllocError> {
+fn starts_of(alloc: Global, rows: &[Row], width: u128) -> Result<Vec<u128>, AllocError> {
     let mut starts = Vec::new(alloc);
     let mut last = None;
     for row in rows {

@@ -8,8 +8,8 @@ mod random;
 mod refusals;
 mod rows;
 
-use crate::plans::{Plan, TestCore, step_of};
-use crate::told::{Told, told_of};
+use crate::plans::{Plan, TestCore, step_of, steps_of};
+use crate::told::{TestOutcome, Told, told_of};
 use handles::Limits;
 use std::alloc::Global;
 use std::fmt::Debug;
@@ -26,6 +26,30 @@ const LARGEST: Limits = Limits {
 fn take_step(alloc: Global, core: &mut TestCore, plan: Plan) -> Result<Told, Fail> {
     let step = step_of(alloc, plan)?;
     Ok(told_of(&core.step(alloc, step)?))
+}
+
+// The core is told this of the plans as one list.
+fn assert_run(
+    rt: &impl Abort,
+    alloc: Global,
+    core: &mut TestCore,
+    plans: &[Plan],
+    told: &[Told],
+) -> Result<(), Fail> {
+    let steps = steps_of(alloc, plans)?;
+    match core.run(alloc, steps.as_slice()) {
+        Ok(trace) => assert_told(rt, &trace.outcomes, told),
+        Err(_) => assert_is(rt, "no memory", "some memory"),
+    }
+    Ok(())
+}
+
+// Each outcome tells what is told.
+fn assert_told(rt: &impl Abort, outcomes: &[TestOutcome], told: &[Told]) {
+    assert_is(rt, outcomes.len(), told.len());
+    for (outcome, told) in outcomes.iter().zip(told) {
+        assert_is(rt, told_of(outcome), *told);
+    }
 }
 
 // What is seen is what is wanted. An assertion is proved wherever it is written out, so it stands here once.

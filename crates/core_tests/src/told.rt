@@ -86,6 +86,15 @@ pub fn part_told(part: &TestPart) -> Told {
     }
 }
 
+/// What a part tells, and the row that it has found, if any.
+pub fn part_shown(part: &TestPart) -> (Told, Option<Row>) {
+    let row = match part {
+        Part::Found(found) => found_row(found),
+        _ => None,
+    };
+    (part_told(part), row)
+}
+
 /// The rows of a view, in the order of a walk.
 pub fn rows_of_view(alloc: Global, view: &View<ChosenKey, u64>) -> Result<Vec<Row>, NoMemory> {
     let mut rows = Vec::new(alloc);

@@ -9,17 +9,16 @@ ghost use Rattle.generation.specs.Owned.{own_below};
 
 use hash_path::PathKey;
 use trie_node::{
-    Look, Node, Stamp, bitmap_counts_children, child, look, root_has_bounded_nodes,
-    root_has_few_nodes, stamp,
+    Look, Node, Stamp, bitmap_counts_children, child, look, root_has_few_nodes, stamp,
 };
 
 /// How many nodes of a root carry the stamp. It walks over all of them and takes no memory.
 pub fn own_nodes<K: PathKey, V>(root: &Node<K, V>, own: Stamp) -> u64
     requires root { IsRoot K.cmp K.path_of (tree root.now) }
+    requires few { node_count (tree root.now) < 2 ^ 64 }
     ensures { result ≡ own_count own.0 (nodes (word_of K.path_of) (tree root.now)) }
 {
     root_has_few_nodes::<K, V>();
-    root_has_bounded_nodes::<K, V>();
     count_own(root, own)
 }
 

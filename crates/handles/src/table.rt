@@ -1,5 +1,5 @@
 //! The table of handles.
-ghost use Rattle.std.specs.Prelude.{◌≡◌, ◌+◌, ◌<◌, ◌≤◌, ◌*◌, ◌^◌, IfOk, OnErr, Some, if◌then◌else◌, false, true};
+ghost use Rattle.std.specs.Prelude.{◌≡◌, ◌+◌, ◌<◌, ◌≤◌, ◌*◌, ◌^◌, IfOk, OnErr, Some, option_map, if◌then◌else◌, false, true};
 ghost use Rattle.bulk_ops.specs.Answers as plain;
 ghost use Rattle.bulk_ops.specs.Told.{told_of};
 ghost use Rattle.handles.specs.Handles.{IsKept, live_from, maps_in};
@@ -100,6 +100,17 @@ impl<K: PathKey + Drop, V: Eq + Drop, Q: Asks<K, V> + Drop> Table<K, V, Q> {
         ensures kept { IsKept self.now.limits.pairs (2 * self.now.entries) result.now }
     {
         self.places.as_slice()
+    }
+
+    /// The query of the open job of the number, and the map that its freeze recorded. It makes no entry and takes no
+    /// memory.
+    pub fn open_job(&self, job: u64) -> Option<(&Q, &View<K, V>)>
+        ensures { option_map (λ x. record { query = x.0.now; frozen = x.1.now }) result ≡ job_at self.now job }
+    {
+        match self.jobs.get(job) {
+            Some(open) => Some((&*open.query, &open.view)),
+            None => None,
+        }
     }
 
     /// Opens the handle, with no pairs.

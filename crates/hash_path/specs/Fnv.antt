@@ -7,11 +7,11 @@ use Rattle.hash_path.specs.Widths.{word_bits}
 
 -- where the hash starts
 abbrev pub offset_basis : ℕ
-offset_basis = 2166136261
+offset_basis = 14695981039346656037
 
 -- what each step multiplies by
 abbrev pub prime : ℕ
-prime = 16777619
+prime = 1099511628211
 
 -- a hash so far with one byte more: exclusive or the byte in, then multiply by the prime
 abbrev pub fnv1a_with : ℕ → ℕ → ℕ

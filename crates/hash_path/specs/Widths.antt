@@ -3,7 +3,7 @@ use Rattle.std.specs.Prelude.{ℕ, ◌-◌, ◌^◌}
 
 -- how many bits a path word has
 abbrev pub word_bits : ℕ
-word_bits = 32
+word_bits = 64
 
 -- how many bits a digit has; a word's last digit has the bits that are left
 abbrev pub digit_bits : ℕ
@@ -11,7 +11,7 @@ digit_bits = 5
 
 -- how many digits a path word has
 abbrev pub word_digits : ℕ
-word_digits = 7
+word_digits = 13
 
 -- the level of the last digit: the deepest that a branch may be at
 abbrev pub last_level : ℕ

@@ -3,20 +3,20 @@ ghost use Rattle.hash_path.specs.Digits.{digit, fnv1a};
 
 use crate::{Path, PathKey, WORD_DIGITS, laws};
 
-/// The vectors of FNV-1a with 32 bits that its authors publish.
+/// The vectors of FNV-1a with 64 bits that its authors publish.
 #[test]
 fn fnv1a_gives_published_hashes(rt: HostRuntime) {
     let vectors = [
-        ("", 0x811c_9dc5),
-        ("a", 0xe40c_292c),
-        ("b", 0xe70c_2de5),
-        ("c", 0xe60c_2c52),
-        ("d", 0xe10c_2473),
-        ("fo", 0x6222_e842),
-        ("foo", 0xa9f3_7ed7),
-        ("foob", 0x3f50_76ef),
-        ("fooba", 0x39aa_a18a),
-        ("foobar", 0xbf9c_f968),
+        ("", 0xcbf2_9ce4_8422_2325),
+        ("a", 0xaf63_dc4c_8601_ec8c),
+        ("b", 0xaf63_df4c_8601_f1a5),
+        ("c", 0xaf63_de4c_8601_eff2),
+        ("d", 0xaf63_d94c_8601_e773),
+        ("fo", 0x0898_5907_b541_d342),
+        ("foo", 0xdcb2_7518_fed9_d577),
+        ("foob", 0xdd12_0e79_0c25_12af),
+        ("fooba", 0xcac1_65af_a2fe_f40a),
+        ("foobar", 0x8594_4171_f739_67e8),
     ];
     for (text, hash) in vectors {
         assert_eq!(rt; Path::fnv1a(text.as_bytes()), Path(hash), "of {text:?}");
@@ -27,16 +27,16 @@ fn fnv1a_gives_published_hashes(rt: HostRuntime) {
 /// FNV-1a, in Python, gives the same.
 #[test]
 fn fnv1a_of_bytes_from_0x80_on(rt: HostRuntime) {
-    let vectors: [(&[u8], u32); 9] = [
-        (b"\xff\x00\x00\x01", 0xc48f_b86d),
-        (b"\x01\x00\x00\xff", 0x2269_f369),
-        (b"\xff\x00\x00\x02", 0xc18f_b3b4),
-        (b"\x02\x00\x00\xff", 0x50ef_1236),
-        (b"\xff\x00\x00\x03", 0xc28f_b547),
-        (b"\x03\x00\x00\xff", 0x96c3_bf47),
-        (b"\xff\x00\x00\x04", 0xbf8f_b08e),
-        (b"\x80", 0x850b_939f),
-        (b"\xff", 0x7a0b_824e),
+    let vectors: [(&[u8], u64); 9] = [
+        (b"\xff\x00\x00\x01", 0x6961_1964_91cc_682d),
+        (b"\x01\x00\x00\xff", 0xad2b_b177_4799_dfe9),
+        (b"\xff\x00\x00\x02", 0x6961_1664_91cc_6314),
+        (b"\x02\x00\x00\xff", 0x8d1b_b390_4a3b_1236),
+        (b"\xff\x00\x00\x03", 0x6961_1764_91cc_64c7),
+        (b"\x03\x00\x00\xff", 0xed20_5d87_f404_34c7),
+        (b"\xff\x00\x00\x04", 0x6961_1464_91cc_5fae),
+        (b"\x80", 0xaf64_3d4c_8602_915f),
+        (b"\xff", 0xaf64_724c_8602_eb6e),
     ];
     for (bytes, hash) in vectors {
         assert_eq!(rt; Path::fnv1a(bytes), Path(hash), "of {bytes:?}");
@@ -45,8 +45,8 @@ fn fnv1a_of_bytes_from_0x80_on(rt: HostRuntime) {
 
 #[test]
 fn digits_are_least_significant_first(rt: HostRuntime) {
-    let a = [12, 9, 10, 24, 0, 18, 3];
-    let foobar = [8, 11, 30, 25, 25, 31, 2];
+    let a = [12, 4, 27, 3, 0, 3, 18, 9, 28, 30, 24, 30, 10];
+    let foobar = [8, 31, 25, 18, 19, 27, 7, 14, 1, 2, 5, 11, 8];
     for level in 0..WORD_DIGITS {
         assert_eq!(rt;
             Path::fnv1a(b"a").digit(level),
@@ -65,10 +65,10 @@ fn digits_are_least_significant_first(rt: HostRuntime) {
 fn first_digit_is_most_significant_in_position(rt: HostRuntime) {
     let positions = [
         (0, 0),
-        (0xc000_0000, 3),
-        (0xe40c_292c, 1_649_770_571),
-        (0xbf9c_f968, 1_123_917_054),
-        (0xffff_ffff, 4_294_967_295),
+        (0xc000_0000_0000_0000, 12),
+        (0xaf63_dc4c_8601_ec8c, 0x6136_300e_49e7_b1ea),
+        (0x8594_4171_f739_67e8, 0x47f3_29ec_ee08_8ab8),
+        (0xffff_ffff_ffff_ffff, 18_446_744_073_709_551_615),
     ];
     for (word, position) in positions {
         assert_eq!(rt; Path(word).position(), position, "of {word:#x}");
@@ -76,36 +76,36 @@ fn first_digit_is_most_significant_in_position(rt: HostRuntime) {
 }
 
 /// Words are told apart by their positions alone, since position is a bijection.
-fn is_one_word(a: u32, b: u32) -> bool
+fn is_one_word(a: u64, b: u64) -> bool
     ensures { IsTrue result ↔ (a ≡ b) }
 {
     laws::position_is_bijection();
     Path(a).position() == Path(b).position()
 }
 
-/// The words under the root's last child are those of the last interval of positions, 31 * 2^27 and on.
-fn is_under_last_child(word: u32) -> bool
+/// The words under the root's last child are those of the last interval of positions, 31 * 2^59 and on.
+fn is_under_last_child(word: u64) -> bool
     ensures { IsTrue result ↔ (digit word 0 ≡ 31) }
 {
     laws::shared_digits_are_interval();
-    Path(word).position() >= 0xf800_0000
+    Path(word).position() >= 0xf800_0000_0000_0000
 }
 
 /// Where the hash starts, by the law.
-fn hash_of_nothing() -> u32
+fn hash_of_nothing() -> u64
     ensures { result ≡ fnv1a [] }
 {
     laws::fnv1a_is_word();
-    0x811c_9dc5
+    0xcbf2_9ce4_8422_2325
 }
 
 #[test]
 fn laws_tell_words_by_their_positions(rt: HostRuntime) {
-    assert!(rt; is_one_word(0xe40c_292c, 0xe40c_292c));
-    assert!(rt; !is_one_word(0xe40c_292c, 0x640c_292c));
-    assert!(rt; is_under_last_child(0x8000_001f));
-    assert!(rt; is_under_last_child(0xffff_ffff));
-    assert!(rt; !is_under_last_child(0xffff_fffe));
+    assert!(rt; is_one_word(0xaf63_dc4c_8601_ec8c, 0xaf63_dc4c_8601_ec8c));
+    assert!(rt; !is_one_word(0xaf63_dc4c_8601_ec8c, 0x2f63_dc4c_8601_ec8c));
+    assert!(rt; is_under_last_child(0x8000_0000_0000_001f));
+    assert!(rt; is_under_last_child(0xffff_ffff_ffff_ffff));
+    assert!(rt; !is_under_last_child(0xffff_ffff_ffff_fffe));
     assert_eq!(rt; hash_of_nothing(), Path::fnv1a(b"").0);
 }
 
@@ -117,13 +117,16 @@ fn seen<K: PathKey>(key: &K, other: &K) -> (Path, bool) {
 /// The hashes of the eight bytes were computed by another program of FNV-1a, in Python.
 #[test]
 fn integers_are_keys(rt: HostRuntime) {
-    assert_eq!(rt; seen(&0u64, &1), (Path(0x9be1_7165), true));
+    assert_eq!(rt; seen(&0u64, &1), (Path(0xa8c7_f832_281a_39c5), true));
     assert_eq!(rt;
         seen(&0x0102_0304_0506_0708u64, &1),
-        (Path(0xb37e_f675), false)
+        (Path(0x0c6d_4496_e178_59d5), false)
     );
-    assert_eq!(rt; seen(&u64::MAX, &u64::MAX), (Path(0x6cae_0a5d), false));
-    assert_eq!(rt; seen(&1i64, &0), (Path(0x3e80_1244), false));
-    assert_eq!(rt; seen(&-1i64, &0), (Path(0x6cae_0a5d), true));
-    assert_eq!(rt; seen(&i64::MIN, &-1), (Path(0x1be2_3ae5), true));
+    assert_eq!(rt;
+        seen(&u64::MAX, &u64::MAX),
+        (Path(0x8cf5_1a8b_fca3_883d), false)
+    );
+    assert_eq!(rt; seen(&1i64, &0), (Path(0x89cd_3129_1d2a_efa4), false));
+    assert_eq!(rt; seen(&-1i64, &0), (Path(0x8cf5_1a8b_fca3_883d), true));
+    assert_eq!(rt; seen(&i64::MIN, &-1), (Path(0xa8c7_7832_2819_6045), true));
 }

@@ -3,7 +3,10 @@ ghost use Rattle.hash_path.specs.Digits.{last_level, fan_out, digit, weight, pos
 ghost use Rattle.hash_path.specs.Fnv.{fnv1a_with};
 
 /// The number of a path word: its width is here and in the definitions, and every other width follows from these.
-pub type Word = u32;
+pub type Word = u64;
+
+/// The number of a bound of an interval of positions: also of the one after the last position, which is no word.
+pub type Bound = u128;
 
 /// How many bits a path word has.
 pub const WORD_BITS: u32 = Word::BITS;
@@ -18,9 +21,9 @@ pub const WORD_DIGITS: u32 = (WORD_BITS + DIGIT_BITS - 1) / DIGIT_BITS;
 pub const FAN_OUT: u32 = 1 << DIGIT_BITS;
 
 /// Where FNV-1a starts, and what each of its steps multiplies by.
-const OFFSET_BASIS: Word = 0x811c_9dc5;
+const OFFSET_BASIS: Word = 0xcbf2_9ce4_8422_2325;
 
-const PRIME: Word = 0x0100_0193;
+const PRIME: Word = 0x0000_0100_0000_01b3;
 
 /// The path word of a key.
 #[derive(Clone, Copy, Debug, PartialEq, Eq)]
@@ -76,8 +79,8 @@ fn position_of(word: Word) -> Word
     position
 }
 
-// What a digit at a level counts in a position.
-fn weight_at(level: u32) -> Word
+/// What a digit at a level counts in a position: how many positions share the digits up to the level.
+pub fn weight_at(level: u32) -> Word
     requires { level ≤ last_level }
     ensures { result ≡ weight level }
 {

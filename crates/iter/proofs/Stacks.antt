@@ -3,6 +3,7 @@ use Rattle.std.proofs.Common.{◌≡◌, ℕ, suc, ◌+◌, ◌-◌, ◌≤◌, 
 use Rattle.std.proofs.lemmas.List.{append-nil}
 use Rattle.std.specs.declared.cmp.Ordering.{Ordering}
 use Rattle.std.proofs.lemmas.List.Sums.{sum_by-cons}
+use Rattle.hash_path.specs.Digits.{last_level}
 use Rattle.trie_shape.specs.Counts.{node_count}
 use Rattle.trie_shape.specs.Outline.{children}
 use Rattle.trie_shape.specs.Tree.{Tree, entries}
@@ -44,7 +45,7 @@ module _ {K V : Type 0} (R : K → K → Ordering) (path : K → ℕ) where
       (later.0, subst (λ n. AllStand R path n (trees_of c)) next later.1)
 
   -- into a branch
-  pub entered_sound : (a b : Ahead K V) (kept : Children K V) → IsSound R path a → a.level ≤ 6 → IsWithin kept → AllStand R path a.level (trees_of kept)
+  pub entered_sound : (a b : Ahead K V) (kept : Children K V) → IsSound R path a → a.level ≤ last_level → IsWithin kept → AllStand R path a.level (trees_of kept)
       → b.above.items ≡ a.above.items ++ kept ∷ [] → b.above.capacity ≡ a.above.capacity → b.level ≡ a.level + 1 → IsWithin b.here → AllStand R path b.level (trees_of b.here) → IsSound R path b
   entered_sound a b kept s high within stand items capacity level below stands =
       let n : ℕ = length a.above.items in

@@ -49,7 +49,7 @@ module _ {K V : Type 0} (R : K → K → Ordering) (path : K → ℕ) where
   pub record IsSound (a : Ahead K V) : Type 0 where
     pub deep : length a.above.items < a.level
     pub low : a.level ≤ word_digits
-    pub room : 8 ≤ a.above.capacity
+    pub room : word_digits ≤ a.above.capacity
     pub within : IsWithin a.here
     pub here : AllStand R path a.level (trees_of a.here)
     pub above : Descend (a.level - length a.above.items) a.above.items

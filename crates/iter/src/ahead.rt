@@ -9,7 +9,7 @@ ghost use Rattle.iter.specs.Subtries.{children_between, nodes_of_all, pairs_of_a
 ghost use Rattle.iter.specs.Stacks.{IsSound, subtries};
 
 use crate::children::Children;
-use hash_path::PathKey;
+use hash_path::{PathKey, WORD_DIGITS};
 use smallvec::SmallVec;
 use std::alloc::Global;
 use std::mem;
@@ -19,12 +19,15 @@ use trie_node::{
     trie_follows_digits,
 };
 
+/// How many nodes a path has at most: a branch for each digit, and a leaf or bucket.
+const MOST_ON_PATH: usize = WORD_DIGITS as usize + 1;
+
 /// The subtries that a walk has still to enter: children of the branch that it entered last, and of
 /// the branches above that one, the lowest of them last.
 #[derive(Drop)]
 pub(crate) struct Ahead<'a, K, V> {
     pub(crate) here: Children<'a, K, V>,
-    pub(crate) above: SmallVec<Children<'a, K, V>, 8, Global>,
+    pub(crate) above: SmallVec<Children<'a, K, V>, MOST_ON_PATH, Global>,
     pub(crate) level: u32,
     pub(crate) entered: u64,
 }

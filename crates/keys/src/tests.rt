@@ -17,7 +17,7 @@ fn byte_text_has_its_bytes(rt: HostRuntime) -> Result<(), Fail> {
     assert_eq!(rt; owned.as_bytes(), b"foo".as_slice());
     assert!(rt; foobar == same);
     assert!(rt; foobar != owned);
-    assert_eq!(rt; seen(&owned, &foobar), (Path(0xa9f3_7ed7), true));
-    assert_eq!(rt; seen(&foobar, &owned), (Path(0xbf9c_f968), false));
+    assert_eq!(rt; seen(&owned, &foobar), (Path(0xdcb2_7518_fed9_d577), true));
+    assert_eq!(rt; seen(&foobar, &owned), (Path(0x8594_4171_f739_67e8), false));
     Ok(())
 }

@@ -31,11 +31,11 @@ const LARGEST: Limits = Limits {
 };
 
 // The keys that the tests put, by their path words.
-const A: u32 = 97;
+const A: u64 = 97;
 
-const B: u32 = 98;
+const B: u64 = 98;
 
-const KEYS: [u32; 4] = [A, B, 99, 100];
+const KEYS: [u64; 4] = [A, B, 99, 100];
 
 // What is seen is what is wanted. An assertion is proved wherever it is written out, so it stands here once.
 fn assert_is<T: PartialEq + Debug + Drop>(rt: &impl Abort, seen: T, want: T) {

@@ -3,9 +3,13 @@
 use crate::endpoint::{Endpoint, at, name};
 use crate::fault::Fault;
 use generation::Source;
+use keys::ByteText;
 use std::rt::Runtime;
 use std::sync::Arc;
 use versions::{Refusal, Version};
+
+/// A registry: the key of a service is its name, and the value is where it listens.
+type Registry = Version<ByteText, Endpoint>;
 
 /// What one map does for a registry.
 pub fn tour<R: Runtime + AllocGlobal>(rt: &R) -> Result<(), Fault> {
@@ -25,6 +29,16 @@ fn snapshot<R: Runtime + AllocGlobal>(rt: &R) -> Result<(), Fault> {
 
     // A snapshot shares every node of the registry, and makes no request for memory.
     let snapshot = registry.fork(&mut source)?;
+    move_billing(rt, &mut registry, &snapshot)
+}
+
+/// Moves a service twice, and shows where it is then, and where it is in the snapshot.
+fn move_billing<R: Runtime + AllocGlobal>(
+    rt: &R,
+    registry: &mut Registry,
+    snapshot: &Registry,
+) -> Result<(), Fault> {
+    let alloc = rt.alloc();
 
     // The registry is written on. billing moves only if it is still where it was seen.
     let billing = name(alloc, "billing")?;
@@ -33,12 +47,12 @@ fn snapshot<R: Runtime + AllocGlobal>(rt: &R) -> Result<(), Fault> {
         port: 8080,
     };
     let new = at(alloc, "10.0.0.9", 8443)?;
-    let moved = map_ops::replace_if(&mut registry, alloc, Arc::try_clone(&billing)?, &seen, new)?;
+    let moved = map_ops::replace_if(registry, alloc, Arc::try_clone(&billing)?, &seen, new)?;
     rt.println(format_args!("billing moved: {moved}"))?;
 
     // A second writer saw the same, comes too late, and is told so.
     let late = at(alloc, "10.0.0.7", 8443)?;
-    let moved = map_ops::replace_if(&mut registry, alloc, Arc::try_clone(&billing)?, &seen, late)?;
+    let moved = map_ops::replace_if(registry, alloc, Arc::try_clone(&billing)?, &seen, late)?;
     rt.println(format_args!("billing moved again: {moved}"))?;
 
     // Each map has its own: a key that was made once serves every look-up.

@@ -4,6 +4,7 @@ use crate::endpoint::{Endpoint, at, name};
 use crate::fault::Fault;
 use handles::{Command, Limits, Reply, Table};
 use keys::ByteText;
+use std::alloc::Global;
 use std::rt::Runtime;
 use std::sync::Arc;
 
@@ -12,6 +13,9 @@ const LIVE: u32 = 1;
 
 const AUDIT: u32 = 2;
 
+/// The maps of a server.
+type Services = Table<ByteText, Endpoint>;
+
 /// A server's table: each call names the map by its handle, and is one step of a machine of plain maps.
 pub fn tour<R: Runtime + AllocGlobal>(rt: &R) -> Result<(), Fault> {
     let alloc = rt.alloc();
@@ -19,29 +23,38 @@ pub fn tour<R: Runtime + AllocGlobal>(rt: &R) -> Result<(), Fault> {
         pairs: 1_000,
         entries: 1_000,
     };
-    let mut table: Table<ByteText, Endpoint> = Table::new(alloc, limits)?;
+    let mut table = Table::new(alloc, limits)?;
     let billing = name(alloc, "billing")?;
-
-    table.open(alloc, LIVE)?;
-    table.call(
-        alloc,
-        LIVE,
-        Command::Put(Arc::try_clone(&billing)?, at(alloc, "10.0.0.9", 8443)?),
-    )?;
-    table.snapshot(LIVE, AUDIT)?;
-    table.call(alloc, LIVE, Command::Remove(Arc::try_clone(&billing)?))?;
+    write(alloc, &mut table, &billing)?;
 
     // A handle that is live is not opened again. The table counts the call, and has the maps that it had.
     if let Err(refusal) = table.open(alloc, AUDIT) {
         rt.println(format_args!("the audit's handle is not opened: {refusal:?}"))?;
     }
-    for handle in [LIVE, AUDIT] {
-        match table.call(alloc, handle, Command::Get(Arc::try_clone(&billing)?))? {
-            Reply::Old(Some(at)) => rt.println(format_args!(
-                "handle {handle} has billing at {at}"
-            ))?,
-            _ => rt.println(format_args!("handle {handle} has no billing"))?,
-        }
+    show(rt, &mut table, LIVE, &billing)?;
+    show(rt, &mut table, AUDIT, &billing)
+}
+
+/// Puts the service, takes a snapshot, and removes the service.
+fn write(alloc: Global, table: &mut Services, billing: &Arc<ByteText>) -> Result<(), Fault> {
+    table.open(alloc, LIVE)?;
+    let put = Command::Put(Arc::try_clone(billing)?, at(alloc, "10.0.0.9", 8443)?);
+    table.call(alloc, LIVE, put)?;
+    table.snapshot(LIVE, AUDIT)?;
+    table.call(alloc, LIVE, Command::Remove(Arc::try_clone(billing)?))?;
+    Ok(())
+}
+
+/// Shows where the service listens by the map of the handle.
+fn show<R: Runtime + AllocGlobal>(
+    rt: &R,
+    table: &mut Services,
+    handle: u32,
+    billing: &Arc<ByteText>,
+) -> Result<(), Fault> {
+    match table.call(rt.alloc(), handle, Command::Get(Arc::try_clone(billing)?))? {
+        Reply::Old(Some(at)) => rt.println(format_args!("handle {handle} has billing at {at}"))?,
+        _ => rt.println(format_args!("handle {handle} has no billing"))?,
     }
     Ok(())
 }

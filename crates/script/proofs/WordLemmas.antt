@@ -78,7 +78,7 @@ no_faulty_argument (x ∷ xs) reason r (inr (good, fault)) = no_faulty_argument 
 carried : (o : Option Verb) (verb : Verb) (fields : List (List ℕ)) (reason : Reason) → o ≡ Some verb → MatchOption o (reason ≡ UnknownVerb) (λ verb. Faulty verb.places fields reason) → Faulty verb.places fields reason
 carried o verb fields reason found fault = rw found at fault
 
-no_phrase_fault : (s : Statement) (words : List (List ℕ)) (reason : Reason) → IsLawful s → words ≡ words_of s → StatementFault words reason → ⊥
+pub no_phrase_fault : (s : Statement) (words : List (List ℕ)) (reason : Reason) → IsLawful s → words ≡ words_of s → StatementFault words reason → ⊥
 no_phrase_fault s words reason l e fault =
     let found : StatementFault (words_of s) reason = rw e at fault in
     no_faulty_argument (phrase_of s).arguments reason l (carried _ _ _ _ (placed s) found)

@@ -1,6 +1,6 @@
 //! Folds of all values.
 
-ghost use Rattle.std.specs.Prelude.{◌≡◌, ◌≢◌, MatchOption};
+ghost use Rattle.std.specs.Prelude.{◌≡◌, ◌≢◌, ◌++◌, MatchOption, OnOk};
 ghost use Rattle.script.specs.Questions.{folding_text};
 ghost use Rattle.script.specs.declared.folding.Folding.{Folding};
 
@@ -8,6 +8,8 @@ use crate::argument::Argument;
 use crate::fault::Reason;
 use crate::stop::Stop;
 use std::alloc::Global;
+use std::io;
+use std::io::Write;
 
 /// What is asked of all values.
 #[derive(Clone, Copy, Debug)]
@@ -18,6 +20,23 @@ pub enum Folding {
     Least,
     /// The greatest of them.
     Greatest,
+}
+
+impl Folding {
+    /// Appends the text of the fold.
+    ///
+    /// # Errors
+    ///
+    /// Memory was refused.
+    pub fn push_to(&self, out: &mut Vec<u8>) -> io::Result<()>
+        ensures { OnOk result (out.new.items ≡ out.old.items ++ folding_text self.now) }
+    {
+        match self {
+            Folding::Sum => write!(out, "sum"),
+            Folding::Least => write!(out, "least"),
+            Folding::Greatest => write!(out, "greatest"),
+        }
+    }
 }
 
 impl Argument for Folding {

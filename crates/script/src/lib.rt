@@ -31,7 +31,8 @@ pub use laws::{spelled_text_has_no_fault, text_has_one_fault, text_has_one_scrip
 pub use listing::Listing;
 pub use map_key::MapKey;
 pub use mapping::Mapping;
-pub use parse::{Script, parse_script};
+pub use number::{number_of, value_of};
+pub use parse::{Script, parse_script, statement_in};
 pub use passing::Test;
-pub use reply::{LineReply, push_line};
+pub use reply::{LineReply, push_line, push_reply};
 pub use statement::{CommandLine, Statement};

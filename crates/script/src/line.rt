@@ -41,7 +41,7 @@ fn client_at(fields: &mut Fields<'_>) -> Result<u32, Stop>
     }
 }
 
-fn statement_at(alloc: Global, mut fields: Fields<'_>) -> Result<Statement, Stop>
+pub fn statement_at(alloc: Global, mut fields: Fields<'_>) -> Result<Statement, Stop>
     ensures lawful { IfOk result IsLawful }
     ensures ok { IfOk result (λ s. words_of s ≡ fields_of fields.entry.0.now) }
     ensures err { IfErr result (StopsBy (StatementFault (fields_of fields.entry.0.now))) }

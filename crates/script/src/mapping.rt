@@ -1,6 +1,6 @@
 //! Maps of values to new ones.
 
-ghost use Rattle.std.specs.Prelude.{◌≡◌, ◌≢◌, MatchOption};
+ghost use Rattle.std.specs.Prelude.{◌≡◌, ◌≢◌, ◌++◌, MatchOption, OnOk};
 ghost use Rattle.script.specs.Questions.{IsMapping, mapping_text, new_value};
 ghost use Rattle.script.specs.declared.mapping.Mapping.{Mapping};
 
@@ -9,6 +9,8 @@ use crate::behind::value_behind;
 use crate::fault::Reason;
 use crate::stop::Stop;
 use std::alloc::Global;
+use std::io;
+use std::io::Write;
 
 /// What a pair's new value is.
 #[derive(Clone, Copy, Debug)]
@@ -22,6 +24,21 @@ pub enum Mapping {
 }
 
 impl Mapping {
+    /// Appends the text of the map.
+    ///
+    /// # Errors
+    ///
+    /// Memory was refused.
+    pub fn push_to(&self, out: &mut Vec<u8>) -> io::Result<()>
+        ensures { OnOk result (out.new.items ≡ out.old.items ++ mapping_text self.now) }
+    {
+        match self {
+            Mapping::Set(new) => write!(out, "set:{new}"),
+            Mapping::Add(more) => write!(out, "add:{more}"),
+            Mapping::KeyLength => write!(out, "keylen"),
+        }
+    }
+
     /// The new value of the pair of a key's bytes and a value.
     pub fn new_value(self, key: &[u8], value: i64) -> i64
         ensures { result ≡ new_value self key.now value }

@@ -1,18 +1,20 @@
 //! Scripts: the command lines of a text.
 
-ghost use Rattle.std.specs.Prelude.{◌≡◌, ◌==◌, ◌≤◌, All, IfOk, IfErr, OnOk, slice_index};
+ghost use Rattle.std.specs.Prelude.{◌≡◌, ◌==◌, ◌≤◌, All, IfOk, IfErr, MatchOption, OnOk, slice_index};
 ghost use Rattle.std.specs.List.{list_any, list_all};
-ghost use Rattle.script.specs.Lines.{is_skipped, is_bad_byte};
-ghost use Rattle.script.specs.Statements.{IsLawfulLine};
+ghost use Rattle.script.specs.Lines.{fields_of, is_skipped, is_bad_byte};
+ghost use Rattle.script.specs.Statements.{IsLawful, IsLawfulLine, words_of};
+ghost use Rattle.script.specs.declared.statement.Statement.{Statement};
 ghost use Rattle.script.specs.Faults.{LineFault, StopsBy};
 ghost use Rattle.script.specs.Scripts.{Spells, IsPlain, IsFaultOf, fields_on, words_read, IsLawfulIfAny};
 
 use crate::fault::{Reason, ScriptFault};
-use crate::line::command_of;
+use crate::fields::Fields;
+use crate::line::{command_of, statement_at};
 use crate::lines::Lines;
-use crate::statement::CommandLine;
+use crate::statement::{CommandLine, Statement};
 use crate::stop::Stop;
-use std::alloc::Global;
+use std::alloc::{AllocError, Global};
 use std::marker::Model;
 
 /// The command lines of a script, in the order of their numbers.
@@ -69,6 +71,21 @@ pub fn parse_script(alloc: Global, text: &[u8]) -> Result<Script, ScriptFault>
         }
     }
     Ok(Script { lines })
+}
+
+/// The statement whose words are the fields of the text, if there is one.
+///
+/// # Errors
+///
+/// Memory was refused.
+pub fn statement_in(alloc: Global, text: &[u8]) -> Result<Option<Statement>, AllocError>
+    ensures { IfOk result (λ read. MatchOption read ((s : Statement) → IsLawful s → fields_of text.now ≡ words_of s → ⊥) (λ s. IsLawful s × (fields_of text.now ≡ words_of s))) }
+{
+    match statement_at(alloc, Fields(text)) {
+        Ok(statement) => Ok(Some(statement)),
+        Err(Stop::Memory) => Err(AllocError),
+        Err(Stop::Fault(_)) => Ok(None),
+    }
 }
 
 /// The command line that stands on the line with this number, or none where it is skipped.

@@ -1,6 +1,6 @@
 //! Tests of pairs.
 
-ghost use Rattle.std.specs.Prelude.{◌≡◌, ◌≢◌, ◌++◌, codes, IfOk, MatchOption};
+ghost use Rattle.std.specs.Prelude.{◌≡◌, ◌≢◌, ◌++◌, codes, IfOk, MatchOption, OnOk};
 ghost use Rattle.script.specs.Questions.{IsTest, passes, test_text};
 ghost use Rattle.script.specs.declared.passing.Test.{Test};
 
@@ -10,6 +10,8 @@ use crate::fault::Reason;
 use crate::key::Key;
 use crate::stop::Stop;
 use std::alloc::{AllocError, Global};
+use std::io;
+use std::io::Write;
 
 /// A test that a pair passes or fails.
 #[derive(Debug, Drop)]
@@ -43,6 +45,29 @@ impl Test {
             Test::AtLeast(limit) => value >= *limit,
             Test::Equal(other) => value == *other,
             Test::Prefix(front) => key.starts_with(front.as_slice()),
+        }
+    }
+
+    /// Appends the text of the test.
+    ///
+    /// # Errors
+    ///
+    /// Memory was refused.
+    pub fn push_to(&self, out: &mut Vec<u8>) -> io::Result<()>
+        ensures { OnOk result (out.new.items ≡ out.old.items ++ test_text self.now) }
+    {
+        match self {
+            Test::All => write!(out, "all"),
+            Test::Even => write!(out, "even"),
+            Test::Odd => write!(out, "odd"),
+            Test::Below(limit) => write!(out, "lt:{limit}"),
+            Test::AtLeast(limit) => write!(out, "ge:{limit}"),
+            Test::Equal(other) => write!(out, "eq:{other}"),
+            Test::Prefix(front) => {
+                write!(out, "prefix:")?;
+                out.extend_from_slice(front.as_slice())?;
+                Ok(())
+            }
         }
     }
 

@@ -8,7 +8,7 @@ use Rattle.std.proofs.lemmas.List.{append-nil, drop-drop, drop-take, take-take, 
 use Rattle.std.proofs.lemmas.List.Elements.{All-nil, All-cons, All-head, All-tail, All-append, All-take, All-drop}
 use Rattle.std.specs.declared.cmp.Ordering.{Ordering}
 use Rattle.std.specs.FinMap.Entries.{where_key}
-use Rattle.hash_path.specs.Digits.{word_bits, word_digits, digit, digits_after, lowest, position, breadth}
+use Rattle.hash_path.specs.Digits.{last_level, word_bits, word_digits, digit, digits_after, lowest, position, breadth, fan_out}
 use Rattle.hash_path.specs.Laws.{PositionIsBelow, DigitInterval, SharedDigits, IntervalStep}
 use Rattle.trie_shape.specs.Looks.{Shows}
 use Rattle.trie_shape.specs.Map.{Map, IsMap}
@@ -87,7 +87,7 @@ module _ {K V : Type 0} (R : K → K → Ordering) (path : K → ℕ)
     (passing : (test : K → Bool) (m : Map K V) → where_key R test (walked R path m) ≡ walked R path (where_key R test m))
     (interval : DigitInterval) (shared : SharedDigits) (step : IntervalStep) (positions : PositionIsBelow) (small : (k : K) → path k < 2 ^ word_bits)
     (fits : (t : Tree K V) (level : ℕ) → IsTrie R path level t → Fits t)
-    (high : (t : Tree K V) (level b : ℕ) → IsTrie R path level t → Shows (Branch b) t → level ≤ 6)
+    (high : (t : Tree K V) (level b : ℕ) → IsTrie R path level t → Shows (Branch b) t → level ≤ last_level)
     (stands : (t u : Tree K V) (level n : ℕ) → IsTrie R path level t → n < length (children t) → u ≡ get_or (children t) n u → IsTrie R path (level + 1) u × (0 < length (entries u)))
     (digits : (t u : Tree K V) (level b n : ℕ) → IsTrie R path level t → Shows (Branch b) t → n < length (children t) → u ≡ get_or (children t) n u → All (λ e. digit (path e.0) level ≡ get_or (digits_of b) n 0) (entries u))
     (pairs : (t : Tree K V) (b : ℕ) → Shows (Branch b) t → entries t ≡ pairs_of_all (children t))
@@ -117,8 +117,8 @@ module _ {K V : Type 0} (R : K → K → Ordering) (path : K → ℕ)
         )
         )
 
-    rise : Rises 0 32 ds
-    rise = rises_drop 0 32 from_n (take to_n (digits_of b)) (rises_take 0 32 to_n (digits_of b) (digits_of_rise b))
+    rise : Rises 0 fan_out ds
+    rise = rises_drop 0 fan_out from_n (take to_n (digits_of b)) (rises_take 0 fan_out to_n (digits_of b) (digits_of_rise b))
 
     long : length cs ≡ to_n - from_n
     long = omega (arith, place.within, length-drop from_n (take to_n (children t)), length-take to_n (children t))
@@ -186,7 +186,7 @@ module _ {K V : Type 0} (R : K → K → Ordering) (path : K → ℕ)
       digits_apart : (k n : ℕ) → k < n → n < to_n - from_n → digit_of (from_n + k) < digit_of (from_n + n)
       digits_apart k n lt within =
           let few = row_long path level ds cs row ∙ long in
-          omega (arith, rises_apart 0 32 ds k n rise lt (omega (arith, few)), digit_between k (omega arith), digit_between n within)
+          omega (arith, rises_apart 0 fan_out ds k n rise lt (omega (arith, few)), digit_between k (omega arith), digit_between n within)
 
       before : (k : ℕ) (c : Tree K V) → k < length cs → c ≡ get_or cs k c → k < half → All (λ e. position (path e.0) < mid) (entries c)
       before k c lt e below n x within =

@@ -8,7 +8,7 @@ use Rattle.std.proofs.lemmas.List.Elements.{All-head, All-tail, All-weaker, All-
 use Rattle.std.specs.declared.cmp.Ordering.{Ordering}
 use Rattle.std.specs.FinMap.{is_sorted}
 use Rattle.std.specs.FinMap.Entries.{where_key, is_sorted-where_key}
-use Rattle.hash_path.specs.Digits.{word_bits, word_digits, digit, digits_after, lowest}
+use Rattle.hash_path.specs.Digits.{word_bits, word_digits, digit, digits_after, lowest, fan_out}
 use Rattle.hash_path.specs.Laws.{IsWord, DigitInterval, SharedDigits}
 use Rattle.trie_shape.specs.Map.{Map, IsMap}
 use Rattle.trie_shape.specs.Order.{walked}
@@ -36,7 +36,7 @@ not_differ words k same =
     let more = ltb-true 1 (length (digits_at k words)) many in
     let first = digit_at k words 0 (omega arith) in
     let other = digit_at k words 1 more in
-    let rise = kept_rise (has_digit k words) 32 0 1 (omega arith) more in
+    let rise = kept_rise (has_digit k words) fan_out 0 1 (omega arith) more in
     omega (arith, rise, first.2, other.2, same first.0 other.0 first.1 other.1)
     )
 
@@ -80,9 +80,9 @@ module _ {K V : Type 0} (R : K → K → Ordering) (path : K → ℕ)
 
     module _ (m : Map K V) (map : IsMap R m) (cs : List (Tree K V)) (walk : walked R path m ≡ pairs_of_all cs) where
       -- the digits of the words are those of the children
-      pub digits_of_row : (level : ℕ) (ds : List ℕ) → Rises 0 32 ds → IsRow path level ds cs → digits_at level (words_of path m) ≡ ds
+      pub digits_of_row : (level : ℕ) (ds : List ℕ) → Rises 0 fan_out ds → IsRow path level ds cs → digits_at level (words_of path m) ≡ ds
       digits_of_row level ds rise row =
-          among_rising (has_digit level (words_of path m)) 32 0 ds rise (
+          among_rising (has_digit level (words_of path m)) fan_out 0 ds rise (
           λ x le.
           any_is_some (λ w. digit w level == x) m
           ∙ ap (nat_lt 0) (sym (count_passing (λ k. digit (path k) level == x) m map))

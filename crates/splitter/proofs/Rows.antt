@@ -5,7 +5,7 @@ use Rattle.std.specs.List.{list_any, range_with_len}
 use Rattle.std.proofs.lemmas.Bool.{cases_lt, eq-eqb, lt-ltb, le-ltb, false_from_ne_true}
 use Rattle.std.proofs.lemmas.List.Elements.{All-head, All-tail, filter-append}
 use Rattle.std.proofs.lemmas.List.Concat.{flat_map-append}
-use Rattle.hash_path.specs.Digits.{digit}
+use Rattle.hash_path.specs.Digits.{digit, fan_out}
 use Rattle.trie_shape.specs.Tree.{Tree, branch, bucket, Trees, no_trees, more_trees, digits_of, digits_from, entries}
 use Rattle.trie_shape.specs.Looks.{Shows}
 use Rattle.trie_shape.specs.Outline.{children, list_of}
@@ -88,9 +88,9 @@ digits_rise (suc n) a m =
       | false ↦ rises_lower (a + 1) a (a + suc n) (digits_from n (a + 1) (m / 2)) (omega arith) later
     ]
 
-pub digits_of_rise : (m : ℕ) → Rises 0 32 (digits_of m)
+pub digits_of_rise : (m : ℕ) → Rises 0 fan_out (digits_of m)
 unfolding digits_of
-digits_of_rise m = digits_rise 32 0 m
+digits_of_rise m = digits_rise fan_out 0 m
 
 -- 2. Rows of children.
 module _ {K V : Type 0} (path : K → ℕ) (level : ℕ) where
@@ -184,7 +184,7 @@ set_next k a m e = ap (λ b. cond b (a ∷ digits_from k (a + 1) (m / 2)) (digit
 pub unset_next : (k a m : ℕ) → (m % 2 ≡ 1 → ⊥) → digits_from (suc k) a m ≡ digits_from k (a + 1) (m / 2)
 unset_next k a m e = ap (λ b. cond b (a ∷ digits_from k (a + 1) (m / 2)) (digits_from k (a + 1) (m / 2))) (false_from_ne_true (m % 2 == 1) (λ on. e (eqb-true (m % 2) 1 on)))
 
-pub digits_at_start : (m : ℕ) → digits_of m ≡ digits_from 32 0 m
+pub digits_at_start : (m : ℕ) → digits_of m ≡ digits_from fan_out 0 m
 unfolding digits_of
 digits_at_start m = refl
 

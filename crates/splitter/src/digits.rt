@@ -1,8 +1,9 @@
-//! Digits of a bitmap, and the widths of their stretches of positions.
+//! Digits of a bitmap.
 
-ghost use Rattle.std.specs.Prelude.{◌≡◌, ◌+◌, ◌<◌, ◌≤◌, length, get_or};
-ghost use Rattle.hash_path.specs.Digits.{word_bits, breadth};
+ghost use Rattle.std.specs.Prelude.{◌≡◌, ◌<◌, length, get_or};
 ghost use Rattle.trie_shape.specs.Tree.{digits_of};
+
+use hash_path::FAN_OUT;
 
 /// The digit of a number among those of a bitmap, counted from 0 in rising order.
 pub(crate) fn nth_digit(bitmap: u32, n: u32) -> u32
@@ -11,7 +12,7 @@ pub(crate) fn nth_digit(bitmap: u32, n: u32) -> u32
 {
     let mut rest = bitmap;
     let mut left = n;
-    for digit in 0..32u32 {
+    for digit in 0..FAN_OUT {
         if rest % 2 == 1 {
             if left == 0 {
                 return digit;
@@ -21,12 +22,4 @@ pub(crate) fn nth_digit(bitmap: u32, n: u32) -> u32
         rest /= 2;
     }
     unreachable!()
-}
-
-/// How many positions share the digits up to a level.
-pub(crate) fn width(level: u32) -> u64
-    requires { level ≤ 6 }
-    ensures { result ≡ breadth word_bits (level + 1) }
-{
-    1u64 << 27u32.saturating_sub(5 * level)
 }

@@ -7,14 +7,14 @@ ghost use Rattle.splitter.specs.Cuts.{middle_of, words_of};
 ghost use Rattle.splitter.specs.Laws.{below, from};
 ghost use Rattle.splitter.specs.Places.{IsPlace};
 
-use crate::digits::{nth_digit, width};
+use crate::digits::nth_digit;
 use crate::piece::Piece;
 use crate::place::{Spot, count_between};
-use hash_path::PathKey;
 use hash_path::laws::{
     digits_determine_word, position_is_bijection, positions_follow_digits,
     shared_digits_are_interval,
 };
+use hash_path::{Bound, PathKey, Word, weight_at};
 use iter::{Interval, intervals_tile, parts_follow_intervals};
 use trie_node::{
     Look, NoMemory, bitmap_counts_children, branch_is_its_children, child, leaf_is_its_pairs, look,
@@ -47,7 +47,7 @@ impl<K: PathKey, V> Piece<K, V> {
                 branch: only,
                 bitmap,
                 level: spot.level + 1,
-                base: spot.base + u64::from(digit) * width(spot.level),
+                base: spot.base + Word::from(digit) * weight_at(spot.level),
                 from: 0,
                 to: bitmap.count_ones(),
             };
@@ -80,18 +80,19 @@ impl<K: PathKey + Drop, V: Drop> Piece<K, V> {
             return Ok(None);
         };
         let half = spot.from + (spot.to - spot.from) / 2;
-        let mid = spot.base + u64::from(nth_digit(spot.bitmap, half)) * width(spot.level);
+        let mid = spot.base + Word::from(nth_digit(spot.bitmap, half)) * weight_at(spot.level);
+        let bound = Bound::from(mid);
         let Interval { lo, hi } = self.interval;
         let lower = Piece {
             view: self.view.try_clone()?,
-            interval: Interval { lo, hi: mid },
+            interval: Interval { lo, hi: bound },
             count: count_between(spot.branch, spot.from, half),
             place: Some(spot.place(spot.from, half)?),
             alloc: self.alloc,
         };
         let upper = Piece {
             view: self.view.try_clone()?,
-            interval: Interval { lo: mid, hi },
+            interval: Interval { lo: bound, hi },
             count: count_between(spot.branch, half, spot.to),
             place: Some(spot.place(half, spot.to)?),
             alloc: self.alloc,

@@ -1,6 +1,7 @@
 //! A piece of a view.
 
 ghost use Rattle.std.specs.Prelude.{◌≡◌, ◌≤◌, ◌^◌, length, IfOk};
+ghost use Rattle.hash_path.specs.Digits.{word_bits};
 ghost use Rattle.trie_shape.specs.Map.{IsMap};
 ghost use Rattle.trie_shape.specs.Order.{walked};
 ghost use Rattle.trie_shape.specs.View.{tree};
@@ -9,7 +10,7 @@ ghost use Rattle.iter.specs.Intervals.{part, whole};
 ghost use Rattle.splitter.specs.Places.{IsPlace};
 
 use crate::place::{Place, Spot};
-use hash_path::PathKey;
+use hash_path::{Bound, PathKey, WORD_BITS};
 use iter::{Interval, Pairs, parts_follow_intervals};
 use std::alloc::Global;
 use std::marker::Model;
@@ -55,7 +56,7 @@ pub fn whole<K: PathKey, V>(alloc: Global, view: View<K, V>) -> Piece<K, V>
         view,
         interval: Interval {
             lo: 0,
-            hi: 0x1_0000_0000,
+            hi: 1 << WORD_BITS,
         },
         count,
         place: None,
@@ -65,7 +66,7 @@ pub fn whole<K: PathKey, V>(alloc: Global, view: View<K, V>) -> Piece<K, V>
 
 impl<K: PathKey, V> Piece<K, V> {
     /// The first position of the piece.
-    pub fn lo(&self) -> u64
+    pub fn lo(&self) -> Bound
         ensures lo { result ≡ self.now.interval.lo }
         ensures order { self.now.interval.lo ≤ self.now.interval.hi }
     {
@@ -73,9 +74,9 @@ impl<K: PathKey, V> Piece<K, V> {
     }
 
     /// The position after the piece.
-    pub fn hi(&self) -> u64
+    pub fn hi(&self) -> Bound
         ensures hi { result ≡ self.now.interval.hi }
-        ensures within { result ≤ 2 ^ 32 }
+        ensures within { result ≤ 2 ^ word_bits }
     {
         self.interval.hi
     }

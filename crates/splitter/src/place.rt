@@ -7,6 +7,7 @@ ghost use Rattle.trie_shape.specs.Shape.{Fits};
 ghost use Rattle.trie_shape.specs.Tree.{entries};
 ghost use Rattle.trie_shape.specs.View.{tree};
 
+use hash_path::Word;
 use trie_node::{NoMemory, Node, bitmap_counts_children, child, size};
 
 /// Some children of a branch, from one number on and below another, and what is known of the branch:
@@ -16,7 +17,7 @@ pub(crate) struct Place<K, V> {
     pub(crate) branch: Node<K, V>,
     pub(crate) bitmap: u32,
     pub(crate) level: u32,
-    pub(crate) base: u64,
+    pub(crate) base: Word,
     pub(crate) from: u32,
     pub(crate) to: u32,
 }
@@ -27,7 +28,7 @@ pub(crate) struct Spot<'a, K, V> {
     pub(crate) branch: &'a Node<K, V>,
     pub(crate) bitmap: u32,
     pub(crate) level: u32,
-    pub(crate) base: u64,
+    pub(crate) base: Word,
     pub(crate) from: u32,
     pub(crate) to: u32,
 }

@@ -29,6 +29,7 @@ type Numbers = Table<ChosenKey, i64>;
 
 // The key of this path word.
 fn of_path(alloc: Global, path: u32) -> Result<Arc<ChosenKey>, Refusal> {
+    let path = u64::from(path);
     Ok(Arc::new(alloc, ChosenKey { path, id: 0 })?)
 }
 

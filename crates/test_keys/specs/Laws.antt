@@ -16,5 +16,5 @@ chosen-exact a b h =
     (exact_pairs nat_cmp nat_cmp exact_unsigned exact_unsigned (a.path, a.id) (b.path, b.id) h)
 
 -- a chosen path is a path word
-pub chosen-small : (k : ChosenKey) → k.path % 2 ^ word_bits < 2 ^ 32
+pub chosen-small : (k : ChosenKey) → k.path % 2 ^ word_bits < 2 ^ word_bits
 chosen-small k = mod_below k.path (2 ^ word_bits) (lit< tt)

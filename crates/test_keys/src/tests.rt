@@ -2,22 +2,22 @@ use crate::{ChosenKey, Random, Shortage, spare_blocks, take_all};
 use hash_path::{Path, PathKey};
 use std::test::Fail;
 
-fn position_of<K: PathKey>(key: &K) -> u32 {
+fn position_of<K: PathKey>(key: &K) -> u64 {
     key.path().position()
 }
 
 #[test]
 fn chosen_key_has_its_path(rt: HostRuntime) {
     let key = ChosenKey {
-        path: 0xc000_0000,
+        path: 0xc000_0000_0000_0000,
         id: 7,
     };
     let other = ChosenKey {
-        path: 0xc000_0000,
+        path: 0xc000_0000_0000_0000,
         id: 8,
     };
-    assert_eq!(rt; key.path(), Path(0xc000_0000));
-    assert_eq!(rt; position_of(&key), 3);
+    assert_eq!(rt; key.path(), Path(0xc000_0000_0000_0000));
+    assert_eq!(rt; position_of(&key), 12);
     assert!(rt; key < other);
     assert_ne!(rt; key, other);
 }

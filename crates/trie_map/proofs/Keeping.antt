@@ -1,11 +1,14 @@
 -- What keeps the rule of each pair.
-use Rattle.std.proofs.Common.{◌≡◌, Bool, true, false, cond, Option, Some, None, unwrap_or, refl, sym, ◌∙◌, ap, subst}
+use Rattle.std.proofs.Common.{◌≡◌, Bool, true, false, cond, List, [], ◌∷◌, Option, Some, None, unwrap_or, refl, sym, ◌∙◌, ap, subst}
 use Rattle.std.proofs.lemmas.Option.{none-some}
 use Rattle.std.specs.declared.cmp.Ordering.{Ordering}
-use Rattle.std.specs.Cmp.{Equal-is}
-use Rattle.std.specs.Ordering.{eq_by_cmp}
+use Rattle.std.proofs.lemmas.List.Elements.{All-nil, All-cons}
+use Rattle.std.specs.Cmp.{Equal-is, IsTotalOrder, tied_itself}
+use Rattle.std.specs.Ordering.{eq_by_cmp, is_eq}
+use Rattle.std.specs.Prelude.{All}
 use Rattle.std.specs.Option.{option_or}
 use Rattle.versions.specs.Map.{Map, IsAntisymmetric, value_at, with_pair, without, union}
+use Rattle.trie_shape.specs.Listings.{IsListing}
 use Rattle.trie_map.specs.Rules.{AllKeep}
 
 module _ {K V : Type 0} (R : K → K → Ordering) (H : K → V → Type 0) where
@@ -49,3 +52,19 @@ module _ {K V : Type 0} (R : K → K → Ordering) (H : K → V → Type 0) wher
   kept_union law m n o is kept_left kept_right q w found =
       union_step q w (value_at R m q) (value_at R n q) (kept_left q w) (kept_right q w)
       (sym (law m n q) ∙ sym (ap (λ (x : Map K V). value_at R x q) is) ∙ found)
+
+  -- what stands behind the first pair of a listing keeps the rule
+  kept_behind : IsAntisymmetric R → (e : K × V) (es : Map K V) → value_at R es e.0 ≡ None → AllKeep R H (e ∷ es) → AllKeep R H es
+  kept_behind exact e es none kept q w found =
+      elim (eq_by_cmp R q e.0) as (λ (b : Bool). eq_by_cmp R q e.0 ≡ b → H q w) [
+        | true ↦ λ same. absurd (none-some w (sym none ∙ ap (value_at R es) (sym (exact q e.0 ((Equal-is (R q e.0)).0 same))) ∙ found))
+        | false ↦ λ other. kept q w (ap (λ (b : Bool). cond b (Some e.1) (value_at R es q)) other ∙ found)
+      ] refl
+
+  -- each pair of a listing keeps the rule that the value of each key keeps
+  pub kept_listing : IsTotalOrder R → IsAntisymmetric R → (es : Map K V) → IsListing R es → AllKeep R H es → All (λ (e : K × V). H e.0 e.1) es
+  kept_listing total exact [] once kept = All-nil (λ (e : K × V). H e.0 e.1)
+  kept_listing total exact (e ∷ es) once kept =
+      All-cons (λ (x : K × V). H x.0 x.1) e es
+      (kept e.0 e.1 (ap (λ (b : Bool). cond b (Some e.1) (value_at R es e.0)) (ap is_eq (tied_itself total e.0))))
+      (kept_listing total exact es once.1 (kept_behind exact e es once.0 kept))

@@ -1,6 +1,9 @@
 -- Maps whose pairs keep a rule.
-use Rattle.std.specs.Prelude.{◌≡◌, ℕ, Some}
+use Rattle.std.specs.Prelude.{◌≡◌, ℕ, Option, Some}
 use Rattle.std.specs.declared.cmp.Ordering.{Ordering}
+use Rattle.bulk_ops.specs.Answers as plain
+use Rattle.bulk_ops.specs.Told.{IsAnswered}
+use Rattle.bulk_ops.specs.declared.asks.Answer.{Answer}
 use Rattle.hash_path.specs.Digits.{digit}
 use Rattle.trie_map.specs.declared.stripe.TheConstants.{MOST_PAIRS_OF_STRIPE}
 use Rattle.versions.specs.Contents.{Contents}
@@ -29,3 +32,7 @@ abbrev pub IsPutRefusal : Refusal → Type 0
 IsPutRefusal Full = Unit {0}
 IsPutRefusal NoMemory = Unit {0}
 IsPutRefusal e = ⊥
+
+-- this is told, and this map made, of a map each pair of which keeps the rule
+abbrev pub IsAnsweredOfKept : {K V I : Type 0} → (K → K → Ordering) → (K → V → Type 0) → (Map K V → plain.Answer K V I → Type 0) → Option ℕ → Answer K V I → Option (Contents K V) → Type 0
+IsAnsweredOfKept {K} {V} R H answered to told made = (m : Map K V) × AllKeep R H m × IsAnswered (answered m) to told made

@@ -1,5 +1,5 @@
 //! The locks of a map.
-ghost use Rattle.std.specs.Prelude.{◌≡◌, ◌<◌, ◌≤◌, ◌*◌, ◌-◌, IfOk, length, map};
+ghost use Rattle.std.specs.Prelude.{◌≡◌, ◌<◌, ◌≤◌, ◌*◌, ◌-◌, ◌++◌, ◌∷◌, [], IfOk, length, map};
 ghost use Rattle.std.specs.Sync.Mutex.{mutex_guard_value};
 ghost use Rattle.hash_path.specs.Digits.{fan_out};
 ghost use Rattle.trie_map.specs.Rules.{first_digit};
@@ -38,13 +38,20 @@ impl<K: PathKey + Drop, V: Drop, P: Keeps<K, V>> Row<K, V, P> {
         Ok(Row { locks })
     }
 
+    // What the lock of this place keeps.
+    fn lock_at<R: Wait>(&self, rt: &R, place: u32) -> MutexGuard<'_, Stripe<K, V, P>>
+        requires { place < fan_out }
+    {
+        self.locks[place as usize].lock(rt)
+    }
+
     /// The stripe of the digit, which no other thread has until the guard is dropped.
     pub fn locked<R: Wait>(&self, rt: &R, digit: u32) -> MutexGuard<'_, Stripe<K, V, P>>
         requires { digit < fan_out }
         ensures { (mutex_guard_value result).digit ≡ digit }
     {
         for _ in rt.forever() {
-            let stripe = self.locks[digit as usize].lock(rt);
+            let stripe = self.lock_at(rt, digit);
             if stripe.first_digit() == digit {
                 return stripe;
             }
@@ -65,7 +72,7 @@ impl<K: PathKey + Drop, V: Drop, P: Keeps<K, V>> Row<K, V, P> {
     {
         let mut held = Vec::with_capacity(alloc, STRIPES as usize)?;
         for digit in 0..STRIPES {
-            held.push(self.locked(rt, digit))?;
+            held = pushed(held, self.locked(rt, digit))?;
         }
         Ok(held)
     }
@@ -81,6 +88,14 @@ impl<K: PathKey + Drop, V: Drop, P: Keeps<K, V>> Row<K, V, P> {
         let stripe = self.locked(rt, digit);
         stripe.len() + self.len_from(rt, digit + 1)
     }
+}
+
+// The list with one more at its end.
+fn pushed<T: Drop>(mut list: Vec<T>, last: T) -> Result<Vec<T>, NoMemory>
+    ensures { IfOk result (λ longer. longer.items ≡ list.items ++ last ∷ []) }
+{
+    list.push(last)?;
+    Ok(list)
 }
 
 /// A stripe of each digit, in order, with no pairs.

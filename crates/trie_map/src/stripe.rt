@@ -63,6 +63,7 @@ impl<K: PathKey + Drop, V: Drop, P: Keeps<K, V>> Stripe<K, V, P> {
 
     /// The value of the key, or none.
     pub fn get(&self, key: &K) -> Option<&Arc<V>>
+        requires { digit_of K.path_of key.now ≡ self.now.digit }
         ensures value { option_map (λ value. value.now.value) result ≡ value_at K.cmp self.now.entries key.now }
         ensures kept { IfSome result (λ value. P.holds key.now value.now.value) }
     {
@@ -114,6 +115,7 @@ impl<K: PathKey + Drop, V: Drop, P: Keeps<K, V>> Stripe<K, V, P> {
         key: &K,
         condition: &C,
     ) -> Result<Change<V>, NoMemory>
+        requires { digit_of K.path_of key.now ≡ self.old.digit }
         ensures before { IfOk result (λ change. option_map arc_value change.previous ≡ value_at K.cmp self.old.entries key.now) }
         ensures done { IfOk result (λ change. change.done ≡ (is_some (value_at K.cmp self.old.entries key.now) && C.holds condition.now (value_at K.cmp self.old.entries key.now))) }
         ensures entries { IfOk result (λ change. self.new.entries ≡ (if change.done then without K.cmp self.old.entries key.now else self.old.entries)) }

@@ -1,7 +1,7 @@
 //! The map that threads share.
-ghost use Rattle.std.specs.Prelude.{◌≡◌, ◌≤◌, All, IfErr, IfOk, IfSome, None, false, length};
+ghost use Rattle.std.specs.Prelude.{◌≡◌, ◌≤◌, All, IfErr, IfOk, IfSome, IsTrue, None, false, length};
 ghost use Rattle.hash_path.specs.Digits.{fan_out};
-ghost use Rattle.trie_map.specs.Rules.{AllKeep, IsPutRefusal};
+ghost use Rattle.trie_map.specs.Rules.{AllKeep, IsAnsweredOfKept, IsPutRefusal};
 ghost use Rattle.trie_map.specs.Stripes.{digits_of, up_to};
 ghost use Rattle.versions.specs.declared.version.TheConstants.{MOST_PAIRS};
 
@@ -22,7 +22,32 @@ use versions::{Change, Refusal, Version};
 ///
 /// It has a lock for each first digit of a key's path word, so calls of keys with different first digits do not wait
 /// for one another. What a call finds is what other threads left, so a clause says of it only that its pairs keep the
-/// rule. A call that is refused has changed nothing.
+/// rule. That `is_empty`, `len` and `contains_key` tell what is there, that `clear` removes it, and that `view`,
+/// `snapshot` and `query` take all stripes as they stand at one moment, is told by the code and by tests: no clause can
+/// name what a lock keeps, not even of a map that one thread alone has. A call that is refused has changed nothing; of
+/// `extend`, and of `get_or_else_update`, whose closure has run, each says more.
+///
+/// # What runs under a lock
+///
+/// `K::cmp`, `K::path` and `V::eq` run while the stripe of the key is locked, and so do the drops of a key that is
+/// replaced or removed, and of a key and a value that are not written. They must not call the map: the thread would
+/// wait for itself. A value that is replaced or removed is handed out, and dropped by whoever has it last; what `clear`
+/// removes is dropped once all locks are free; the closure of `get_or_else_update` runs with no lock held.
+///
+/// # Between two calls
+///
+/// Between a `get` and a `put` of one thread another may write the key, and its write is then lost. `put_if_absent`,
+/// `replace_if`, `remove_if` and `get_or_else_update` decide and write as one step: write with `replace_if` what was
+/// made of the value that `get` found, and begin again where it answers false.
+///
+/// # What it costs
+///
+/// A call on one key costs as many steps as the trie is deep there, at most thirteen, and then a step for each key that
+/// has the key's whole path word: n keys of one word cost n² steps to put, and all calls on that stripe wait meanwhile.
+/// A stripe holds 524,288 pairs at most ([`MOST_PAIRS_OF_STRIPE`](crate::MOST_PAIRS_OF_STRIPE)), so keys whose words
+/// begin alike fill one stripe while the map has room elsewhere. `len`, `is_empty`, `clear`, `view`, `snapshot` and
+/// `query` hold all stripes at once, for 32 short steps: all other calls wait for these steps. A view, and a snapshot,
+/// keeps the nodes of its version for as long as it is there, so memory grows with what is written meanwhile.
 #[derive(Drop)]
 pub struct TrieMap<K: PathKey, V, P: Keeps<K, V> = Anything> {
     alloc: Global,
@@ -52,26 +77,29 @@ impl<K: PathKey + Drop, V: Drop, P: Keeps<K, V>> TrieMap<K, V, P> {
     }
 
     /// Whether the key has a value. It takes no memory.
-    pub fn contains_key<R: Wait>(&self, rt: &R, key: &K) -> bool {
+    pub fn contains_key<R: Wait>(&self, rt: &R, key: &K) -> bool
+        ensures kept { IsTrue result → (value : V) × P.holds key.now value }
+    {
         self.row.stripe_of(rt, key).get(key).is_some()
     }
 
-    /// How many pairs there are at one moment of the call. It takes no memory.
+    /// How many pairs there are at one moment of the call, when all stripes are held: each is taken, in rising order of
+    /// digits, once those before it are, as `view` takes them, so all writers wait. It takes no memory.
     pub fn len<R: Wait>(&self, rt: &R) -> u64
         ensures { result ≤ MOST_PAIRS }
     {
         self.row.len_from(rt, 0)
     }
 
-    /// Whether there is no pair at one moment of the call. It takes no memory.
+    /// Whether there is no pair at one moment of the call, when all stripes are held as for `len`. It takes no memory.
     pub fn is_empty<R: Wait>(&self, rt: &R) -> bool {
         self.len(rt) == 0
     }
 
     /// Maps the key to the value, and answers the value before, or none.
     ///
-    /// It is refused as `Full` where the key is new and its stripe has as many pairs as it may, and as `NoMemory` for
-    /// want of memory.
+    /// It is refused as `Full` where the key is new and its stripe has 524,288 pairs, and as `NoMemory` for want of
+    /// memory.
     pub fn put<R: Wait>(&self, rt: &R, key: K, value: V) -> Result<Option<Arc<V>>, Refusal>
         requires { P.holds key value }
         ensures kept { IfOk result (λ before. IfSome before (λ found. P.holds key found.value)) }
@@ -117,8 +145,7 @@ impl<K: PathKey + Drop, V: Drop, P: Keeps<K, V>> TrieMap<K, V, P> {
     pub fn remove<R: Wait>(&self, rt: &R, key: &K) -> Result<Option<Arc<V>>, NoMemory>
         ensures kept { IfOk result (λ before. IfSome before (λ found. P.holds key.now found.value)) }
     {
-        let mut stripe = self.row.stripe_of(rt, key);
-        Ok(stripe.remove_where(self.alloc, key, &Always)?.previous)
+        Ok(self.remove_where(rt, key, &Always)?.previous)
     }
 
     /// The value that the key has then: the one that it had, else the one that `make` made.
@@ -160,7 +187,8 @@ impl<K: PathKey + Drop, V: Drop, P: Keeps<K, V>> TrieMap<K, V, P> {
         Ok(())
     }
 
-    /// Removes all pairs at one moment of the call. It is refused for want of memory alone.
+    /// Removes all pairs at one moment of the call, when all stripes are held. They are dropped once the locks are free.
+    /// It is refused for want of memory alone.
     pub fn clear<R: Wait>(&self, rt: &R) -> Result<(), NoMemory> {
         let blanks = blanks(self.alloc)?;
         let held = self.row.all(rt, self.alloc)?;
@@ -172,7 +200,10 @@ impl<K: PathKey + Drop, V: Drop, P: Keeps<K, V>> TrieMap<K, V, P> {
     }
 
     /// The map as it stands at one moment of the call, when all stripes are held. Its cost does not grow with the
-    /// pairs.
+    /// pairs. The view keeps the nodes of that moment: a write meanwhile copies the nodes of its way.
+    ///
+    /// Its clause says that each pair keeps the rule. That it has the pairs of all stripes, and that no lock was free
+    /// in between, no clause can say: each step of it is proved (`Row::all`, `forks`, `joined`), and tests show it whole.
     pub fn view<R: Wait>(&self, rt: &R) -> Result<View<K, V, P>, NoMemory>
         ensures { IfOk result (λ view. AllKeep K.cmp P.holds view) }
     {
@@ -183,6 +214,8 @@ impl<K: PathKey + Drop, V: Drop, P: Keeps<K, V>> TrieMap<K, V, P> {
 
     /// Another map with the pairs of one moment of the call, when all stripes are held. It has locks of its own: the
     /// two go separate ways. Its cost does not grow with the pairs.
+    ///
+    /// That each of its pairs keeps the rule is part of its type. Which pairs it has no clause can say: tests do.
     pub fn snapshot<R: Wait>(&self, rt: &R) -> Result<TrieMap<K, V, P>, NoMemory> {
         Ok(TrieMap {
             alloc: self.alloc,
@@ -191,13 +224,15 @@ impl<K: PathKey + Drop, V: Drop, P: Keeps<K, V>> TrieMap<K, V, P> {
     }
 
     /// What the query is answered for the map as it stands at one moment of the call, and the map that it makes where
-    /// it has a target. It is worked over a view, so that nobody waits for it.
+    /// it has a target. It is worked over a view, so that nobody waits for it. The map that it is answered for is one
+    /// whose pairs all keep the rule.
     pub fn query<R: Wait, Q: Asks<K, V>>(
         &self,
         rt: &R,
         query: &Q,
     ) -> Result<(Answer<K, V, Q::Item>, Option<Version<K, V>>), NoMemory>
         requires { Q.ready query.now }
+        ensures { IfOk result (λ answer. IsAnsweredOfKept K.cmp P.holds (Q.answered query.now) (Q.target_of query.now) answer.0 answer.1) }
     {
         self.view(rt)?.query(query)
     }
@@ -217,6 +252,19 @@ impl<K: PathKey + Drop, V: Drop, P: Keeps<K, V>> TrieMap<K, V, P> {
     {
         let mut stripe = self.row.stripe_of(rt, &key);
         stripe.put_where(self.alloc, key, value, condition)
+    }
+
+    // A removal of a key, where the condition holds of its value. The lock is free again when the answer is dropped.
+    fn remove_where<R: Wait, C: Condition<V>>(
+        &self,
+        rt: &R,
+        key: &K,
+        condition: &C,
+    ) -> Result<Change<V>, NoMemory>
+        ensures kept { IfOk result (λ change. IfSome change.previous (λ found. P.holds key.now found.value)) }
+    {
+        let mut stripe = self.row.stripe_of(rt, key);
+        stripe.remove_where(self.alloc, key, condition)
     }
 
     // A fork of each stripe, all as they stand at one moment when all are held.
@@ -246,7 +294,6 @@ impl<K: PathKey + Drop, V: Eq + Drop, P: Keeps<K, V>> TrieMap<K, V, P> {
     ///
     /// It is refused for want of memory alone.
     pub fn remove_if<R: Wait>(&self, rt: &R, key: &K, value: &V) -> Result<bool, NoMemory> {
-        let mut stripe = self.row.stripe_of(rt, key);
-        Ok(stripe.remove_where(self.alloc, key, &IfEqual(value))?.done)
+        Ok(self.remove_where(rt, key, &IfEqual(value))?.done)
     }
 }

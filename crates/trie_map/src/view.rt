@@ -1,5 +1,5 @@
 //! A map as it stood at one moment.
-ghost use Rattle.std.specs.Prelude.{◌≡◌, ◌↔◌, [], IfOk, IfSome, IsTrue, is_some, length, option_map};
+ghost use Rattle.std.specs.Prelude.{◌≡◌, ◌↔◌, [], All, IfOk, IfSome, IsTrue, is_some, length, option_map};
 ghost use Rattle.bulk_ops.specs.Told.{IsAnswered};
 ghost use Rattle.trie_map.specs.Rules.{AllKeep};
 ghost use Rattle.trie_shape.specs.Order.{walked};
@@ -12,7 +12,7 @@ use iter::Pairs;
 use std::alloc::Global;
 use std::marker::{Model, PhantomData};
 use std::sync::Arc;
-use trie_node::NoMemory;
+use trie_node::{NoMemory, walk_lists_map};
 use versions::Version;
 
 /// A map that never changes, as it stood at one moment when nobody wrote it. It is read with no lock, by any number of
@@ -78,11 +78,22 @@ impl<K: PathKey + Drop, V: Drop, P: Keeps<K, V>> View<K, V, P> {
         self.plain.is_empty()
     }
 
-    /// A walk over all pairs, in order of position and, within one position, of key.
+    /// A walk over all pairs, in order of position and, within one position, of key. Each of them keeps the rule.
     pub fn pairs(&self) -> Result<Pairs<'_, K, V>, NoMemory>
-        ensures { IfOk result (λ walk. walk.rest ≡ walked K.cmp K.path_of self.now) }
+        ensures rest { IfOk result (λ walk. walk.rest ≡ walked K.cmp K.path_of self.now) }
+        ensures kept { IfOk result (λ walk. All (λ pair. P.holds pair.0 pair.1) walk.rest) }
     {
+        self.law();
         iter::pairs(self.alloc, &self.plain)
+    }
+
+    /// What each pair of the view keeps: the rule, at its key and on a walk. It does nothing.
+    pub fn law(&self)
+        ensures at_key { AllKeep K.cmp P.holds self.now }
+        ensures walked { All (λ pair. P.holds pair.0 pair.1) (walked K.cmp K.path_of self.now) }
+    {
+        walk_lists_map::<K, V>();
+        let _ = &self.plain;
     }
 
     /// What the query is answered for the whole view, and the map that it makes where it has a target.

@@ -16,7 +16,7 @@ use Rattle.std.proofs.lemmas.Nat.{or_lt, and_le_l}
 use Rattle.std.proofs.lemmas.Nat.Bits.{bit_at_set_same, bit_at_set_other, bit_at_clear_same}
 use Rattle.std.proofs.lemmas.List.{get_or_at, set_at}
 use Rattle.std.proofs.lemmas.List.Edits.{insert-append_right, remove-append_right}
-use Rattle.hash_path.specs.Digits.{digit}
+use Rattle.hash_path.specs.Digits.{word_digits, last_level, digit, fan_out}
 use Rattle.trie_shape.specs.Tree.{Tree, branch, bucket, trees, entries, entries_of_all, KeysHaveDigit, IsTrie, AreTries, digits_of, HasTwoWords}
 use Rattle.trie_shape.specs.Shape.{Nodes, Lacks, nodes_below, nodes_of_all, IsRestamped, Restamps}
 use Rattle.trie_shape.specs.Roots.{word_of}
@@ -48,7 +48,7 @@ length-three xs es ys = length-append xs (es ++ ys) ∙ ap (λ n. length xs + n)
 module _ {K V : Type 0} (R : K → K → Ordering) (path : K → ℕ) where
   -- a branch that is a trie, but for its having two words
   abbrev pub IsNearlyTrie : ℕ → Tree K V → Type 0
-  IsNearlyTrie level (branch stamp size bitmap ts) = (level ≤ 6) × (bitmap < 2 ^ 32) × (size ≡ length (entries_of_all ts)) × AreTries R path level (digits_of bitmap) ts
+  IsNearlyTrie level (branch stamp size bitmap ts) = (level ≤ last_level) × (bitmap < 2 ^ fan_out) × (size ≡ length (entries_of_all ts)) × AreTries R path level (digits_of bitmap) ts
   IsNearlyTrie level (bucket stamp es) = ⊥
 
   trie_of_two : (level : ℕ) (t : Tree K V) → IsNearlyTrie level t → (0 < level → HasTwoWords R path (entries t)) → IsTrie R path level t
@@ -95,7 +95,7 @@ module _ {K V : Type 0} (R : K → K → Ordering) (path : K → ℕ) (total : I
         ∙ ap (cond (eq_by_cmp R q k) given) (sym (split old))
 
     -- which stamps there are where the nodes of one child change
-    pub stamps_changed : level < 7 → (before : ℕ) (p : List ℕ) → length p ≡ level → starts_with nat_eq (word_of path k) p ≡ true → (old new : Nodes) → Restamps stamp (word_of path k) old new →
+    pub stamps_changed : level < word_digits → (before : ℕ) (p : List ℕ) → length p ≡ level → starts_with nat_eq (word_of path k) p ≡ true → (old new : Nodes) → Restamps stamp (word_of path k) old new →
         Restamps stamp (word_of path k) ((p, before) ∷ (nodes_of_all (word_of path) p bs (trees xs) ++ (old ++ nodes_of_all (word_of path) p as_ (trees ys)))) ((p, stamp) ∷ (nodes_of_all (word_of path) p bs (trees xs) ++ (new ++ nodes_of_all (word_of path) p as_ (trees ys))))
     stamps_changed lt before p deep on old new h =
         let front = nodes_of_all (word_of path) p bs (trees xs) in
@@ -107,7 +107,7 @@ module _ {K V : Type 0} (R : K → K → Ordering) (path : K → ℕ) (total : I
         h)
 
     -- a branch where the pairs and the nodes of one child change as the write says
-    changes_between : level < 7 → (before : ℕ) (old new : Tree K V) (es fs : List (K × V)) (ms ns : List ℕ → Nodes) →
+    changes_between : level < word_digits → (before : ℕ) (old new : Tree K V) (es fs : List (K × V)) (ms ns : List ℕ → Nodes) →
         entries old ≡ entries_of_all (trees xs) ++ (es ++ entries_of_all (trees ys)) → entries new ≡ entries_of_all (trees xs) ++ (fs ++ entries_of_all (trees ys)) →
         ((p : List ℕ) → nodes_below (word_of path) p old ≡ (p, before) ∷ (nodes_of_all (word_of path) p bs (trees xs) ++ (ms p ++ nodes_of_all (word_of path) p as_ (trees ys)))) →
         ((p : List ℕ) → nodes_below (word_of path) p new ≡ (p, stamp) ∷ (nodes_of_all (word_of path) p bs (trees xs) ++ (ns p ++ nodes_of_all (word_of path) p as_ (trees ys)))) →
@@ -129,11 +129,11 @@ module _ {K V : Type 0} (R : K → K → Ordering) (path : K → ℕ) (total : I
         }
 
   -- the digits that lead to a child of the key's digit lead to the key
-  leads_on : (p : List ℕ) → level < 7 → length p ≡ level → starts_with nat_eq (word_of path k) p ≡ true → (d : ℕ) → digit (path k) level ≡ d → starts_with nat_eq (word_of path k) (p ++ d ∷ []) ≡ true
+  leads_on : (p : List ℕ) → level < word_digits → length p ≡ level → starts_with nat_eq (word_of path k) p ≡ true → (d : ℕ) → digit (path k) level ≡ d → starts_with nat_eq (word_of path k) (p ++ d ∷ []) ≡ true
   leads_on p lt deep on d here = starts_snoc (path k) p d (omega arith) ∙ and_from _ _ on (eq-eqb d (digit (path k) (length p)) (sym (ap (digit (path k)) deep ∙ here)))
 
   -- what a write does to the nodes of the child
-  below_child : (d : ℕ) → digit (path k) level ≡ d → level < 7 → (t u : Tree K V) → Writes R path (level + 1) stamp k given t u →
+  below_child : (d : ℕ) → digit (path k) level ≡ d → level < word_digits → (t u : Tree K V) → Writes R path (level + 1) stamp k given t u →
       (p : List ℕ) → length p ≡ level → starts_with nat_eq (word_of path k) p ≡ true → Restamps stamp (word_of path k) (nodes_below (word_of path) (p ++ d ∷ []) t) (nodes_below (word_of path) (p ++ d ∷ []) u)
   below_child d here lt t u writes p deep on = writes.stamps (p ++ d ∷ []) (length-append p (d ∷ []) ∙ omega (arith, deep)) (leads_on p lt deep on d here)
 
@@ -161,7 +161,7 @@ module _ {K V : Type 0} (R : K → K → Ordering) (path : K → ℕ) (total : I
       subst (IsNearlyTrie R path level) (sym is) (ok.0, ok.1, ok.2, ok.3)
 
   -- the child of the key's digit is replaced by the one with the write
-  pub nearly_replaced : (d : ℕ) → digit (path k) level ≡ d → d < 32 → (before size bitmap : ℕ) (ts : List (Tree K V)) (old : Tree K V) → old ≡ branch before size bitmap (trees ts) → IsNearlyTrie R path level old →
+  pub nearly_replaced : (d : ℕ) → digit (path k) level ≡ d → d < fan_out → (before size bitmap : ℕ) (ts : List (Tree K V)) (old : Tree K V) → old ≡ branch before size bitmap (trees ts) → IsNearlyTrie R path level old →
       (bit_at bitmap d == 1) ≡ true → (t u : Tree K V) → t ≡ get_or ts (count_ones (bitmap % 2 ^ d)) t → Writes R path (level + 1) stamp k given t u →
       (size2 : ℕ) (new : Tree K V) → size2 + length (entries t) ≡ size + length (entries u) → new ≡ branch stamp size2 bitmap (trees (set ts (count_ones (bitmap % 2 ^ d)) u)) → Changes R path level stamp k given old new
   nearly_replaced d here below before size bitmap ts old is trie has t u at writes size2 new sized made =
@@ -176,7 +176,7 @@ module _ {K V : Type 0} (R : K → K → Ordering) (path : K → ℕ) (total : I
       let new_is : new ≡ branch stamp size2 bitmap (trees (c.front ++ u ∷ c.back)) = made ∙ ap (λ xs. branch stamp size2 bitmap (trees xs)) now in
       let old_entries = branch_entries old c.front c.back c.child before size bitmap old_is in
       let new_entries = branch_entries new c.front c.back u stamp size2 bitmap new_is in
-      let lt : level < 7 = omega (arith, ok.0) in
+      let lt : level < word_digits = omega (arith, ok.0) in
       let counted : size2 ≡ length (entries new) = omega (
         arith,
         sized,
@@ -199,14 +199,14 @@ module _ {K V : Type 0} (R : K → K → Ordering) (path : K → ℕ) (total : I
         subst (λ ds. AreTries R path level ds (trees (c.front ++ u ∷ c.back))) (sym c.digits) (join R path level a.before (d ∷ a.after) c.front (u ∷ c.back) c.front_ok (digit_kept d (entries c.child) (entries u) here w.finds c.keys, w.trie, c.back_ok)),
       ))
 
-  pub changes_replaced : (d : ℕ) → digit (path k) level ≡ d → d < 32 → (before size bitmap : ℕ) (ts : List (Tree K V)) (old : Tree K V) → old ≡ branch before size bitmap (trees ts) → IsTrie R path level old →
+  pub changes_replaced : (d : ℕ) → digit (path k) level ≡ d → d < fan_out → (before size bitmap : ℕ) (ts : List (Tree K V)) (old : Tree K V) → old ≡ branch before size bitmap (trees ts) → IsTrie R path level old →
       (bit_at bitmap d == 1) ≡ true → (t u : Tree K V) → t ≡ get_or ts (count_ones (bitmap % 2 ^ d)) t → Writes R path (level + 1) stamp k given t u →
       (size2 : ℕ) (new : Tree K V) → size2 + length (entries t) ≡ size + length (entries u) → new ≡ branch stamp size2 bitmap (trees (set ts (count_ones (bitmap % 2 ^ d)) u)) → Changes R path level stamp k given old new
   changes_replaced d here below before size bitmap ts old is trie has t u at writes size2 new sized made =
       nearly_replaced d here below before size bitmap ts old is (near_of_trie before size bitmap ts old is trie) has t u at writes size2 new sized made
 
   -- a child of the key's digit is added where there was none
-  pub nearly_added : (d : ℕ) → digit (path k) level ≡ d → d < 32 → (before size bitmap : ℕ) (ts : List (Tree K V)) (old : Tree K V) → old ≡ branch before size bitmap (trees ts) → IsNearlyTrie R path level old →
+  pub nearly_added : (d : ℕ) → digit (path k) level ≡ d → d < fan_out → (before size bitmap : ℕ) (ts : List (Tree K V)) (old : Tree K V) → old ≡ branch before size bitmap (trees ts) → IsNearlyTrie R path level old →
       (bit_at bitmap d == 1) ≡ false → (stamp0 : ℕ) (u : Tree K V) → Writes R path (level + 1) stamp k given (bucket stamp0 []) u →
       (size2 : ℕ) (new : Tree K V) → size2 ≡ size + length (entries u) → new ≡ branch stamp size2 (bit_or bitmap (1 * 2 ^ d % 2 ^ 32)) (trees (insert ts (count_ones (bitmap % 2 ^ d)) u)) → Changes R path level stamp k given old new
   nearly_added d here below before size bitmap ts old is trie lacks stamp0 u w size2 new sized made =
@@ -223,7 +223,7 @@ module _ {K V : Type 0} (R : K → K → Ordering) (path : K → ℕ) (total : I
       let new_is : new ≡ branch stamp size2 wider (trees (c.front ++ u ∷ c.back)) = made ∙ ap (λ xs. branch stamp size2 wider (trees xs)) now in
       let old_entries = gap_entries old c.front c.back before size bitmap old_is in
       let new_entries = branch_entries new c.front c.back u stamp size2 wider new_is in
-      let lt : level < 7 = omega (arith, ok.0) in
+      let lt : level < word_digits = omega (arith, ok.0) in
       let counted : size2 ≡ length (entries new) = omega (
         arith,
         sized,
@@ -240,19 +240,19 @@ module _ {K V : Type 0} (R : K → K → Ordering) (path : K → ℕ) (total : I
       w.finds w.least w.most (below_child d here lt (bucket stamp0 []) u w)
       (subst (IsNearlyTrie R path level) (sym new_is) (
         ok.0,
-        or_lt 32 bitmap (1 * 2 ^ d % 2 ^ 32) ok.1 (omega arith),
+        or_lt fan_out bitmap (1 * 2 ^ d % 2 ^ 32) ok.1 (omega arith),
         counted ∙ ap (λ x. length (entries x)) new_is,
         subst (λ ds. AreTries R path level ds (trees (c.front ++ u ∷ c.back))) (sym digits) (join R path level a.before (d ∷ a.after) c.front (u ∷ c.back) c.front_ok (digit_kept d [] (entries u) here w.finds (λ q never. absurd (false≢true never)), w.trie, c.back_ok)),
       ))
 
-  pub changes_added : (d : ℕ) → digit (path k) level ≡ d → d < 32 → (before size bitmap : ℕ) (ts : List (Tree K V)) (old : Tree K V) → old ≡ branch before size bitmap (trees ts) → IsTrie R path level old →
+  pub changes_added : (d : ℕ) → digit (path k) level ≡ d → d < fan_out → (before size bitmap : ℕ) (ts : List (Tree K V)) (old : Tree K V) → old ≡ branch before size bitmap (trees ts) → IsTrie R path level old →
       (bit_at bitmap d == 1) ≡ false → (stamp0 : ℕ) (u : Tree K V) → Writes R path (level + 1) stamp k given (bucket stamp0 []) u →
       (size2 : ℕ) (new : Tree K V) → size2 ≡ size + length (entries u) → new ≡ branch stamp size2 (bit_or bitmap (1 * 2 ^ d % 2 ^ 32)) (trees (insert ts (count_ones (bitmap % 2 ^ d)) u)) → Changes R path level stamp k given old new
   changes_added d here below before size bitmap ts old is trie lacks stamp0 u w size2 new sized made =
       nearly_added d here below before size bitmap ts old is (near_of_trie before size bitmap ts old is trie) lacks stamp0 u w size2 new sized made
 
   -- the child of the key's digit, which had no other key, is left out
-  pub changes_dropped : (d : ℕ) → digit (path k) level ≡ d → d < 32 → (before size bitmap : ℕ) (ts : List (Tree K V)) (old : Tree K V) → old ≡ branch before size bitmap (trees ts) → IsTrie R path level old →
+  pub changes_dropped : (d : ℕ) → digit (path k) level ≡ d → d < fan_out → (before size bitmap : ℕ) (ts : List (Tree K V)) (old : Tree K V) → old ≡ branch before size bitmap (trees ts) → IsTrie R path level old →
       (bit_at bitmap d == 1) ≡ true → (t : Tree K V) → t ≡ get_or ts (count_ones (bitmap % 2 ^ d)) t → FindsGiven (entries t) [] → length (entries t) ≡ 1 →
       (size2 : ℕ) (new : Tree K V) → size2 + 1 ≡ size → new ≡ branch stamp size2 (bit_and bitmap (bit_not w32 (1 * 2 ^ d % 2 ^ 32))) (trees (remove ts (count_ones (bitmap % 2 ^ d)))) → Changes R path level stamp k given old new
   changes_dropped d here below before size bitmap ts old is trie has t at finds one size2 new sized made =
@@ -269,7 +269,7 @@ module _ {K V : Type 0} (R : K → K → Ordering) (path : K → ℕ) (total : I
       let new_is : new ≡ branch stamp size2 narrower (trees (c.front ++ c.back)) = made ∙ ap (λ xs. branch stamp size2 narrower (trees xs)) now in
       let old_entries = branch_entries old c.front c.back c.child before size bitmap old_is in
       let new_entries = gap_entries new c.front c.back stamp size2 narrower new_is in
-      let lt : level < 7 = omega (arith, ok.0) in
+      let lt : level < word_digits = omega (arith, ok.0) in
       let alone : length (entries c.child) ≡ 1 = ap (λ x. length (entries x)) (sym same) ∙ one in
       let counted : size2 ≡ length (entries new) = omega (
         arith,
@@ -329,7 +329,7 @@ module _ {K V : Type 0} (R : K → K → Ordering) (path : K → ℕ) (total : I
   }
 
   -- a put below the child of the key's digit
-  pub puts_replaced : (level stamp : ℕ) (k : K) (v : V) (d : ℕ) → digit (path k) level ≡ d → d < 32 → (before size bitmap : ℕ) (ts : List (Tree K V)) (old : Tree K V) → old ≡ branch before size bitmap (trees ts) → IsTrie R path level old →
+  pub puts_replaced : (level stamp : ℕ) (k : K) (v : V) (d : ℕ) → digit (path k) level ≡ d → d < fan_out → (before size bitmap : ℕ) (ts : List (Tree K V)) (old : Tree K V) → old ≡ branch before size bitmap (trees ts) → IsTrie R path level old →
       (bit_at bitmap d == 1) ≡ true → (t u : Tree K V) → t ≡ get_or ts (count_ones (bitmap % 2 ^ d)) t → Writes R path (level + 1) stamp k (Some v) t u →
       (size2 : ℕ) (new : Tree K V) → size2 + length (entries t) ≡ size + length (entries u) → new ≡ branch stamp size2 bitmap (trees (set ts (count_ones (bitmap % 2 ^ d)) u)) → Writes R path level stamp k (Some v) old new
   puts_replaced level stamp k v d here below before size bitmap ts old is trie has t u at writes size2 new sized made =
@@ -337,7 +337,7 @@ module _ {K V : Type 0} (R : K → K → Ordering) (path : K → ℕ) (total : I
       writes_of_two R path total exact level stamp k (Some v) old new c (λ up. two_kept k v (entries old) (entries new) c.finds (two_words level before size bitmap ts old is trie up))
 
   -- a put of a leaf where no child has the key's digit
-  pub puts_added : (level stamp : ℕ) (k : K) (v : V) (d : ℕ) → digit (path k) level ≡ d → d < 32 → (before size bitmap : ℕ) (ts : List (Tree K V)) (old : Tree K V) → old ≡ branch before size bitmap (trees ts) → IsTrie R path level old →
+  pub puts_added : (level stamp : ℕ) (k : K) (v : V) (d : ℕ) → digit (path k) level ≡ d → d < fan_out → (before size bitmap : ℕ) (ts : List (Tree K V)) (old : Tree K V) → old ≡ branch before size bitmap (trees ts) → IsTrie R path level old →
       (bit_at bitmap d == 1) ≡ false → (u : Tree K V) → u ≡ bucket stamp ((k, v) ∷ []) →
       (new : Tree K V) → new ≡ branch stamp (size + 1) (bit_or bitmap (1 * 2 ^ d % 2 ^ 32)) (trees (insert ts (count_ones (bitmap % 2 ^ d)) u)) → Writes R path level stamp k (Some v) old new
   puts_added level stamp k v d here below before size bitmap ts old is trie lacks u leaf new made =

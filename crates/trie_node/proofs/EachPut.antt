@@ -7,6 +7,7 @@ use Rattle.std.specs.Ordering.{eq_by_cmp}
 use Rattle.std.specs.Cmp.{IsTotalOrder}
 use Rattle.std.specs.FinMap.{find}
 use Rattle.std.proofs.lemmas.List.{take_more}
+use Rattle.hash_path.specs.Digits.{word_digits, digit_bits}
 use Rattle.trie_node.specs.Merges.{CanMerge, PutsEach, StampsPass, written_over}
 use Rattle.trie_shape.specs.Tree.{Tree, bucket, entries, IsTrie}
 use Rattle.trie_node.specs.Writes.{Writes, WritesWhere, KeysAgree}
@@ -57,7 +58,7 @@ module _ {K V : Type 0} (R : K → K → Ordering) (path : K → ℕ) (total : I
       pub most : length (entries new) ≤ length (entries old) + 1
       pub stamps : (test : ℕ → Bool) → test stamp ≡ true → StampsPass test old → StampsPass test new
 
-    one_written : (k : K) (v : V) (old new : Tree K V) → level ≤ 7 → Writes R path level stamp k (Some v) old new → holds (find R k (entries old)) ≡ true → PutsOne k v old new
+    one_written : (k : K) (v : V) (old new : Tree K V) → level ≤ word_digits → Writes R path level stamp k (Some v) old new → holds (find R k (entries old)) ≡ true → PutsOne k v old new
     one_written k v old new depth w passes = record {
       trie = w.trie;
       finds = λ q. w.finds q ∙ ap (λ b. cond (eq_by_cmp R q k) (cond b (Some v) (find R k (entries old))) (find R q (entries old))) (sym passes);
@@ -102,8 +103,8 @@ module _ {K V : Type 0} (R : K → K → Ordering) (path : K → ℕ) (total : I
     module _ (bucket_stamp : ℕ) (es : List (K × V)) (old : Tree K V) (can : CanMerge R path level (Some (bucket bucket_stamp es)) (Some old)) (i : ℕ) (e : K × V) (lt : i < length es) (is : e ≡ get_or es i e) (now : Tree K V) (each : PutsEach R path level stamp holds (take i es) old now) where
       -- the keys so far agree with the next one
       pub agree_next : KeysAgree R path level (path e.0) (entries now)
-      agree_next q found = elim (either_found holds (find R q (take i es)) (find R q (entries old)) (sym (ap is_some (each.finds q)) ∙ found)) as (λ _. path q % 2 ^ (5 * level) ≡ path e.0 % 2 ^ (5 * level)) [
-        | inl given ↦ ap (λ w. w % 2 ^ (5 * level)) (can.left_trie.2.1 q (found_in_all q i es given) ∙ sym (can.left_trie.2.1 e.0 (found_at es i e lt is)))
+      agree_next q found = elim (either_found holds (find R q (take i es)) (find R q (entries old)) (sym (ap is_some (each.finds q)) ∙ found)) as (λ _. path q % 2 ^ (digit_bits * level) ≡ path e.0 % 2 ^ (digit_bits * level)) [
+        | inl given ↦ ap (λ w. w % 2 ^ (digit_bits * level)) (can.left_trie.2.1 q (found_in_all q i es given) ∙ sym (can.left_trie.2.1 e.0 (found_at es i e lt is)))
         | inr there ↦ sym (can.agree e.0 q (found_at es i e lt is) there)
       ]
 

@@ -5,6 +5,7 @@ use Rattle.std.proofs.lemmas.Bool.{le-leb}
 use Rattle.std.specs.declared.cmp.Ordering.{Ordering}
 use Rattle.std.specs.declared.cmp.Ordering.TheVariants.{Equal}
 use Rattle.std.specs.Cmp.{IsTotalOrder}
+use Rattle.hash_path.specs.Digits.{word_bits}
 use Rattle.trie_shape.specs.Map.{union}
 use Rattle.trie_node.specs.Merges.{CanMerge, EachStampPasses, Merges}
 use Rattle.trie_shape.specs.Roots.{IsRoot, map_of, word_of}
@@ -19,7 +20,7 @@ no_elements : {A : Type 0} (xs : List A) → length xs ≡ 0 → xs ≡ []
 no_elements [] e = refl
 no_elements (x ∷ xs) e = absurd (omega arith)
 
-module _ {K V : Type 0} (R : K → K → Ordering) (path : K → ℕ) (total : IsTotalOrder R) (exact : (x y : K) → R x y ≡ Equal → x ≡ y) (small : (k : K) → path k < 2 ^ 32) (left right : Tree K V) (left_root : IsRoot R path left) (right_root : IsRoot R path right) where
+module _ {K V : Type 0} (R : K → K → Ordering) (path : K → ℕ) (total : IsTotalOrder R) (exact : (x y : K) → R x y ≡ Equal → x ≡ y) (small : (k : K) → path k < 2 ^ word_bits) (left right : Tree K V) (left_root : IsRoot R path left) (right_root : IsRoot R path right) where
   -- a root without pairs is that of the empty map
   empty_map : (t : Tree K V) → IsRoot R path t → length (entries t) ≡ 0 → map_of R t ≡ []
   empty_map t root none = no_elements (map_of R t) (length_map_of R path total exact small t (root_is_trie R path total exact small t root) ∙ none)

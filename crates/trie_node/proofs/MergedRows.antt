@@ -11,7 +11,7 @@ use Rattle.std.proofs.lemmas.Bool.Decides.{eqb_tells}
 use Rattle.std.proofs.lemmas.List.{append-nil, get_or_default}
 use Rattle.std.proofs.lemmas.Nat.{or_lt}
 use Rattle.std.proofs.lemmas.Nat.Bits.{bit_at_or, bit_at-suc, bit_at_lowest}
-use Rattle.hash_path.specs.Digits.{digit}
+use Rattle.hash_path.specs.Digits.{last_level, digit, digit_bits, fan_out}
 use Rattle.trie_shape.specs.declared.looks.Look.TheVariants.{Branch}
 use Rattle.trie_shape.specs.Looks.{Shows}
 use Rattle.trie_node.specs.Merges.{CanMerge, Merges, StampsPass, AllStampsPass, child_among, child_at, pairs_of}
@@ -90,7 +90,7 @@ module _ {K V : Type 0} where
   all_within test (t ∷ row) c h here = (h.0, all_within test row c h.1 here)
 
   -- a branch has a child for each digit of its bitmap
-  has_child : (t : Tree K V) (b d : ℕ) → d < 32 → Fits t → Shows (Branch b) t → is_some (child_at t d) ≡ (bit_at b d == 1)
+  has_child : (t : Tree K V) (b d : ℕ) → d < fan_out → Fits t → Shows (Branch b) t → is_some (child_at t d) ≡ (bit_at b d == 1)
   has_child t b d below fits shown = of_bit (bit_at b d == 1) refl
     where
       of_bit : (e : Bool) → (bit_at b d == 1) ≡ e → is_some (child_at t d) ≡ (bit_at b d == 1)
@@ -122,9 +122,9 @@ pub record IsRow {K V : Type 0} (R : K → K → Ordering) (path : K → ℕ) (l
 module _ {K V : Type 0} (R : K → K → Ordering) (path : K → ℕ) (exact : (x y : K) → R x y ≡ Equal → x ≡ y) (level : ℕ) where
   -- a branch as one of the two
   pub record IsSide (b : ℕ) (t : Tree K V) : Type 0 where
-    pub level_in : level ≤ 6
-    pub small : b < 2 ^ 32
-    pub has : (d : ℕ) → d < 32 → is_some (child_at t d) ≡ (bit_at b d == 1)
+    pub level_in : level ≤ last_level
+    pub small : b < 2 ^ fan_out
+    pub has : (d : ℕ) → d < fan_out → is_some (child_at t d) ≡ (bit_at b d == 1)
     pub known : (d : ℕ) → IfSome (child_at t d) (IsBelow R path level d)
     pub finds : (q : K) → find R q (entries t) ≡ find R q (pairs_of (child_at t (digit (path q) level)))
     pub fewer : (d : ℕ) → length (pairs_of (child_at t d)) ≤ length (entries t)
@@ -136,7 +136,7 @@ module _ {K V : Type 0} (R : K → K → Ordering) (path : K → ℕ) (exact : (
   pub side : (b : ℕ) (t : Tree K V) → Shows (Branch b) t → IsTrie R path level t → IsSide b t
   side b (branch stamp size bitmap ts) shown trie = record {
     level_in = trie.0;
-    small = let P : ℕ → Type 0 = λ n. n < 2 ^ 32 in subst P (sym shown) trie.1;
+    small = let P : ℕ → Type 0 = λ n. n < 2 ^ fan_out in subst P (sym shown) trie.1;
     has = λ d below. has_child (branch stamp size bitmap ts) b d below (trie_fits R path level (branch stamp size bitmap ts) trie) shown;
     known = λ d. child_known R path level d (digits_of bitmap) ts trie.3;
     finds = λ q. find_digit R path level exact q (digits_of bitmap) ts (once_each bitmap) trie.3;
@@ -168,12 +168,12 @@ module _ {K V : Type 0} (R : K → K → Ordering) (path : K → ℕ) (exact : (
           let q_digit = digit_below d (child_at left d) (l.known d) q q_in in
           let p_digit = digit_below d (child_at right d) (r.known d) p p_in in
           let above = can.agree q p (ap is_some (sym (found_above a d left l q q_digit)) ∙ q_in) (ap is_some (sym (found_above b d right r p p_digit)) ∙ p_in) in
-          subst (λ n. path q % 2 ^ n ≡ path p % 2 ^ n) {x = 5 + 5 * level} {y = 5 * (level + 1)} (omega arith) (agree_more (path q) (path p) level above (q_digit ∙ sym p_digit));
+          subst (λ n. path q % 2 ^ n ≡ path p % 2 ^ n) {x = digit_bits + digit_bits * level} {y = digit_bits * (level + 1)} (omega arith) (agree_more (path q) (path p) level above (q_digit ∙ sym p_digit));
       room = omega (arith, l.fewer d, r.fewer d, can.room);
     }
 
     module _ (stamp : ℕ) where
-      module _ (k : ℕ) (below : k < 32) (row : List (Tree K V)) (h : IsRow R path level stamp (bit_or a b) left right k row) (o : Option (Tree K V)) (m : Merges R path (level + 1) stamp (child_at left k) (child_at right k) o) where
+      module _ (k : ℕ) (below : k < fan_out) (row : List (Tree K V)) (h : IsRow R path level stamp (bit_or a b) left right k row) (o : Option (Tree K V)) (m : Merges R path (level + 1) stamp (child_at left k) (child_at right k) o) where
         bit : (bit_at (bit_or a b) k == 1) ≡ is_some o
         bit = either_bit a b k ∙ (λ i. sym (l.has k below) i || sym (r.has k below) i) ∙ sym m.there
 
@@ -229,7 +229,7 @@ module _ {K V : Type 0} (R : K → K → Ordering) (path : K → ℕ) (exact : (
       room_row k row h = omega (arith, h.most, l.most k, r.most k, can.room)
 
       -- when all digits are done, the branch is both together
-      pub row_done : (row : List (Tree K V)) → IsRow R path level stamp (bit_or a b) left right 32 row → (size : ℕ) → size ≡ length (entries_of_all (trees row)) → (new : Tree K V) → new ≡ branch stamp size (bit_or a b) (trees row) → Merges R path level stamp (Some left) (Some right) (Some new)
+      pub row_done : (row : List (Tree K V)) → IsRow R path level stamp (bit_or a b) left right fan_out row → (size : ℕ) → size ≡ length (entries_of_all (trees row)) → (new : Tree K V) → new ≡ branch stamp size (bit_or a b) (trees row) → Merges R path level stamp (Some left) (Some right) (Some new)
       unfolding digits_of
       row_done row h size counted new made =
           let finds : (q : K) → find R q (entries new) ≡ option_or (find R q (entries left)) (find R q (entries right)) = λ q. ap (λ t. find R q (entries t)) made ∙ h.finds q (omega arith) in
@@ -238,12 +238,12 @@ module _ {K V : Type 0} (R : K → K → Ordering) (path : K → ℕ) (exact : (
             there = refl;
             trie = subst (IsTrie R path level) (sym made) (
               l.level_in,
-              or_lt 32 a b l.small r.small,
+              or_lt fan_out a b l.small r.small,
               counted,
               h.ok,
               λ up. let two = l.two up in (two.0, (two.1.0, (kept two.0 two.1.1.0, kept two.1.0 two.1.1.1, two.1.1.2))),
             );
             finds = finds;
-            most = omega (arith, h.most, l.most 32, r.most 32, ap (λ t. length (entries t)) made);
+            most = omega (arith, h.most, l.most fan_out, r.most fan_out, ap (λ t. length (entries t)) made);
             stamps = λ test stamped left_in right_in. subst (StampsPass test) (sym made) (stamped, h.stamps test stamped left_in right_in);
           }

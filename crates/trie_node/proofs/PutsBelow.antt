@@ -6,7 +6,7 @@ use Rattle.std.specs.declared.cmp.Ordering.TheVariants.{Equal}
 use Rattle.std.specs.Cmp.{IsTotalOrder}
 use Rattle.std.specs.Int.{bit_at}
 use Rattle.std.specs.Int.RustNames.{count_ones}
-use Rattle.hash_path.specs.Digits.{digit}
+use Rattle.hash_path.specs.Digits.{digit, digit_bits}
 use Rattle.trie_shape.specs.Tree.{Tree, branch, bucket, trees, entries}
 use Rattle.trie_shape.specs.View.{tree, branch_of}
 use Rattle.trie_shape.specs.declared.node.Node.{Node}
@@ -30,8 +30,8 @@ module _ {K V : Type 0} {R : K → K → Ordering} {path : K → ℕ} {level : �
   agree_below {word} e agree q found =
       let digits : digit (path q) level ≡ d = w.keys q found in
       let here : digit word level ≡ d = ap (λ x. digit x level) e ∙ w.turn.here in
-      let more : path q % 2 ^ (5 + 5 * level) ≡ word % 2 ^ (5 + 5 * level) = agree_more (path q) word level (agree q (ap is_some (w.finds q digits) ∙ found)) (digits ∙ sym here) in
-      subst (λ n. path q % 2 ^ n ≡ word % 2 ^ n) {x = 5 + 5 * level} {y = 5 * (level + 1)} (omega arith) more
+      let more : path q % 2 ^ (digit_bits + digit_bits * level) ≡ word % 2 ^ (digit_bits + digit_bits * level) = agree_more (path q) word level (agree q (ap is_some (w.finds q digits) ∙ found)) (digits ∙ sym here) in
+      subst (λ n. path q % 2 ^ n ≡ word % 2 ^ n) {x = digit_bits + digit_bits * level} {y = digit_bits * (level + 1)} (omega arith) more
 
   -- a put into the child
   pub child_put : IsTotalOrder R → ((x y : K) → R x y ≡ Equal → x ≡ y) → (before stamp : ℕ) (v : V) (u : Tree K V) → Writes R path (level + 1) stamp k (Some v) (tree child) u →

@@ -11,7 +11,7 @@ use Rattle.std.specs.declared.cmp.Ordering.TheVariants.{Equal}
 use Rattle.std.specs.Ordering.{eq_by_cmp}
 use Rattle.std.specs.Cmp.{IsTotalOrder}
 use Rattle.std.specs.FinMap.{find}
-use Rattle.hash_path.specs.Digits.{digit}
+use Rattle.hash_path.specs.Digits.{digit, fan_out}
 use Rattle.trie_shape.specs.Tree.{Tree, branch, bucket, Trees, no_trees, more_trees, trees, entries, entries_of_all, IsTrie, AreTries, digits_of, HasTwoWords}
 use Rattle.trie_shape.specs.Shape.{nodes_below, nodes_of_all, IsRestamped, Restamps}
 use Rattle.trie_shape.specs.Roots.{word_of}
@@ -124,7 +124,7 @@ module _ {K V : Type 0} (R : K → K → Ordering) (path : K → ℕ) (total : I
   some_length k v [] e = absurd (false≢true (ap is_some e))
   some_length k v (e ∷ es) f = omega arith
 
-  module _ (level stamp : ℕ) (k : K) (holds : Option V → Bool) (d : ℕ) (here : digit (path k) level ≡ d) (below : d < 32) (before size bitmap : ℕ) (ts : List (Tree K V)) (old : Tree K V) (is : old ≡ branch before size bitmap (trees ts)) (trie : IsTrie R path level old) where
+  module _ (level stamp : ℕ) (k : K) (holds : Option V → Bool) (d : ℕ) (here : digit (path k) level ≡ d) (below : d < fan_out) (before size bitmap : ℕ) (ts : List (Tree K V)) (old : Tree K V) (is : old ≡ branch before size bitmap (trees ts)) (trie : IsTrie R path level old) where
     -- nothing is removed where no child has the digit
     pub removes_absent : (bit_at bitmap d == 1) ≡ false → (None ≡ find R k (entries old)) × (is_removable R k holds (entries old) ≡ false)
     removes_absent lacks =

@@ -3,13 +3,14 @@ use Rattle.std.proofs.Common.{◌≡◌, ℕ, ◌<◌, ◌^◌, [], Some, None, 
 use Rattle.std.specs.declared.cmp.Ordering.{Ordering}
 use Rattle.std.specs.declared.cmp.Ordering.TheVariants.{Equal}
 use Rattle.std.specs.Cmp.{IsTotalOrder}
+use Rattle.hash_path.specs.Digits.{word_bits}
 use Rattle.trie_shape.specs.Tree.{Tree, entries}
 use Rattle.trie_shape.proofs.Listings.{put_listed, without_listed}
 use Rattle.trie_shape.proofs.Roots.{trie_is_root}
 use Rattle.trie_node.specs.Changes.{IsPut, IsRemoval}
 use Rattle.trie_node.specs.Writes.{Writes}
 
-module _ {K V : Type 0} (R : K → K → Ordering) (path : K → ℕ) (total : IsTotalOrder R) (exact : (x y : K) → R x y ≡ Equal → x ≡ y) (small : (k : K) → path k < 2 ^ 32) where
+module _ {K V : Type 0} (R : K → K → Ordering) (path : K → ℕ) (total : IsTotalOrder R) (exact : (x y : K) → R x y ≡ Equal → x ≡ y) (small : (k : K) → path k < 2 ^ word_bits) where
   module _ (stamp : ℕ) (k : K) (old new : Tree K V) where
     -- a write of a value at the root is a put
     pub write_puts : (v : V) → Writes R path 0 stamp k (Some v) old new → IsPut R path stamp k v old new

@@ -15,7 +15,7 @@ use Rattle.std.proofs.lemmas.Bool.Decides.{leb_tells}
 use Rattle.std.proofs.lemmas.List.{append-nil}
 use Rattle.std.proofs.lemmas.List.Elements.{Contains-append_cases}
 use Rattle.std.proofs.lemmas.Nat.Bits.{bit_at-zero, bit_at_set_same, bit_at_set_other}
-use Rattle.hash_path.specs.Digits.{digit}
+use Rattle.hash_path.specs.Digits.{word_bits, last_level, digit, digit_bits, fan_out}
 use Rattle.trie_shape.specs.Tree.{Tree, branch, bucket, trees, entries, digits_of, KeysHaveWord, HasTwoWords, IsTrie, AreTries}
 use Rattle.trie_shape.specs.Shape.{Nodes, nodes_below, nodes_of_all, IsRestamped, Restamps}
 use Rattle.trie_shape.specs.Roots.{word_of}
@@ -34,16 +34,16 @@ front_empty : {A : Type 0} (xs ys : List A) → xs ++ ys ≡ [] → xs ≡ []
 front_empty [] ys e = refl
 front_empty (x ∷ xs) ys e = cc
 
-bits_of_one : (d : ℕ) → d < 32 → (i : ℕ) → i ≢ d → bit_at (one_digit d) i ≡ 0
+bits_of_one : (d : ℕ) → d < fan_out → (i : ℕ) → i ≢ d → bit_at (one_digit d) i ≡ 0
 bits_of_one d below i ne = bit_at_set_other w32 0 d below i ne ∙ bit_at-zero i
 
-pub one_digit_other : (d e : ℕ) → d < 32 → e ≢ d → (bit_at (one_digit d) e == 1) ≡ false
+pub one_digit_other : (d e : ℕ) → d < fan_out → e ≢ d → (bit_at (one_digit d) e == 1) ≡ false
 one_digit_other d e below ne = ap (λ n. n == 1) (bits_of_one d below e ne)
 
-pub one_digit_same : (d : ℕ) → d < 32 → (bit_at (one_digit d) d == 1) ≡ true
+pub one_digit_same : (d : ℕ) → d < fan_out → (bit_at (one_digit d) d == 1) ≡ true
 one_digit_same d below = ap (λ n. n == 1) (bit_at_set_same w32 0 d below)
 
-pub digits_of_one : (d : ℕ) → d < 32 → digits_of (one_digit d) ≡ d ∷ []
+pub digits_of_one : (d : ℕ) → d < fan_out → digits_of (one_digit d) ≡ d ∷ []
 digits_of_one d below =
     let a = digits_around 0 d below in
     let none : a.before ++ a.after ≡ [] = sym (a.now ∙ ap (λ n. a.before ++ cond (n == 1) (d ∷ a.after) a.after) (bit_at-zero d)) ∙ no_digits in
@@ -53,12 +53,12 @@ digits_of_one d below =
     ∙ ap (λ n. a.before ++ cond (n == 1) (d ∷ a.after) a.after) (bit_at_set_same w32 0 d below)
     ∙ (λ i. first i ++ d ∷ last i)
 
--- words of 32 bits that share the digits of seven levels are one
-pub level_within : (v w level : ℕ) → v < 2 ^ 32 → w < 2 ^ 32 → v ≢ w → v % 2 ^ (5 * level) ≡ w % 2 ^ (5 * level) → level ≤ 6
-level_within v w level v_small w_small apart agree = elim (leb_tells level 6) as (λ _. level ≤ 6) [
+-- words that share all digits are one
+pub level_within : (v w level : ℕ) → v < 2 ^ word_bits → w < 2 ^ word_bits → v ≢ w → v % 2 ^ (digit_bits * level) ≡ w % 2 ^ (digit_bits * level) → level ≤ last_level
+level_within v w level v_small w_small apart agree = elim (leb_tells level last_level) as (λ _. level ≤ last_level) [
   | inl within ↦ within.1
   | inr beyond ↦
-      let big : 2 ^ 35 ≤ 2 ^ (5 * level) = pow-le-pow_right {n = 2} (omega arith) {i = 35} {j = 5 * level} (omega (arith, beyond.1)) in
+      let big : 2 ^ word_bits ≤ 2 ^ (digit_bits * level) = pow-le-pow_right {n = 2} (omega arith) {i = word_bits} {j = digit_bits * level} (omega (arith, beyond.1)) in
       absurd (apart (sym (mod-eq_of_lt (omega (arith, big, v_small))) ∙ agree ∙ mod-eq_of_lt (omega (arith, big, w_small))))
 ]
 
@@ -84,7 +84,7 @@ restamps_under stamp w p before old new on h = λ k d lt. of_rule (get_or new k 
         ] refl r
 
 module _ {K V : Type 0} (R : K → K → Ordering) (path : K → ℕ) (total : IsTotalOrder R) (exact : (x y : K) → R x y ≡ Equal → x ≡ y) (level stamp : ℕ) (k : K) (v : V) (before : ℕ) (es : List (K × V)) (trie : IsTrie R path level (bucket before es)) (w d : ℕ)
-    (words : KeysHaveWord R path w es) (apart : w ≢ path k) (within : level ≤ 6) (there : digit w level ≡ d) (small : d < 32) where
+    (words : KeysHaveWord R path w es) (apart : w ≢ path k) (within : level ≤ last_level) (there : digit w level ≡ d) (small : d < fan_out) where
   -- the leaf or bucket alone below a branch
   abbrev pub lone : Tree K V
   lone = branch 0 (length es) (one_digit d) (trees (bucket before es ∷ []))
@@ -144,11 +144,11 @@ module _ {K V : Type 0} (R : K → K → Ordering) (path : K → ℕ) (total : I
       }
 
   -- the place of a leaf of another digit is before or behind it
-  pub place_beside : (e : ℕ) → e < 32 → e ≢ d → count_ones (one_digit d % 2 ^ e) ≤ 1
+  pub place_beside : (e : ℕ) → e < fan_out → e ≢ d → count_ones (one_digit d % 2 ^ e) ≤ 1
   place_beside e below ne = place_within R path level (one_digit d) e below (bucket before es ∷ []) near_lone.3 (one_digit_other d e small ne)
 
   -- the words differ at the level: a branch of two children
-  pub puts_beside : (e : ℕ) → digit (path k) level ≡ e → e < 32 → e ≢ d → (new : Tree K V) →
+  pub puts_beside : (e : ℕ) → digit (path k) level ≡ e → e < fan_out → e ≢ d → (new : Tree K V) →
       new ≡ branch stamp (length es + 1) (bit_or (one_digit d) (one_digit e)) (trees (insert (bucket before es ∷ []) (count_ones (one_digit d % 2 ^ e)) (bucket stamp ((k, v) ∷ [])))) → Writes R path level stamp k (Some v) (bucket before es) new
   puts_beside e here below ne new made =
       of_lone new (nearly_added R path total exact level stamp k (Some v) e here below 0 (length es) (one_digit d) (bucket before es ∷ []) lone refl near_lone (one_digit_other d e small ne)

@@ -6,7 +6,7 @@ use Rattle.std.specs.declared.cmp.Ordering.{Ordering}
 use Rattle.std.proofs.lemmas.Bool.{eq-eqb, le-leb, leb-true}
 use Rattle.std.proofs.lemmas.List.{length-take-le}
 use Rattle.std.proofs.lemmas.List.Elements.{All-cons, All-nil, All-append, All-contains}
-use Rattle.hash_path.specs.Digits.{spelled}
+use Rattle.hash_path.specs.Digits.{word_digits, spelled}
 use Rattle.trie_node.specs.Merges.{EachStampPasses, StampsPass, AllStampsPass}
 use Rattle.trie_shape.specs.Roots.{word_of}
 use Rattle.trie_shape.specs.Shape.{Nodes, nodes_below, nodes_of_all, NoneAbove, IsRestamped, Restamps}
@@ -85,7 +85,7 @@ module _ {K V : Type 0} (R : K → K → Ordering) (path : K → ℕ) (test : �
         (listed_pass (level + 1) (p ++ d ∷ []) t tries.1 (left_all (λ n. test n.1 ≡ true) here others h), all_listed_pass level p ds ts tries.2 (right_all (λ n. test n.1 ≡ true) here others h))
 
   -- a write leaves only stamps that pass
-  pub written_within : (level stamp : ℕ) (k : K) (given : Option V) (old new : Tree K V) → level ≤ 7 → test stamp ≡ true → Writes R path level stamp k given old new → StampsPass test old → StampsPass test new
+  pub written_within : (level stamp : ℕ) (k : K) (given : Option V) (old new : Tree K V) → level ≤ word_digits → test stamp ≡ true → Writes R path level stamp k given old new → StampsPass test old → StampsPass test new
   written_within level stamp k given old new depth stamped w h =
       let p = take level (spelled (path k)) in
       let restamps = w.stamps p (length-take-le level (spelled (path k)) depth) (begins_taken level (spelled (path k))) in

@@ -7,6 +7,7 @@ use Rattle.std.specs.Ordering.{eq_by_cmp, is_eq}
 use Rattle.std.specs.Cmp.{IsTotalOrder}
 use Rattle.std.specs.FinMap.{find}
 use Rattle.std.specs.FinMap.Entries.{put, by_order, find-put, length-put, is_sorted-put}
+use Rattle.hash_path.specs.Digits.{word_bits}
 use Rattle.trie_shape.specs.Tree.{bucket, KeysHaveWord, IsTrie}
 use Rattle.trie_shape.specs.Shape.{nodes_below}
 use Rattle.trie_shape.specs.Roots.{word_of}
@@ -30,9 +31,9 @@ module _ {K V : Type 0} (R : K → K → Ordering) (path : K → ℕ) (total : I
   word_of_first w (x ∷ es) e some is words = word_of_found e.0 w (x ∷ es) words (ap (λ y. is_some (find R y.0 (x ∷ es))) is ∙ ap is_some (found_first R total exact x es))
 
   -- a word that keys have has 32 bits
-  pub word_is_small : ((q : K) → path q < 2 ^ 32) → (w : ℕ) (es : List (K × V)) → 0 < length es → KeysHaveWord R path w es → w < 2 ^ 32
+  pub word_is_small : ((q : K) → path q < 2 ^ word_bits) → (w : ℕ) (es : List (K × V)) → 0 < length es → KeysHaveWord R path w es → w < 2 ^ word_bits
   word_is_small small w [] some words = absurd (omega arith)
-  word_is_small small w (e ∷ es) some words = let P : ℕ → Type 0 = λ n. n < 2 ^ 32 in subst P (words e.0 (ap is_some (found_first R total exact e es))) (small e.0)
+  word_is_small small w (e ∷ es) some words = let P : ℕ → Type 0 = λ n. n < 2 ^ word_bits in subst P (words e.0 (ap is_some (found_first R total exact e es))) (small e.0)
 
   module _ (k : K) (v : V) where
     -- a put of the only key is a leaf

@@ -27,7 +27,7 @@ pub use removal_in_place::{remove_in, remove_in_where};
 pub use trie_shape::{
     Always, Condition, IfAbsent, IfEqual, IfPresent, Look, NoMemory, Node, Stamp,
     bitmap_counts_children, branch_is_its_children, child, empty_root, find, leaf_is_its_pairs,
-    look, map_determines_root, map_names_nodes, root_has_bounded_nodes, root_has_few_nodes,
-    root_is_map, root_walks_in_order, size, stamp, trie_follows_digits, union_of_maps,
-    unions_of_maps, walk_lists_map, writes_keep_stamps_below,
+    look, map_determines_root, map_names_nodes, root_has_few_nodes, root_is_map,
+    root_walks_in_order, size, stamp, trie_follows_digits, union_of_maps, unions_of_maps,
+    walk_lists_map, writes_keep_stamps_below,
 };

@@ -8,7 +8,7 @@ use Rattle.std.specs.FinMap.Entries.{same_entries, is_sorted-where_key}
 use Rattle.std.specs.List.{starts_with}
 use Rattle.std.proofs.lemmas.Bool.Decides.{eqb_tells, leb_tells}
 use Rattle.std.proofs.lemmas.Bool.{and_parts}
-use Rattle.hash_path.specs.Digits.{digit, spelled}
+use Rattle.hash_path.specs.Digits.{word_bits, word_digits, last_level, digit, spelled}
 use Rattle.trie_shape.specs.Tree.{Tree, branch, bucket, Trees, no_trees, more_trees, digits_of, entries, entries_of_all, IsTrie, AreTries, HasTwoWords, KeysHaveDigit, KeysHaveWord}
 use Rattle.trie_shape.specs.Shape.{beginning, has_two_words, is_branch, is_empty, Lacks, Hangs, AllHang, Fits, AllFit, count_of}
 use Rattle.trie_shape.specs.Roots.{word_of}
@@ -61,23 +61,23 @@ module _ {K V : Type 0} (R : K → K → Ordering) (path : K → ℕ) where
   two_words_alike : (es fs : List (K × V)) → ((q : K) → find R q es ≡ find R q fs) → HasTwoWords R path es → HasTwoWords R path fs
   two_words_alike es fs same (q, (r, (q_in, r_in, ne))) = (q, (r, (ap is_some (sym (same q)) ∙ q_in, ap is_some (sym (same r)) ∙ r_in, ne)))
 
-module _ {K V : Type 0} (R : K → K → Ordering) (path : K → ℕ) (total : IsTotalOrder R) (exact : (x y : K) → R x y ≡ Equal → x ≡ y) (small : (k : K) → path k < 2 ^ 32) (m : List (K × V)) (sorted : T (is_sorted R m)) where
+module _ {K V : Type 0} (R : K → K → Ordering) (path : K → ℕ) (total : IsTotalOrder R) (exact : (x y : K) → R x y ≡ Equal → x ≡ y) (small : (k : K) → path k < 2 ^ word_bits) (m : List (K × V)) (sorted : T (is_sorted R m)) where
   -- find answers as among the pairs that begin with the digits p
   abbrev Agrees : List ℕ → List (K × V) → Type 0
   Agrees p es = (q : K) → find R q es ≡ find R q (beginning (word_of path) p m)
 
   -- one digit more
-  find_deeper : (p : List ℕ) (d : ℕ) (q : K) → length p < 7 → find R q (beginning (word_of path) (p ++ d ∷ []) m) ≡ cond (d == digit (path q) (length p)) (find R q (beginning (word_of path) p m)) None
+  find_deeper : (p : List ℕ) (d : ℕ) (q : K) → length p < word_digits → find R q (beginning (word_of path) (p ++ d ∷ []) m) ≡ cond (d == digit (path q) (length p)) (find R q (beginning (word_of path) p m)) None
   find_deeper p d q short =
       find_beginning (word_of path) m R exact (p ++ d ∷ []) q
       ∙ ap (λ b. cond b (find R q m) None) (starts_snoc (path q) p d short)
       ∙ both_tests (starts_with nat_eq (spelled (path q)) p) (nat_eq d (digit (path q) (length p))) (find R q m) None
       ∙ ap (λ o. cond (nat_eq d (digit (path q) (length p))) o None) (sym (find_beginning (word_of path) m R exact p q))
 
-  same_digit : (p : List ℕ) (d : ℕ) (q : K) → length p < 7 → digit (path q) (length p) ≡ d → find R q (beginning (word_of path) (p ++ d ∷ []) m) ≡ find R q (beginning (word_of path) p m)
+  same_digit : (p : List ℕ) (d : ℕ) (q : K) → length p < word_digits → digit (path q) (length p) ≡ d → find R q (beginning (word_of path) (p ++ d ∷ []) m) ≡ find R q (beginning (word_of path) p m)
   same_digit p d q short e = find_deeper p d q short ∙ ap (λ b. cond b (find R q (beginning (word_of path) p m)) None) (eq-eqb d (digit (path q) (length p)) (sym e))
 
-  other_digit : (p : List ℕ) (d : ℕ) (q : K) → length p < 7 → digit (path q) (length p) ≢ d → find R q (beginning (word_of path) (p ++ d ∷ []) m) ≡ None
+  other_digit : (p : List ℕ) (d : ℕ) (q : K) → length p < word_digits → digit (path q) (length p) ≢ d → find R q (beginning (word_of path) (p ++ d ∷ []) m) ≡ None
   other_digit p d q short ne =
       find_deeper p d q short ∙ elim (eqb_tells d (digit (path q) (length p))) as (λ _. cond (d == digit (path q) (length p)) (find R q (beginning (word_of path) p m)) None ≡ None) [
         | inl h ↦ absurd (ne (sym h.1))
@@ -117,7 +117,7 @@ module _ {K V : Type 0} (R : K → K → Ordering) (path : K → ℕ) (total : I
         let same : beginning (word_of path) p m ≡ es = same_entries R total exact (beginning (word_of path) p m) es (is_sorted-where_key R (λ k. starts_with nat_eq (word_of path k) p) m sorted) h.3 (λ q. sym (agree q)) in
         (bucket_stands p es (omega (arith, h.0)) (tells_one_word R total exact path h.2.0 es h.2.1) same, same, some_pair es h.1)
 
-    tries_hang : (ts : Trees K V) (p : List ℕ) (level : ℕ) → length p ≡ level → level ≤ 6 → (ds : List ℕ) (low : ℕ) → Rising low ds → AreTries R path level ds ts →
+    tries_hang : (ts : Trees K V) (p : List ℕ) (level : ℕ) → length p ≡ level → level ≤ last_level → (ds : List ℕ) (low : ℕ) → Rising low ds → AreTries R path level ds ts →
         ((q : K) → (Lacks (digit (path q) level) ds → ⊥) → find R q (entries_of_all ts) ≡ find R q (beginning (word_of path) p m)) → AllHang (word_of path) m p ds ts
     tries_hang no_trees p level long le [] low r h agree = tt
     tries_hang (more_trees t ts) p level long le [] low r h agree = tt
@@ -155,11 +155,11 @@ module _ {K V : Type 0} (R : K → K → Ordering) (path : K → ℕ) (total : I
   found_starts p q found = only_true (starts_with nat_eq (word_of path q) p) (find R q m) (sym (ap is_some (find_beginning (word_of path) m R exact p q)) ∙ found)
 
   -- a branch stands at fewer digits than a word has
-  branch_short : (p : List ℕ) → is_branch (word_of path) m p ≡ true → length p < 7
+  branch_short : (p : List ℕ) → is_branch (word_of path) m p ≡ true → length p < word_digits
   branch_short [] e = omega arith
-  branch_short (x ∷ p) e = elim (leb_tells 7 (length (x ∷ p))) as (λ _. length (x ∷ p) < 7) [ inl h ↦ absurd (two h.1 (two_words_told R total exact path (beginning (word_of path) (x ∷ p) m) e)) | inr h ↦ h.1 ]
+  branch_short (x ∷ p) e = elim (leb_tells word_digits (length (x ∷ p))) as (λ _. length (x ∷ p) < word_digits) [ inl h ↦ absurd (two h.1 (two_words_told R total exact path (beginning (word_of path) (x ∷ p) m) e)) | inr h ↦ h.1 ]
     where
-      two : 7 ≤ length (x ∷ p) → HasTwoWords R path (beginning (word_of path) (x ∷ p) m) → ⊥
+      two : word_digits ≤ length (x ∷ p) → HasTwoWords R path (beginning (word_of path) (x ∷ p) m) → ⊥
       two le (q, (r, (q_in, r_in, ne))) =
           ne (spelled_tells (path q) (path r) (small q) (small r)
           (starts_self (word_of path q) (x ∷ p) (found_starts (x ∷ p) q q_in) le ∙ sym (starts_self (word_of path r) (x ∷ p) (found_starts (x ∷ p) r r_in) le)))
@@ -174,7 +174,7 @@ module _ {K V : Type 0} (R : K → K → Ordering) (path : K → ℕ) (total : I
         ]
     hangs_finds (bucket s es) p f h q = ap (find R q) (sym h.1)
 
-    all_hang_lacking : (ts : Trees K V) (p : List ℕ) → length p < 7 → (ds : List ℕ) → AllHang (word_of path) m p ds ts → count_of ts ≡ length ds → AllFit ts → (q : K) → Lacks (digit (path q) (length p)) ds → find R q (entries_of_all ts) ≡ None
+    all_hang_lacking : (ts : Trees K V) (p : List ℕ) → length p < word_digits → (ds : List ℕ) → AllHang (word_of path) m p ds ts → count_of ts ≡ length ds → AllFit ts → (q : K) → Lacks (digit (path q) (length p)) ds → find R q (entries_of_all ts) ≡ None
     all_hang_lacking no_trees p short ds h e f q l = refl
     all_hang_lacking (more_trees t ts) p short [] h e f q l = absurd (omega arith)
     all_hang_lacking (more_trees t ts) p short (d ∷ ds) h e f q l =
@@ -182,7 +182,7 @@ module _ {K V : Type 0} (R : K → K → Ordering) (path : K → ℕ) (total : I
         ∙ ap (λ o. or_else o (find R q (entries_of_all ts))) (hangs_finds t (p ++ d ∷ []) f.0 h.0 q ∙ other_digit p d q short (λ e. l.0 (sym e)))
         ∙ all_hang_lacking ts p short ds h.1 (omega arith) f.1 q l.1
 
-    all_hang_finds : (ts : Trees K V) (p : List ℕ) → length p < 7 → (ds : List ℕ) (low : ℕ) → Rising low ds → AllHang (word_of path) m p ds ts → count_of ts ≡ length ds → AllFit ts → (q : K) →
+    all_hang_finds : (ts : Trees K V) (p : List ℕ) → length p < word_digits → (ds : List ℕ) (low : ℕ) → Rising low ds → AllHang (word_of path) m p ds ts → count_of ts ≡ length ds → AllFit ts → (q : K) →
         (Lacks (digit (path q) (length p)) ds → ⊥) → find R q (entries_of_all ts) ≡ find R q (beginning (word_of path) p m)
     all_hang_finds no_trees p short [] low r h e f q has = absurd (has tt)
     all_hang_finds no_trees p short (d ∷ ds) low r h e f q has = absurd h
@@ -226,7 +226,7 @@ module _ {K V : Type 0} (R : K → K → Ordering) (path : K → ℕ) (total : I
         let one = one_below p es h.0 h.1 h.2 in
         (omega arith, one.0, one.1, subst (λ xs. T (is_sorted R xs)) h.1 (is_sorted-where_key R (λ k. starts_with nat_eq (word_of path k) p) m sorted))
 
-    hang_tries : (ts : Trees K V) (p : List ℕ) (level : ℕ) → length p ≡ level → length p < 7 → (ds : List ℕ) → count_of ts ≡ length ds → AllFit ts → AllHang (word_of path) m p ds ts → AreTries R path level ds ts
+    hang_tries : (ts : Trees K V) (p : List ℕ) (level : ℕ) → length p ≡ level → length p < word_digits → (ds : List ℕ) → count_of ts ≡ length ds → AllFit ts → AllHang (word_of path) m p ds ts → AreTries R path level ds ts
     hang_tries no_trees p level long short [] e f h = tt
     hang_tries no_trees p level long short (d ∷ ds) e f h = absurd h
     hang_tries (more_trees t ts) p level long short [] e f h = absurd (omega arith)

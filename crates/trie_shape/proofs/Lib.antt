@@ -26,4 +26,3 @@ pub mod Walked
 pub mod Below
 pub mod Unions
 pub mod Descents
-pub mod Bounded

@@ -4,6 +4,7 @@ use Rattle.std.specs.declared.cmp.Ordering.{Ordering}
 use Rattle.std.specs.declared.cmp.Ordering.TheVariants.{Equal}
 use Rattle.std.specs.Cmp.{IsTotalOrder}
 use Rattle.std.specs.FinMap.{find, is_sorted}
+use Rattle.hash_path.specs.Digits.{word_bits}
 use Rattle.trie_shape.specs.Map.{IsMap, value_at}
 use Rattle.trie_shape.specs.Tree.{Tree, entries, IsTrie}
 use Rattle.trie_shape.specs.Shape.{HasShape, plain}
@@ -27,7 +28,7 @@ module _ {K V : Type 0} (R : K → K → Ordering) (path : K → ℕ) (total : I
   pub find_entries : (t : Tree K V) (q : K) → find R q (entries t) ≡ value_at R (map_of R t) q
   find_entries t q = sym (find_listed R total (entries t) q)
 
-  module _ (exact : (x y : K) → R x y ≡ Equal → x ≡ y) (small : (k : K) → path k < 2 ^ 32) where
+  module _ (exact : (x y : K) → R x y ≡ Equal → x ≡ y) (small : (k : K) → path k < 2 ^ word_bits) where
     -- a trie has the shape of its map
     pub trie_is_root : (t : Tree K V) → IsTrie R path 0 t → IsRoot R path t
     trie_is_root t h =

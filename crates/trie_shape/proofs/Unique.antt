@@ -2,6 +2,7 @@
 use Rattle.std.proofs.Common.{◌≡◌, ℕ, zero, suc, ◌+◌, ◌/◌, ◌%◌, ◌^◌, ◌<◌, ◌≤◌, ◌≢◌, ◌==◌, Bool, true, false, cond, List, [], ◌∷◌, ◌++◌, length, refl, sym, ap, ◌∙◌, subst, arith, inl, inr}
 use Rattle.std.proofs.lemmas.Bool.{eq-eqb, eqb-true}
 use Rattle.std.proofs.lemmas.Bool.Decides.{eqb_tells}
+use Rattle.hash_path.specs.Digits.{fan_out}
 use Rattle.trie_shape.specs.Tree.{Tree, branch, bucket, Trees, no_trees, more_trees, entries, entries_of_all, digits_from, digits_of}
 use Rattle.trie_shape.specs.Shape.{no_node, spot_at, spot_below, count_of, Fits, AllFit, HasShape, plain, all_plain, Lacks}
 
@@ -63,11 +64,11 @@ equal x y a b = elim (eqb_tells x y) as (λ _. x ≡ y) [ inl h ↦ h.1 | inr h 
 
 pub rises : (b : ℕ) → Rising 0 (digits_of b)
 unfolding digits_of
-rises b = rising_from 32 0 b
+rises b = rising_from fan_out 0 b
 
-same_bitmap : (b c : ℕ) → b < 2 ^ 32 → c < 2 ^ 32 → digits_of b ≡ digits_of c → b ≡ c
+same_bitmap : (b c : ℕ) → b < 2 ^ fan_out → c < 2 ^ fan_out → digits_of b ≡ digits_of c → b ≡ c
 unfolding digits_of
-same_bitmap b c lt le e = same_bits 32 0 b c lt le e
+same_bitmap b c lt le e = same_bits fan_out 0 b c lt le e
 
 module _ {K V : Type 0} where
   -- where a tree is there is a node

@@ -6,7 +6,7 @@ use Rattle.std.specs.declared.cmp.Ordering.TheVariants.{Equal}
 use Rattle.std.specs.FinMap.{find}
 use Rattle.std.specs.Int.{bit_at}
 use Rattle.std.specs.Int.RustNames.{count_ones}
-use Rattle.hash_path.specs.Digits.{digit}
+use Rattle.hash_path.specs.Digits.{word_digits, digit, fan_out}
 use Rattle.trie_shape.specs.Tree.{Tree, trees, entries, entries_of_all, KeysHaveDigit, IsTrie}
 use Rattle.trie_shape.specs.View.{tree, branch_of}
 use Rattle.trie_shape.specs.declared.node.Node.{Node}
@@ -17,7 +17,7 @@ use Rattle.trie_shape.proofs.Tries.{at_child, no_child, one_child, place_within,
 pub record Turn {K V : Type 0} (R : K → K → Ordering) (path : K → ℕ) (level : ℕ) (k : K) (b : Branch K V) (d : ℕ) : Type 0 where
   pub trie : IsTrie R path level (branch_of 0 b)
   pub here : digit (path k) level ≡ d
-  pub small : d < 32
+  pub small : d < fan_out
 
 -- the child of that digit, at the place i
 pub record Way {K V : Type 0} (R : K → K → Ordering) (path : K → ℕ) (level : ℕ) (k : K) (b : Branch K V) (d i : ℕ) (child : Node K V) : Type 0 where
@@ -32,7 +32,7 @@ pub record Way {K V : Type 0} (R : K → K → Ordering) (path : K → ℕ) (lev
   pub found : find R k (entries (branch_of 0 b)) ≡ find R k (entries (tree child))
   pub counted : b.size ≡ length (entries (branch_of 0 b))
   pub fewer : length (entries (tree child)) ≤ b.size
-  pub above : level < 7
+  pub above : level < word_digits
 
 module _ {K V : Type 0} (R : K → K → Ordering) (path : K → ℕ) where
   fewer_below : (xs : List (Tree K V)) (t : Tree K V) (ys ts : List (Tree K V)) → ts ≡ xs ++ t ∷ ys → length (entries t) ≤ length (entries_of_all (trees ts))
@@ -44,7 +44,7 @@ module _ {K V : Type 0} (R : K → K → Ordering) (path : K → ℕ) where
     length-append (entries t) (entries_of_all (trees ys)),
   )
 
-  pub turn : (level : ℕ) (b : Branch K V) → IsTrie R path level (branch_of 0 b) → {k : K} {w d : ℕ} → w ≡ path k → d ≡ digit w level → d < 32 → Turn R path level k b d
+  pub turn : (level : ℕ) (b : Branch K V) → IsTrie R path level (branch_of 0 b) → {k : K} {w d : ℕ} → w ≡ path k → d ≡ digit w level → d < fan_out → Turn R path level k b d
   turn level b trie e digits small = record { trie = trie; here = ap (λ w. digit w level) (sym e) ∙ sym digits; small = small }
 
 module _ {K V : Type 0} {R : K → K → Ordering} {path : K → ℕ} {level : ℕ} {k : K} {b : Branch K V} {d : ℕ} (t : Turn R path level k b d) where

@@ -6,7 +6,6 @@
 #![tactic(auto)]
 
 mod bitmap;
-mod bound_laws;
 mod branch_in_place;
 mod condition;
 mod contraction;
@@ -22,7 +21,6 @@ mod stamps;
 mod union_laws;
 mod walk_laws;
 
-pub use bound_laws::root_has_bounded_nodes;
 pub use condition::{Always, Condition, IfAbsent, IfEqual, IfPresent};
 pub use laws::{
     bitmap_counts_children, map_determines_root, map_names_nodes, root_has_few_nodes, root_is_map,

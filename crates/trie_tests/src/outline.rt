@@ -1,10 +1,11 @@
 //! What stands where in a trie: read from its nodes, and made from pairs by the rule of the shape.
 
-ghost use Rattle.std.specs.Prelude.{◌≤◌};
+ghost use Rattle.std.specs.Prelude.{◌≤◌, ◌+◌};
+ghost use Rattle.hash_path.specs.Digits.{word_digits, last_level};
 ghost use Rattle.trie_shape.specs.Shape.{Fits};
 ghost use Rattle.trie_shape.specs.View.{tree};
 
-use hash_path::{Path, PathKey};
+use hash_path::{Path, PathKey, WORD_DIGITS};
 use std::alloc::{AllocError, Global};
 use test_keys::ChosenKey;
 use trie_node::{Look, Node, Stamp, bitmap_counts_children, child, look, size, stamp};
@@ -44,12 +45,12 @@ pub fn outline_of(alloc: Global, root: &Node<ChosenKey, u32>) -> Result<Outline,
     Ok(seen)
 }
 
-/// Adds what stands below a node. No trie has a node at a depth above 7.
+/// Adds what stands below a node. No trie has a node at a depth above the number of digits.
 fn walk(node: &Node<ChosenKey, u32>, depth: u32, seen: &mut Outline) -> Result<(), AllocError>
     requires fits { Fits (tree node.now) }
-    requires depth { depth ≤ 8 }
+    requires depth { depth ≤ word_digits + 1 }
 {
-    if depth == 8 {
+    if depth > WORD_DIGITS {
         return Ok(());
     }
     bitmap_counts_children::<ChosenKey, u32>();
@@ -95,10 +96,10 @@ fn add_lines(
     depth: u32,
     lines: &mut Vec<Line>,
 ) -> Result<(), AllocError>
-    requires { depth ≤ 7 }
+    requires { depth ≤ word_digits }
 {
     let size = pairs.len() as u64;
-    if depth == 7 || (depth > 0 && are_of_one_word(pairs)) {
+    if depth == WORD_DIGITS || (depth > 0 && are_of_one_word(pairs)) {
         let bitmap = None;
         lines.push(Line {
             depth,
@@ -132,7 +133,7 @@ fn are_of_one_word(pairs: &[(ChosenKey, u32)]) -> bool {
 
 /// The digits that the words of the pairs have at a depth, as bits.
 fn digits_at(pairs: &[(ChosenKey, u32)], depth: u32) -> u32
-    requires { depth ≤ 6 }
+    requires { depth ≤ last_level }
 {
     let mut bits = 0;
     for (key, _) in pairs {
@@ -148,7 +149,7 @@ fn pairs_below(
     depth: u32,
     digit: u32,
 ) -> Result<Vec<(ChosenKey, u32)>, AllocError>
-    requires { depth ≤ 6 }
+    requires { depth ≤ last_level }
 {
     let mut below = Vec::new(alloc);
     for (key, value) in pairs {

@@ -34,7 +34,7 @@ fn text(alloc: Global, text: &str) -> Result<Arc<ByteText>, NoMemory> {
 }
 
 // A key with this path word.
-fn chosen(path: u32, id: u32) -> ChosenKey {
+fn chosen(path: u64, id: u32) -> ChosenKey {
     ChosenKey { path, id }
 }
 

@@ -18,7 +18,10 @@ use hash_path::PathKey;
 use std::alloc::Global;
 use std::marker::Model;
 use std::sync::Arc;
-use trie_node::{Always, Condition, NoMemory, Node, Stamp, root_is_map, writes_keep_stamps_below};
+use trie_node::{
+    Always, Condition, NoMemory, Node, Stamp, root_has_few_nodes, root_is_map,
+    writes_keep_stamps_below,
+};
 
 /// The most pairs that a map may be limited to.
 pub const MOST_PAIRS: u64 = 16_777_216;
@@ -142,6 +145,7 @@ impl<K: PathKey + Drop, V: Drop> Version<K, V> {
     pub fn own_nodes(&self) -> u64
         ensures { result ≡ own_count self.now.stamp self.now.nodes }
     {
+        root_has_few_nodes::<K, V>();
         generation::own_nodes(&self.root, self.stamp)
     }
 

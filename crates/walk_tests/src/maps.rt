@@ -16,23 +16,23 @@ pub type Map = Version<ChosenKey, i64>;
 pub const MOST_KEYS: u32 = 300;
 
 // Words that part at each level, some of them at several.
-const WORDS: [u32; 16] = [
+const WORDS: [u64; 16] = [
     0,
-    0xc000_0000,
-    0x4000_0000,
-    0xffff_ffff,
-    0x3fff_ffff,
-    0x3eff_ffff,
+    0xc000_0000_0000_0000,
+    0x4000_0000_0000_0000,
+    0xffff_ffff_ffff_ffff,
+    0x3fff_ffff_ffff_ffff,
+    0x3eff_ffff_ffff_ffff,
     1,
     33,
-    0x0010_0001,
-    0x0110_0001,
-    0x0000_8001,
-    0x0000_8002,
-    0x0000_0400,
-    0xe40c_292c,
-    0xe70c_2de5,
-    0xe60c_2c52,
+    0x0010_0000_0000_0001,
+    0x0110_0000_0000_0001,
+    0x0000_8000_0000_0001,
+    0x0000_8000_0000_0002,
+    0x0000_0400_0000_0000,
+    0xaf63_dc4c_8601_ec8c,
+    0xaf63_df4c_8601_f1a5,
+    0xaf63_de4c_8601_eff2,
 ];
 
 /// A map of up to `MOST_KEYS` keys, and its rows in the order of a walk.
@@ -51,7 +51,7 @@ pub fn random_map(alloc: Global, random: &mut Random) -> Result<(Map, Vec<Row>),
 }
 
 // The rows of a map from positions and numbers of keys.
-fn rows_of(alloc: Global, sorted: &BTreeMap<(u64, u32), i64>) -> Result<Vec<Row>, Fail> {
+fn rows_of(alloc: Global, sorted: &BTreeMap<(u128, u32), i64>) -> Result<Vec<Row>, Fail> {
     let mut rows = Vec::new(alloc);
     for (at, value) in sorted.iter() {
         rows.push(Row {

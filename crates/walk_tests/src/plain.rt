@@ -5,27 +5,48 @@ use std::alloc::{AllocError, Global};
 /// A pair by the position of its key, the key's number and its value.
 #[derive(Clone, Copy, Debug, PartialEq, Eq)]
 pub struct Row {
-    pub position: u64,
+    pub position: u128,
     pub id: u32,
     pub value: i64,
 }
 
 /// How many positions share their digits up to each level, from the first level down.
-const WIDTHS: [u64; 7] = [1 << 27, 1 << 22, 1 << 17, 1 << 12, 1 << 7, 1 << 2, 1];
+const WIDTHS: [u128; 13] = [
+    1 << 59,
+    1 << 54,
+    1 << 49,
+    1 << 44,
+    1 << 39,
+    1 << 34,
+    1 << 29,
+    1 << 24,
+    1 << 19,
+    1 << 14,
+    1 << 9,
+    1 << 4,
+    1,
+];
 
-/// The position of a path word: its digits of five bits, the lowest first, and its last two bits.
-pub fn position_of(word: u32) -> u64 {
+/// The position of a path word: its digits of five bits, the lowest first, and its last four bits.
+pub fn position_of(word: u64) -> u128 {
     let mut rest = word;
-    let mut position = 0u64;
-    for _ in 0..6 {
-        position = position.wrapping_mul(32).wrapping_add(u64::from(rest % 32));
+    let mut position = 0u128;
+    for _ in 0..12 {
+        position = position
+            .wrapping_mul(32)
+            .wrapping_add(u128::from(rest % 32));
         rest /= 32;
     }
-    position.wrapping_mul(4).wrapping_add(u64::from(rest))
+    position.wrapping_mul(16).wrapping_add(u128::from(rest))
 }
 
 /// The rows from one position on and below another.
-pub fn rows_between(alloc: Global, rows: &[Row], lo: u64, hi: u64) -> Result<Vec<Row>, AllocError> {
+pub fn rows_between(
+    alloc: Global,
+    rows: &[Row],
+    lo: u128,
+    hi: u128,
+) -> Result<Vec<Row>, AllocError> {
     let mut between = Vec::new(alloc);
     for row in rows {
         if lo <= row.position && row.position < hi {
@@ -37,7 +58,7 @@ pub fn rows_between(alloc: Global, rows: &[Row], lo: u64, hi: u64) -> Result<Vec
 
 /// Where rows are cut: nowhere if they are no more than `grain` or share one position; else at the middle one of the
 /// first digits that differ, after the digits that all share and with zeros behind.
-pub fn cut_point(alloc: Global, rows: &[Row], grain: u64) -> Result<Option<u64>, AllocError> {
+pub fn cut_point(alloc: Global, rows: &[Row], grain: u64) -> Result<Option<u128>, AllocError> {
     if rows.len() as u64 <= grain {
         return Ok(None);
     }
@@ -51,7 +72,7 @@ pub fn cut_point(alloc: Global, rows: &[Row], grain: u64) -> Result<Option<u64>,
 }
 
 /// The multiples of a width that have rows before the next multiple, each once, in rising order.
-fn starts_of(alloc: Global, rows: &[Row], width: u64) -> Result<Vec<u64>, AllocError> {
+fn starts_of(alloc: Global, rows: &[Row], width: u128) -> Result<Vec<u128>, AllocError> {
     let mut starts = Vec::new(alloc);
     let mut last = None;
     for row in rows {
@@ -67,14 +88,14 @@ fn starts_of(alloc: Global, rows: &[Row], width: u64) -> Result<Vec<u64>, AllocE
 
 /// How many nodes a walk looks into between two neighbouring positions that have rows, from the one `before` on to that
 /// of the pairs `here`: those below the digits that both share, down to where no neighbour shares the digits.
-pub fn nodes_between(before: Option<u64>, here: u64, after: Option<u64>) -> u64 {
+pub fn nodes_between(before: Option<u128>, here: u128, after: Option<u128>) -> u64 {
     let above = shared_digits(before, here);
     let deepest = above.max(shared_digits(after, here));
     deepest.saturating_sub(above).saturating_add(1)
 }
 
 /// How many digits a position shares with another, from the first on; none where there is no other.
-fn shared_digits(other: Option<u64>, position: u64) -> u64 {
+fn shared_digits(other: Option<u128>, position: u128) -> u64 {
     let Some(other) = other else {
         return 0;
     };

@@ -44,7 +44,7 @@ fn three_operations_at_once(rt: HostRuntime) {
 }
 
 // A map of keys and values.
-fn map_of(alloc: Global, pairs: [(u32, i64); 2]) -> Result<Version<ChosenKey, i64>, Fail> {
+fn map_of(alloc: Global, pairs: [(u64, i64); 2]) -> Result<Version<ChosenKey, i64>, Fail> {
     let mut map = Version::empty(alloc, 100, Stamp(1))?;
     for (path, value) in pairs {
         let key = Arc::new(alloc, ChosenKey { path, id: 0 })?;
@@ -54,20 +54,21 @@ fn map_of(alloc: Global, pairs: [(u32, i64); 2]) -> Result<Version<ChosenKey, i6
 }
 
 // The value at the path word, or none.
-fn at(map: &Version<ChosenKey, i64>, path: u32) -> Option<i64> {
+fn at(map: &Version<ChosenKey, i64>, path: u64) -> Option<i64> {
     match map.get(&ChosenKey { path, id: 0 }) {
         Some(value) => Some(**value),
         None => None,
     }
 }
 
-// The left value wins where both have a key; 0 and 0xc000_0000 lie at the positions 0 and 3, the others far above.
+// The left value wins where both have a key; 0 and 0xc000_0000_0000_0000 lie at the positions 0 and 12, the others far
+// above.
 #[test]
 fn merged_maps_have_the_pairs_of_both(rt: HostRuntime) -> Result<(), Fail> {
     let alloc = rt.alloc();
-    let low = map_of(alloc, [(0, 1), (0xc000_0000, 2)])?;
-    let mixed = map_of(alloc, [(0xc000_0000, 3), (7, 4)])?;
-    let high = map_of(alloc, [(7, 5), (0xffff_ffff, 6)])?;
+    let low = map_of(alloc, [(0, 1), (0xc000_0000_0000_0000, 2)])?;
+    let mixed = map_of(alloc, [(0xc000_0000_0000_0000, 3), (7, 4)])?;
+    let high = map_of(alloc, [(7, 5), (0xffff_ffff_ffff_ffff, 6)])?;
     for (left, right, count, want) in [
         (&low, &mixed, 3, (Some(1), Some(2), Some(4), None)),
         (&mixed, &low, 3, (Some(1), Some(3), Some(4), None)),
@@ -79,9 +80,9 @@ fn merged_maps_have_the_pairs_of_both(rt: HostRuntime) -> Result<(), Fail> {
         assert_eq!(rt; both.len(), count);
         let found = (
             at(&both, 0),
-            at(&both, 0xc000_0000),
+            at(&both, 0xc000_0000_0000_0000),
             at(&both, 7),
-            at(&both, 0xffff_ffff),
+            at(&both, 0xffff_ffff_ffff_ffff),
         );
         assert_eq!(rt; found, want);
     }

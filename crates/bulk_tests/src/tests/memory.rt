@@ -160,7 +160,10 @@ fn unit_and_one_are_refused_until_there_is_memory(rt: HostRuntime) -> Result<(),
 
 // Two maps that share no key, put together with so many blocks of memory.
 fn merged(alloc: Global, given: usize) -> Result<Option<Map>, Fail> {
-    let (left, right) = (of_one(alloc, 0, 2)?, of_one(alloc, 0xc000_0000, 3)?);
+    let (left, right) = (
+        of_one(alloc, 0, 2)?,
+        of_one(alloc, 0xc000_0000_0000_0000, 3)?,
+    );
     if left.limit() != 100 || right.limit() != 100 || left.len() > 9 || right.len() > 9 {
         return Ok(None);
     }
@@ -173,14 +176,14 @@ fn merged(alloc: Global, given: usize) -> Result<Option<Map>, Fail> {
 }
 
 // A map of one key.
-fn of_one(alloc: Global, path: u32, id: u32) -> Result<Map, Fail> {
+fn of_one(alloc: Global, path: u64, id: u32) -> Result<Map, Fail> {
     let mut map = Version::empty(alloc, 100, Stamp(1))?;
     let key = Arc::new(alloc, chosen(path, id))?;
     map.put(alloc, key, Arc::new(alloc, 7)?)?;
     Ok(map)
 }
 
-// The keys part at the last digit, so the merge makes seven branches.
+// The keys part at the last digit, so the merge makes thirteen branches.
 #[test]
 fn merges_are_refused_until_there_is_memory(rt: HostRuntime) -> Result<(), Fail> {
     let alloc = rt.alloc();

@@ -1,6 +1,6 @@
 //! Clients as threads, and their lines.
 use super::entries::seats_of;
-use super::gates::{Holding, Meeting, Recorder};
+use super::gates::{Ahead, Holding, Meeting, Recorder};
 use super::{assert_is, assert_text, ran};
 use batch_cli::Free;
 use std::test::Fail;
@@ -13,6 +13,19 @@ fn two_clients_run_at_once(rt: HostRuntime) -> Result<(), Fail> {
     assert_is(&rt, gate.is_missed(), false);
     assert_text(&rt, out.as_str(), "1 ok\n2 ok\n");
     assert_is(&rt, journal.len(), 2);
+    Ok(())
+}
+
+// It catches a client that asks behind its line: handle 1 would be open when line 2 has been asked for, and line 3 would
+// find it.
+#[test]
+fn a_line_waits_for_its_gate(rt: HostRuntime) -> Result<(), Fail> {
+    let gate = Ahead::new();
+    let script = b"0 open 1\n1 size 1\n1 size 1\n1 open 2\n";
+    let (out, _) = ran(&rt, script, &gate)?;
+    assert_is(&rt, gate.is_missed(), false);
+    let replies = "1 ok\n2 refused NoHandle\n3 refused NoHandle\n4 ok\n";
+    assert_text(&rt, out.as_str(), replies);
     Ok(())
 }
 

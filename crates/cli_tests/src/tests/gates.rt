@@ -109,6 +109,42 @@ impl LineGate for Holding {
     }
 }
 
+/// Holds line 1 until line 4 has begun, and line 2 until line 1 has.
+#[derive(Drop)]
+pub struct Ahead {
+    first: Sign,
+    fourth: Sign,
+}
+
+impl Ahead {
+    /// No line has begun.
+    pub fn new() -> Ahead {
+        Ahead {
+            first: Sign::new(),
+            fourth: Sign::new(),
+        }
+    }
+
+    /// Whether the turns of a line ran out.
+    pub fn is_missed(&self) -> bool {
+        self.first.is_missed() || self.fourth.is_missed()
+    }
+}
+
+impl LineGate for Ahead {
+    fn before(&self, _client: u32, line: u32) {
+        match line {
+            1 => {
+                self.first.give();
+                self.fourth.wait();
+            }
+            2 => self.first.wait(),
+            4 => self.fourth.give(),
+            _ => {}
+        }
+    }
+}
+
 // What the gate was asked.
 #[derive(Drop)]
 struct Asking {

@@ -1,4 +1,4 @@
-//! The worked steps of one board, by hand: two keys, at the positions 0 and 3, two workers, a count of all pairs, and
+//! The worked steps of one board, by hand: two keys, at the positions 0 and 12, two workers, a count of all pairs, and
 //! pieces of one pair.
 
 use super::assert_is;
@@ -13,10 +13,10 @@ use test_keys::ChosenKey;
 use trie_node::Stamp;
 use versions::{Version, View};
 
-// Two pairs, at the positions 0 and 3.
+// Two pairs, at the positions 0 and 12.
 pub(super) fn two_pairs(alloc: Global) -> Result<View<ChosenKey, u64>, Fail> {
     let mut version = Version::empty(alloc, 100, Stamp(1))?;
-    for (path, value) in [(0, 1), (0xc000_0000, 2)] {
+    for (path, value) in [(0, 1), (0xc000_0000_0000_0000, 2)] {
         let key = Arc::new(alloc, ChosenKey { path, id: 0 })?;
         version.put(alloc, key, Arc::new(alloc, value)?)?;
     }
@@ -40,13 +40,13 @@ fn pieces_are_taken_cut_and_stolen(rt: HostRuntime) -> Result<(), Fail> {
     assert_eq!(rt; board.workers(), 2);
     assert_is(&rt, board.take(0), Progress::Took(0, END));
     assert_eq!(rt; board.workers(), 2);
-    assert_is(&rt, board.split(0, 1), Ok(Progress::Cut(0, 3, END)));
+    assert_is(&rt, board.split(0, 1), Ok(Progress::Cut(0, 12, END)));
     assert_eq!(rt; board.workers(), 2);
     assert_is(&rt, board.split(0, 1), Ok(Progress::Whole));
     assert_eq!(rt; board.workers(), 2);
     assert_is(&rt, board.take(0), Progress::Idle);
     assert_eq!(rt; board.workers(), 2);
-    assert_is(&rt, board.steal(1, 0), Progress::Took(3, END));
+    assert_is(&rt, board.steal(1, 0), Progress::Took(12, END));
     assert_eq!(rt; board.workers(), 2);
     assert_is(&rt, board.steal(1, 0), Progress::Idle);
     assert_is(&rt, board.part(0).is_some(), true);

@@ -1,7 +1,7 @@
 //! Each public call once, as far as the other tests do not make it.
 
-use super::LARGEST;
 use super::boards::two_pairs;
+use super::{LARGEST, assert_is};
 use crate::asks::{Ask, Asked, Within, query_of};
 use crate::maps::END;
 use crate::plans::{Do, Plan, step_of};
@@ -50,12 +50,12 @@ const STEPS: [(Plan, Told); 21] = [
 fn a_copy_of_a_step_is_told_the_same(rt: HostRuntime) -> Result<(), Fail> {
     let alloc = rt.alloc();
     let mut core = Core::new(alloc, LARGEST, 2, 1)?;
-    assert_eq!(rt; core.workers(), 2);
+    assert_is(&rt, core.workers(), 2);
     for (plan, told) in STEPS {
         let step = step_of(alloc, plan)?;
         let copy = step.try_clone()?;
         drop(step);
-        assert_eq!(rt; told_of(&core.step(alloc, copy)?), told);
+        assert_is(&rt, told_of(&core.step(alloc, copy)?), told);
     }
     Ok(())
 }
@@ -68,11 +68,11 @@ fn a_move_names_workers(rt: HostRuntime) {
         Move::Steal(1, 2),
         Move::Split(2),
     ] {
-        assert!(rt; chosen.names_other(2));
-        assert!(rt; !chosen.names_other(3));
+        assert_is(&rt, chosen.names_other(2), true);
+        assert_is(&rt, chosen.names_other(3), false);
     }
-    assert!(rt; Move::Work(2).names_other(2));
-    assert!(rt; !Move::Work(2).names_other(3));
+    assert_is(&rt, Move::Work(2).names_other(2), true);
+    assert_is(&rt, Move::Work(2).names_other(3), false);
 }
 
 #[test]
@@ -80,7 +80,7 @@ fn what_waits_is_not_collected(rt: HostRuntime) -> Result<(), Fail> {
     let alloc = rt.alloc();
     let query = query_of(Ask::Count(Within::ALL));
     let board = first_board(alloc, &query, 1, two_pairs(alloc)?)?;
-    assert!(rt; collected(alloc, &query, &board)?.is_none());
+    assert_is(&rt, collected(alloc, &query, &board)?.is_none(), true);
     Ok(())
 }
 
@@ -92,14 +92,12 @@ fn all_that_was_worked_is_collected(rt: HostRuntime) -> Result<(), Fail> {
     law_of_jobs::<ChosenKey, u64, Asked>(&query);
     assert_eq!(rt; board.workers(), 1);
     let took = make_move(alloc, &query, &mut board, 1, Move::Take(0))?;
-    assert_eq!(rt; took, Progress::Took(0, END));
+    assert_is(&rt, took, Progress::Took(0, END));
     assert_eq!(rt; board.workers(), 1);
     let worked = make_move(alloc, &query, &mut board, 1, Move::Work(0))?;
-    assert_eq!(rt; worked, Progress::Worked(0, END, 2, false));
-    match collected(alloc, &query, &board)? {
-        Some(part) => assert_eq!(rt; part_told(&part), Told::Count(2)),
-        None => assert!(rt; false, "all is worked"),
-    }
+    assert_is(&rt, worked, Progress::Worked(0, END, 2, false));
+    let part = collected(alloc, &query, &board)?;
+    assert_is(&rt, part.as_ref().map(part_told), Some(Told::Count(2)));
     Ok(())
 }
 

@@ -1,11 +1,11 @@
 //! Steps whose requests for memory are refused: the first, then the second, and so on.
 
-use super::LARGEST;
 use super::rows::{Row, assert_steps, finished};
+use super::{LARGEST, assert_is};
 use crate::asks::{Ask, Within};
 use crate::maps;
 use crate::plans::{Do, Plan, TestCore, step_of, steps_of};
-use crate::told::{Told, has_rows, part_told, rows_of_view, told_of};
+use crate::told::{Told, has_rows, part_shown, rows_of_view, told_of};
 use core_steps::{Core, Move, Outcome, Step};
 use std::alloc::{AllocError, Global};
 use std::process::Abort;
@@ -58,12 +58,12 @@ fn is_at(alloc: Global, core: &mut TestCore, handle: u32, rows: &[maps::Row]) ->
     }
 }
 
-// What the parts of job 0 tell.
-fn parts_of(core: &TestCore) -> (Option<Told>, Option<Told>) {
-    (
-        core.part(0, 0).map(part_told),
-        core.part(0, 1).map(part_told),
-    )
+// What the parts of job 0 tell, and the pairs that they have found.
+fn parts_of(core: &TestCore) -> [Option<(Told, Option<maps::Row>)>; 2] {
+    [
+        core.part(0, 0).map(part_shown),
+        core.part(0, 1).map(part_shown),
+    ]
 }
 
 // Makes the step with no memory, with one block, and so on until it is told something: with how many blocks, and what.
@@ -102,14 +102,12 @@ fn needed(
 ) -> Result<usize, Fail> {
     match first_told(alloc, core, row.0, first_is_last)? {
         Some((given, told)) => {
-            assert_eq!(rt; told, row.1);
+            assert_is(rt, told, row.1);
             Ok(given)
         }
         None => {
-            assert!(rt;
-                false,
-                "a refusal of {row:?} changes something, or it is refused with memory to spare"
-            );
+            // a refusal changes something, or it is refused with memory to spare
+            assert_is(rt, (row, false), (row, true));
             Ok(0)
         }
     }
@@ -134,11 +132,7 @@ fn assert_refused(
     let mut core = Core::new(alloc, LARGEST, 2, 1)?;
     for row in rows {
         let given = needed(rt, alloc, &mut core, *row, first_is_last)?;
-        assert_eq!(rt;
-            given > 0,
-            asks_for_memory(*row),
-            "{row:?} needs {given} blocks"
-        );
+        assert_is(rt, (*row, given > 0), (*row, asks_for_memory(*row)));
     }
     Ok(())
 }
@@ -199,7 +193,7 @@ fn assert_goes_on(
     let mut number = 0usize;
     for row in rows {
         match told.get(number) {
-            Some(told) => assert_eq!(rt; *told, row.1),
+            Some(told) => assert_is(rt, *told, row.1),
             None => assert_steps(rt, alloc, core, &[*row])?,
         }
         number = number.saturating_add(1);
@@ -216,10 +210,10 @@ fn a_run_is_cut_short_and_goes_on(rt: HostRuntime) -> Result<(), Fail> {
         let given = 3 * number;
         let mut core = Core::new(alloc, LARGEST, 2, 1)?;
         let told = run_with(alloc, &mut core, &rows, given)?;
-        assert!(rt; given > 0 || told.is_empty());
+        assert_is(&rt, given > 0 || told.is_empty(), true);
         assert_goes_on(&rt, alloc, &mut core, &rows, &told)?;
         longest = told.len();
     }
-    assert_eq!(rt; longest, rows.len());
+    assert_is(&rt, longest, rows.len());
     Ok(())
 }

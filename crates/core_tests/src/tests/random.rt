@@ -1,11 +1,12 @@
 //! Many random lists of steps of clients and workers, each step of the core beside that of a plain program.
 
 use super::kinds::{KINDS, kind_of};
+use super::{assert_is, assert_run};
 use crate::choices::{FIRST_PAIRS, chooser_of};
 use crate::desks::Job;
 use crate::machine::{Machine, answer};
 use crate::maps::Row;
-use crate::plans::{Plan, TestCore, step_of, steps_of};
+use crate::plans::{Plan, TestCore, step_of};
 use crate::told::{
     TestOutcome, TestPart, Told, found_row, part_told, rows_of_map, rows_of_view, told_of,
 };
@@ -57,7 +58,7 @@ fn assert_shows(
 ) -> Result<(), Fail> {
     match outcome {
         Outcome::View(view) => {
-            assert_eq!(rt; rows_of_view(alloc, view)?.as_slice(), rows);
+            assert_is(rt, rows_of_view(alloc, view)?.as_slice(), rows);
         }
         Outcome::Answer(Answer::Found(found)) => assert_found(rt, found_row(found), rows),
         _ => (),
@@ -68,7 +69,7 @@ fn assert_shows(
 // A row that is found is one of these.
 fn assert_found(rt: &impl Abort, found: Option<Row>, rows: &[Row]) {
     if let Some(row) = found {
-        assert!(rt; rows.contains(&row));
+        assert_is(rt, rows.contains(&row), true);
     }
 }
 
@@ -82,11 +83,11 @@ fn assert_part(
 ) -> Result<(), Fail> {
     let rows = job.worked_rows(alloc, worker)?;
     let chosen = job.ask.chosen(alloc, &rows)?;
-    assert_eq!(rt; part_told(part), answer(job.ask, &chosen, rows.len()));
+    assert_is(rt, part_told(part), answer(job.ask, &chosen, rows.len()));
     match part {
         Part::Found(found) => assert_found(rt, found_row(found), &chosen),
         Part::Made(map) => {
-            assert_eq!(rt; rows_of_map(alloc, map)?.as_slice(), chosen.as_slice());
+            assert_is(rt, rows_of_map(alloc, map)?.as_slice(), chosen.as_slice());
         }
         _ => (),
     }
@@ -100,7 +101,7 @@ impl Twins {
         let step = step_of(alloc, plan)?;
         let outcome = self.core.step(alloc, step)?;
         let told = told_of(&outcome);
-        assert_eq!(rt; told, expected.told);
+        assert_is(rt, told, expected.told);
         assert_shows(rt, alloc, &outcome, &expected.rows)?;
         self.plans.push(plan)?;
         self.told.push(told)?;
@@ -114,11 +115,11 @@ impl Twins {
             let part = self.core.part(number, worker);
             match (job, part) {
                 (Some(job), Some(part)) => {
-                    assert!(rt; worker < self.machine.workers);
+                    assert_is(rt, worker < self.machine.workers, true);
                     assert_part(rt, alloc, part, job, worker)?;
                 }
-                (Some(_), None) => assert!(rt; worker >= self.machine.workers),
-                (None, part) => assert!(rt; part.is_none()),
+                (Some(_), None) => assert_is(rt, worker >= self.machine.workers, true),
+                (None, part) => assert_is(rt, part.is_none(), true),
             }
         }
         Ok(())
@@ -163,7 +164,7 @@ impl Twins {
             }
         }
         let told = self.make(rt, alloc, Plan::Finish(number))?;
-        assert_ne!(rt; told, Told::Unfinished);
+        assert_is(rt, told == Told::Unfinished, false);
         Ok(())
     }
 
@@ -182,17 +183,7 @@ impl Twins {
     // A new core is told the same of all steps as one list.
     fn assert_run(&self, rt: &impl Abort, alloc: Global) -> Result<(), Fail> {
         let mut core = core_like(rt, alloc, &self.machine)?;
-        let steps = steps_of(alloc, &self.plans)?;
-        match core.run(alloc, steps.as_slice()) {
-            Ok(trace) => {
-                assert_eq!(rt; trace.outcomes.len(), self.told.len());
-                for (outcome, told) in trace.outcomes.iter().zip(&self.told) {
-                    assert_eq!(rt; told_of(outcome), *told);
-                }
-            }
-            Err(_) => assert!(rt; false, "there is memory"),
-        }
-        Ok(())
+        assert_run(rt, alloc, &mut core, &self.plans, &self.told)
     }
 }
 
@@ -247,10 +238,7 @@ fn assert_lists(rt: &impl Abort, alloc: Global, first: u32) -> Result<(), Fail> 
         twins.assert_run(rt, alloc)?;
         count_kinds(&mut met, &twins.told);
     }
-    assert!(rt;
-        !met.contains(&0),
-        "not each kind of outcome is met: {met:?}"
-    );
+    assert_is(rt, met.contains(&0), false);
     Ok(())
 }
 

@@ -2,7 +2,7 @@
 
 use super::memory::{MOST_GIVEN, give, spare};
 use super::rows::assert_steps;
-use super::{LARGEST, take_step};
+use super::{LARGEST, assert_is, take_step};
 use crate::asks::{Ask, Within};
 use crate::plans::{Do, Plan, TestCore, step_of};
 use crate::told::{Told, told_of};
@@ -19,12 +19,12 @@ const COUNT: Ask = Ask::Count(Within::ALL);
 // The number of a map that is made is reserved.
 const MAKES_2: Ask = Ask::Filter(Within::ALL, 2);
 
-// Whether the step is told the refusal with no memory, with one block, and so on.
+// Whether the step is told this with no memory, with one block, and so on.
 fn is_always_told(
     alloc: Global,
     core: &mut TestCore,
     plan: Plan,
-    refusal: Refusal,
+    want: Told,
 ) -> Result<bool, Fail> {
     let step = step_of(alloc, plan)?;
     let mut blocks = spare(alloc, true)?;
@@ -34,7 +34,7 @@ fn is_always_told(
             Ok(outcome) => told_of(&outcome),
             Err(_) => return Ok(false),
         };
-        if told != Told::Refused(refusal) {
+        if told != want {
             return Ok(false);
         }
         give(&mut blocks, 1);
@@ -50,10 +50,8 @@ fn assert_told(
     rows: &[(Plan, Refusal)],
 ) -> Result<(), Fail> {
     for (plan, refusal) in rows {
-        assert!(rt;
-            is_always_told(alloc, core, *plan, *refusal)?,
-            "{plan:?} is not told {refusal:?}"
-        );
+        let is_told = is_always_told(alloc, core, *plan, Told::Refused(*refusal))?;
+        assert_is(rt, (*plan, is_told), (*plan, true));
     }
     Ok(())
 }
@@ -73,9 +71,10 @@ fn a_freeze_is_refused_whatever_the_memory(rt: HostRuntime) -> Result<(), Fail> 
     let alloc = rt.alloc();
     let mut core = Core::new(alloc, LARGEST, 2, 1)?;
     begin(&rt, alloc, &mut core)?;
-    assert_eq!(rt;
+    assert_is(
+        &rt,
         take_step(alloc, &mut core, Plan::Freeze(1, MAKES_2))?,
-        Told::Job(0)
+        Told::Job(0),
     );
     let rows = [
         (Plan::Freeze(1024, COUNT), Refusal::BadNumber),
@@ -88,9 +87,10 @@ fn a_freeze_is_refused_whatever_the_memory(rt: HostRuntime) -> Result<(), Fail> 
         (Plan::Freeze(1, MAKES_2), Refusal::Taken),
     ];
     assert_told(&rt, alloc, &mut core, &rows)?;
-    assert_eq!(rt;
+    assert_is(
+        &rt,
         take_step(alloc, &mut core, Plan::Freeze(1, COUNT))?,
-        Told::Job(1)
+        Told::Job(1),
     );
     Ok(())
 }
@@ -101,9 +101,10 @@ fn a_65th_job_is_refused_whatever_the_memory(rt: HostRuntime) -> Result<(), Fail
     let mut core = Core::new(alloc, LARGEST, 2, 1)?;
     begin(&rt, alloc, &mut core)?;
     for number in 0..64 {
-        assert_eq!(rt;
+        assert_is(
+            &rt,
             take_step(alloc, &mut core, Plan::Freeze(1, COUNT))?,
-            Told::Job(number)
+            Told::Job(number),
         );
     }
     let rows = [
@@ -139,9 +140,10 @@ fn a_move_is_refused_whatever_the_memory(rt: HostRuntime) -> Result<(), Fail> {
     let alloc = rt.alloc();
     let mut core = Core::new(alloc, LARGEST, 2, 1)?;
     begin(&rt, alloc, &mut core)?;
-    assert_eq!(rt;
+    assert_is(
+        &rt,
         take_step(alloc, &mut core, Plan::Freeze(1, COUNT))?,
-        Told::Job(0)
+        Told::Job(0),
     );
     let rows = [
         (Plan::Turn(1, Move::Take(0)), Refusal::NoJob),
@@ -157,4 +159,19 @@ fn a_move_is_refused_whatever_the_memory(rt: HostRuntime) -> Result<(), Fail> {
         (Plan::Abandon(1), Refusal::NoJob),
     ];
     assert_told(&rt, alloc, &mut core, &rows)
+}
+
+#[test]
+fn a_finish_is_unfinished_whatever_the_memory(rt: HostRuntime) -> Result<(), Fail> {
+    let alloc = rt.alloc();
+    let mut core = Core::new(alloc, LARGEST, 2, 1)?;
+    begin(&rt, alloc, &mut core)?;
+    assert_is(
+        &rt,
+        take_step(alloc, &mut core, Plan::Freeze(1, MAKES_2))?,
+        Told::Job(0),
+    );
+    let is_told = is_always_told(alloc, &mut core, Plan::Finish(0), Told::Unfinished)?;
+    assert_is(&rt, is_told, true);
+    Ok(())
 }

@@ -1,12 +1,13 @@
 //! Worked lists of steps, by hand: each step by step, and once more as one list. The keys P, Q and R have the path
-//! words 0, 0xc0000000 and 1, so that P has position 0 and Q position 3; the keys a, b and c have the words of those
+//! words 0, 0xc000000000000000 and 1, so that P has position 0 and Q position 12; the keys a, b and c have the words of those
 //! texts.
 
-use super::{LARGEST, take_step};
+use super::{LARGEST, assert_is, assert_run, take_step};
 use crate::asks::{Ask, Within};
-use crate::maps::END;
-use crate::plans::{Do, Plan, TestCore, steps_of};
-use crate::told::{Told, part_told, told_of};
+use crate::maps::{self, END};
+use crate::plans::{Do, Plan, TestCore};
+use crate::told::{Told, found_row, part_told};
+use bulk_ops::Part;
 use core_steps::{Core, Move, Progress};
 use std::alloc::{AllocError, Global};
 use std::process::Abort;
@@ -17,20 +18,20 @@ use versions::Refusal;
 /// A step and what it is told.
 pub(super) type Row = (Plan, Told);
 
-const P: u32 = 0;
+const P: u64 = 0;
 
-const Q: u32 = 0xc000_0000;
+const Q: u64 = 0xc000_0000_0000_0000;
 
-const R: u32 = 1;
+const R: u64 = 1;
 
-const A: u32 = 0xe40c_292c;
+const A: u64 = 0xaf63_dc4c_8601_ec8c;
 
-const B: u32 = 0xe70c_2de5;
+const B: u64 = 0xaf63_df4c_8601_f1a5;
 
-const C: u32 = 0xe60c_2c52;
+const C: u64 = 0xaf63_de4c_8601_eff2;
 
 // A new value is put at the key of a path word, on handle 1.
-fn put(path: u32, value: u64) -> Row {
+fn put(path: u64, value: u64) -> Row {
     let key = ChosenKey { path, id: 0 };
     (Plan::On(1, Do::Put(key, value)), Told::Old(None))
 }
@@ -40,20 +41,20 @@ fn turn(chosen: Move, progress: Progress) -> Row {
     (Plan::Turn(0, chosen), Told::Turn(progress))
 }
 
-fn takes(worker: u32, lo: u64, hi: u64) -> Row {
+fn takes(worker: u32, lo: u128, hi: u128) -> Row {
     turn(Move::Take(worker), Progress::Took(lo, hi))
 }
 
-fn steals(worker: u32, from: u32, lo: u64, hi: u64) -> Row {
+fn steals(worker: u32, from: u32, lo: u128, hi: u128) -> Row {
     turn(Move::Steal(worker, from), Progress::Took(lo, hi))
 }
 
-fn cuts(worker: u32, lo: u64, mid: u64, hi: u64) -> Row {
+fn cuts(worker: u32, lo: u128, mid: u128, hi: u128) -> Row {
     turn(Move::Split(worker), Progress::Cut(lo, mid, hi))
 }
 
 // Its piece has one pair.
-fn works(worker: u32, lo: u64, hi: u64, settled: bool) -> Row {
+fn works(worker: u32, lo: u128, hi: u128, settled: bool) -> Row {
     turn(Move::Work(worker), Progress::Worked(lo, hi, 1, settled))
 }
 
@@ -79,17 +80,17 @@ fn begun(ask: Ask) -> [Row; 8] {
         freezes(ask),
         put(R, 3),
         takes(0, 0, END),
-        cuts(0, 0, 3, END),
-        steals(1, 0, 3, END),
+        cuts(0, 0, 12, END),
+        steals(1, 0, 12, END),
     ]
 }
 
 /// Then worker 1 works, worker 0 works, and the job is finished with this answer, and not before.
 pub(super) fn finished(alloc: Global, ask: Ask, told: Told) -> Result<Vec<Row>, AllocError> {
     let mut rows = Vec::from_slice(alloc, &begun(ask))?;
-    rows.push(works(1, 3, END, false))?;
+    rows.push(works(1, 12, END, false))?;
     rows.push(finishes(Told::Unfinished))?;
-    rows.push(works(0, 0, 3, false))?;
+    rows.push(works(0, 0, 12, false))?;
     rows.push(finishes(told))?;
     Ok(rows)
 }
@@ -102,7 +103,7 @@ pub(super) fn assert_steps(
     rows: &[Row],
 ) -> Result<(), Fail> {
     for (plan, told) in rows {
-        assert_eq!(rt; take_step(alloc, core, *plan)?, *told);
+        assert_is(rt, take_step(alloc, core, *plan)?, *told);
     }
     Ok(())
 }
@@ -112,21 +113,51 @@ fn assert_rows(rt: &impl Abort, alloc: Global, rows: &[Row]) -> Result<TestCore,
     let mut core = Core::new(alloc, LARGEST, 2, 1)?;
     assert_steps(rt, alloc, &mut core, rows)?;
     let mut other: TestCore = Core::new(alloc, LARGEST, 2, 1)?;
-    let mut plans = Vec::new(alloc);
+    let (mut plans, mut told) = (Vec::new(alloc), Vec::new(alloc));
     for row in rows {
         plans.push(row.0)?;
+        told.push(row.1)?;
     }
-    let steps = steps_of(alloc, &plans)?;
-    match other.run(alloc, steps.as_slice()) {
-        Ok(trace) => {
-            assert_eq!(rt; trace.outcomes.len(), rows.len());
-            for (outcome, row) in trace.outcomes.iter().zip(rows) {
-                assert_eq!(rt; told_of(outcome), row.1);
-            }
-        }
-        Err(_) => assert!(rt; false, "there is memory"),
-    }
+    assert_run(rt, alloc, &mut other, &plans, &told)?;
     Ok(core)
+}
+
+// The pair that the part of a worker of job 0 has found.
+fn found_by(core: &TestCore, worker: u32) -> Option<maps::Row> {
+    match core.part(0, worker) {
+        Some(Part::Found(found)) => found_row(found),
+        _ => None,
+    }
+}
+
+#[test]
+fn a_found_pair_stays_with_its_worker(rt: HostRuntime) -> Result<(), Fail> {
+    let alloc = rt.alloc();
+    let mut core = assert_rows(&rt, alloc, &begun(Ask::Find(Within::ALL)))?;
+    let found = [works(1, 12, END, true)];
+    assert_steps(&rt, alloc, &mut core, &found)?;
+    let second = Some(maps::Row {
+        place: (12, 0),
+        value: 2,
+    });
+    assert_is(&rt, found_by(&core, 1), second);
+    let others = [
+        turn(Move::Take(1), Progress::Idle),
+        (
+            Plan::Turn(0, Move::Take(2)),
+            Told::Refused(Refusal::NoWorker),
+        ),
+        (Plan::Turn(1, Move::Take(1)), Told::Refused(Refusal::NoJob)),
+        works(0, 0, 12, true),
+    ];
+    assert_steps(&rt, alloc, &mut core, &others)?;
+    assert_is(&rt, found_by(&core, 1), second);
+    let first = Some(maps::Row {
+        place: (0, 0),
+        value: 1,
+    });
+    assert_is(&rt, found_by(&core, 0), first);
+    assert_steps(&rt, alloc, &mut core, &[finishes(Told::Found(true))])
 }
 
 // What the part of a worker of job 0 tells.
@@ -139,22 +170,22 @@ fn a_stolen_piece_is_counted_once(rt: HostRuntime) -> Result<(), Fail> {
     let alloc = rt.alloc();
     let mut core = assert_rows(&rt, alloc, &begun(Ask::Count(Within::ALL)))?;
     let worked = [
-        works(1, 3, END, false),
+        works(1, 12, END, false),
         finishes(Told::Unfinished),
-        works(0, 0, 3, false),
+        works(0, 0, 12, false),
     ];
     assert_steps(&rt, alloc, &mut core, &worked)?;
-    assert_eq!(rt; part_of(&core, 0), Some(Told::Count(1)));
-    assert_eq!(rt; part_of(&core, 1), Some(Told::Count(1)));
-    assert_eq!(rt; part_of(&core, 2), None);
-    assert!(rt; core.part(1, 0).is_none());
+    assert_is(&rt, part_of(&core, 0), Some(Told::Count(1)));
+    assert_is(&rt, part_of(&core, 1), Some(Told::Count(1)));
+    assert_is(&rt, part_of(&core, 2), None);
+    assert_is(&rt, core.part(1, 0).is_none(), true);
     let closed = [
         finishes(Told::Count(2)),
         (Plan::Turn(0, Move::Take(0)), Told::Refused(Refusal::NoJob)),
         (Plan::On(1, Do::Size), Told::Size(3)),
     ];
     assert_steps(&rt, alloc, &mut core, &closed)?;
-    assert_eq!(rt; part_of(&core, 0), None);
+    assert_is(&rt, part_of(&core, 0), None);
     Ok(())
 }
 
@@ -172,7 +203,7 @@ fn a_stolen_piece_is_counted_once_in_one_list(rt: HostRuntime) -> Result<(), Fai
 fn a_settled_part_answers_for_all(rt: HostRuntime) -> Result<(), Fail> {
     let alloc = rt.alloc();
     let mut rows = Vec::from_slice(alloc, &begun(Ask::Exists(Within { least: 2, most: 2 })))?;
-    rows.push(works(1, 3, END, true))?;
+    rows.push(works(1, 12, END, true))?;
     rows.push(finishes(Told::Truth(true)))?;
     assert_rows(&rt, alloc, &rows)?;
     Ok(())
@@ -187,6 +218,8 @@ fn idle_whole_and_no_worker(rt: HostRuntime) -> Result<(), Fail> {
     rows.push((Plan::Turn(0, other), Told::Refused(Refusal::NoWorker)))?;
     rows.push((Plan::Turn(1, other), Told::Refused(Refusal::NoJob)))?;
     rows.push(turn(Move::Split(0), Progress::Whole))?;
+    rows.push(works(1, 12, END, false))?;
+    rows.push(turn(Move::Take(1), Progress::Idle))?;
     rows.push((Plan::Abandon(0), Told::Abandoned))?;
     rows.push(finishes(Told::Refused(Refusal::NoJob)))?;
     assert_rows(&rt, alloc, &rows)?;
@@ -194,9 +227,9 @@ fn idle_whole_and_no_worker(rt: HostRuntime) -> Result<(), Fail> {
 }
 
 // The cut points of the three keys.
-const FIRST: u64 = 1_610_612_736;
+const FIRST: u128 = 6_917_529_027_641_081_856;
 
-const SECOND: u64 = 2_415_919_104;
+const SECOND: u128 = 10_376_293_541_461_622_784;
 
 #[test]
 fn three_keys_in_three_pieces(rt: HostRuntime) -> Result<(), Fail> {

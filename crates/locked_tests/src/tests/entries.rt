@@ -72,7 +72,7 @@ pub fn assert_filed(
 }
 
 /// The value of the key on the handle, where it has one.
-pub fn value_at(closed: &TestClosed, handle: u32, key: u32) -> Option<u64> {
+pub fn value_at(closed: &TestClosed, handle: u32, key: u64) -> Option<u64> {
     match closed.table.places().get(handle as usize)? {
         Some(version) => Some(**version.get(&key_of(key))?),
         None => None,

@@ -57,6 +57,24 @@ fn a_ticket_that_is_dropped_leaves_its_job_open(rt: HostRuntime) -> Result<(), F
     Ok(())
 }
 
+// Whoever has the ticket ends the job: here the seat that did not freeze it.
+#[test]
+fn another_seat_ends_a_job(rt: HostRuntime) -> Result<(), Fail> {
+    let count = Request::Freeze(1, Question::Count(ALL));
+    let steps = [
+        Ask(0, open(1), Outcome::Unit),
+        Ask(0, count, Outcome::Frozen(0, NOTHING)),
+        Ask(0, count, Outcome::Frozen(1, NOTHING)),
+        Ask(1, Request::Finish(0), Outcome::Count(0)),
+        Ask(1, Request::Abandon(1), Outcome::Abandoned),
+    ];
+    let mut closed = assert_steps(&rt, 2, LARGEST, &steps)?;
+    assert_is(&rt, closed.journal.len(), 5);
+    assert_is(&rt, closed.table.abandon(0), Err(Refusal::NoJob));
+    assert_is(&rt, closed.table.abandon(1), Err(Refusal::NoJob));
+    Ok(())
+}
+
 // The target's number is taken while the job is open. The handle that was frozen is dropped and opened again meanwhile.
 #[test]
 fn a_filter_makes_a_map_for_its_target(rt: HostRuntime) -> Result<(), Fail> {

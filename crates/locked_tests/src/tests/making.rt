@@ -109,7 +109,7 @@ pub fn get_or_store<J: Room, R: Wait>(
     map: &TestMap<J>,
     seat: &mut TestSeat<J>,
     handle: u32,
-    key: u32,
+    key: u64,
     value: u64,
 ) -> Result<(bool, Result<u64, Refusal>), Refusal> {
     let mut is_made = false;

@@ -35,7 +35,7 @@ pub const ENTRIES: usize = 32;
 enum Tried {
     Ask(Request),
     // The value of the key of handle 1 is got, or this one is stored.
-    GetOrStore(u32, u64),
+    GetOrStore(u64, u64),
 }
 
 // One seat makes requests, and then tries one more until memory is not wanting.
@@ -223,7 +223,7 @@ fn get_or_store<J: Room, R: Wait>(
     alloc: Global,
     map: &TestMap<J>,
     seat: &mut TestSeat<J>,
-    key: u32,
+    key: u64,
     value: u64,
 ) -> Result<u32, Refusal> {
     let key = shared_key(alloc, key)?;

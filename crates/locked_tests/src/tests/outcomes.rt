@@ -32,7 +32,7 @@ pub enum Outcome {
     Frozen(u64, Seen),
     Count(u64),
     Truth(bool),
-    Found(Option<(u32, u64)>),
+    Found(Option<(u64, u64)>),
     Made(u64),
     Total(i128),
     Abandoned,

@@ -33,7 +33,7 @@ impl Draws {
         self.0.next(below)
     }
 
-    fn key(&mut self) -> u32 {
+    fn key(&mut self) -> u64 {
         KEYS.get(self.next(4) as usize).copied().unwrap_or(0)
     }
 
@@ -207,7 +207,7 @@ impl Player {
 fn exchanges_of_get(
     alloc: Global,
     handle: u32,
-    key: u32,
+    key: u64,
     made: u64,
     got: (bool, Result<u64, Refusal>),
 ) -> Result<Vec<Exchange>, Refusal> {

@@ -9,13 +9,13 @@ use test_keys::ChosenKey;
 /// What is done on one map, at the key of a path word where there is one.
 #[derive(Clone, Copy, Debug, PartialEq, Eq)]
 pub enum Do {
-    Get(u32),
-    Put(u32, u64),
-    PutIfAbsent(u32, u64),
-    Replace(u32, u64),
-    ReplaceIf(u32, u64, u64),
-    Remove(u32),
-    RemoveIf(u32, u64),
+    Get(u64),
+    Put(u64, u64),
+    PutIfAbsent(u64, u64),
+    Replace(u64, u64),
+    ReplaceIf(u64, u64, u64),
+    Remove(u64),
+    RemoveIf(u64, u64),
     Size,
     Clear,
 }
@@ -60,22 +60,22 @@ pub fn on(handle: u32, what: Do) -> Request {
 }
 
 /// Maps the key to the value on handle 1.
-pub fn put(key: u32, value: u64) -> Request {
+pub fn put(key: u64, value: u64) -> Request {
     on(1, Do::Put(key, value))
 }
 
 /// Asks for the value of the key on handle 1.
-pub fn get(key: u32) -> Request {
+pub fn get(key: u64) -> Request {
     on(1, Do::Get(key))
 }
 
 /// The key of a path word.
-pub fn key_of(path: u32) -> ChosenKey {
+pub fn key_of(path: u64) -> ChosenKey {
     ChosenKey { path, id: 0 }
 }
 
 /// The same, as calls take it.
-pub fn shared_key(alloc: Global, path: u32) -> Result<Arc<ChosenKey>, AllocError> {
+pub fn shared_key(alloc: Global, path: u64) -> Result<Arc<ChosenKey>, AllocError> {
     Ok(Arc::new(alloc, key_of(path))?)
 }
 

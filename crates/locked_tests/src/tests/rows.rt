@@ -6,10 +6,10 @@ use super::requests::Do;
 use std::alloc::{AllocError, Global};
 
 /// A key's path word and its value.
-pub type Row = (u32, u64);
+pub type Row = (u64, u64);
 
 /// The value of the key in the rows.
-pub fn value_of(rows: &[Row], key: u32) -> Option<u64> {
+pub fn value_of(rows: &[Row], key: u64) -> Option<u64> {
     for row in rows {
         if row.0 == key {
             return Some(row.1);
@@ -29,7 +29,7 @@ pub fn shown(rows: &[Row]) -> Seen {
 }
 
 // Gives the key the value, or none.
-fn set(rows: &mut Vec<Row>, key: u32, value: Option<u64>) -> Result<(), AllocError> {
+fn set(rows: &mut Vec<Row>, key: u64, value: Option<u64>) -> Result<(), AllocError> {
     rows.retain(|row| row.0 != key);
     if let Some(value) = value {
         rows.push((key, value))?;
@@ -38,7 +38,7 @@ fn set(rows: &mut Vec<Row>, key: u32, value: Option<u64>) -> Result<(), AllocErr
 }
 
 // The key of what is done, where it has one.
-fn key_in(what: Do) -> Option<u32> {
+fn key_in(what: Do) -> Option<u64> {
     match what {
         Do::Get(key) | Do::Remove(key) | Do::RemoveIf(key, _) => Some(key),
         Do::Put(key, _) | Do::PutIfAbsent(key, _) | Do::Replace(key, _) => Some(key),

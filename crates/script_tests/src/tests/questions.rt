@@ -1,7 +1,5 @@
 //! What tests and maps say of pairs.
-use super::{is_read, is_refused};
 use script::{Key, Mapping, Test};
-use std::process::Abort;
 use std::test::Fail;
 
 #[test]
@@ -65,94 +63,4 @@ fn each_map_has_its_new_value(rt: HostRuntime) {
     assert_eq!(rt; Mapping::Add(i64::MIN).new_value(b"a", i64::MIN), 0);
     assert_eq!(rt; Mapping::KeyLength.new_value(&[b'k'; 64], 5), 64);
     assert_eq!(rt; Mapping::KeyLength.new_value(b"abc", -1), 3);
-}
-
-// Whether a line with this field is read, or refused with this fault.
-fn is_said(
-    rt: &(impl Abort + AllocGlobal),
-    before: &[u8],
-    field: &[u8],
-    after: &[u8],
-    fault: Option<&str>,
-) -> Result<(), Fail> {
-    let mut line = Vec::new(rt.alloc());
-    line.extend_from_slice(before)?;
-    line.extend_from_slice(field)?;
-    line.extend_from_slice(after)?;
-    match fault {
-        Some(fault) => is_refused(rt, line.as_slice(), fault),
-        None => is_read(rt, line.as_slice(), 1),
-    }
-}
-
-#[test]
-fn tests_have_one_spelling(rt: HostRuntime) -> Result<(), Fail> {
-    for field in [
-        b"all".as_slice(),
-        b"even",
-        b"odd",
-        b"lt:-9223372036854775808",
-        b"ge:9223372036854775807",
-        b"eq:0",
-        b"prefix:prefix:a=b",
-        b"prefix:aaaaaaaaaaaaaaaaaaaaaaaaaaaaaaaaaaaaaaaaaaaaaaaaaaaaaaaaaaaaaaaa",
-    ] {
-        is_said(&rt, b"0 count 1 ", field, b"", None)?;
-    }
-    for field in [
-        b"All".as_slice(),
-        b"all:",
-        b"evens",
-        b"gt:1",
-        b"lt",
-        b"lt:",
-        b"lt:x",
-        b"lt:01",
-        b"lt:-0",
-        b"lt:+1",
-        b"lt:-9223372036854775809",
-        b"ge:9223372036854775808",
-        b"prefix",
-        b"prefix:",
-        b"prefix:aaaaaaaaaaaaaaaaaaaaaaaaaaaaaaaaaaaaaaaaaaaaaaaaaaaaaaaaaaaaaaaaa",
-    ] {
-        is_said(&rt, b"0 count 1 ", field, b"", Some("line 1: bad test"))?;
-    }
-    let two = b"prefix:a b";
-    is_said(&rt, b"0 count 1 ", two, b"", Some("line 1: extra field"))?;
-    is_said(&rt, b"0 count 1", b"", b"", Some("line 1: missing field"))
-}
-
-#[test]
-fn maps_and_folds_have_one_spelling(rt: HostRuntime) -> Result<(), Fail> {
-    for field in [
-        b"set:9223372036854775807".as_slice(),
-        b"add:-9223372036854775808",
-        b"keylen",
-    ] {
-        is_said(&rt, b"0 mapvalues 1 ", field, b" 2", None)?;
-    }
-    for field in [
-        b"set".as_slice(),
-        b"set:",
-        b"add:9223372036854775808",
-        b"add:-0",
-        b"keylen:",
-        b"twice",
-    ] {
-        is_said(
-            &rt,
-            b"0 mapvalues 1 ",
-            field,
-            b" 2",
-            Some("line 1: bad map"),
-        )?;
-    }
-    for field in [b"sum".as_slice(), b"least", b"greatest"] {
-        is_said(&rt, b"0 fold 1 ", field, b"", None)?;
-    }
-    for field in [b"product".as_slice(), b"Sum", b"sum:"] {
-        is_said(&rt, b"0 fold 1 ", field, b"", Some("line 1: bad fold"))?;
-    }
-    is_said(&rt, b"0 fold 1", b"", b"", Some("line 1: missing field"))
 }

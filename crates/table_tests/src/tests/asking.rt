@@ -80,7 +80,7 @@ type Told = Answer<ChosenKey, i64, ThreeItems>;
 pub(super) enum Shown {
     Count(u64),
     Truth(bool),
-    Found(Option<(u32, i64)>),
+    Found(Option<(u64, i64)>),
     Made(u64),
     Item(ThreeItems),
 }

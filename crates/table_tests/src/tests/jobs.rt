@@ -189,6 +189,31 @@ fn a_job_keeps_the_map_of_its_freeze(rt: HostRuntime) -> Result<(), Fail> {
     Ok(())
 }
 
+// Which values the open job 0 counts, from the first to the second, and how many pairs its map has.
+fn counted(table: &Asking) -> Option<(i64, i64, u64)> {
+    match table.open_job(0) {
+        Some((Asked::Count(test), view)) => {
+            let Within(least, most) = test.closure();
+            Some((*least, *most, view.len()))
+        }
+        _ => None,
+    }
+}
+
+#[test]
+fn an_open_job_shows_its_query_and_its_map(rt: HostRuntime) -> Result<(), Fail> {
+    let alloc = rt.alloc();
+    let mut table = with_values(alloc, &[4, 5])?;
+    assert_is(&rt, counted(&table), None);
+    let query = count_of(alloc, 4)?;
+    assert_is(&rt, opened(&mut table, 1, &query), Ok((0, 2)));
+    assert_is(&rt, put(alloc, &mut table, 1, 99, 6), none());
+    assert_is(&rt, counted(&table), Some((4, 4, 2)));
+    assert_is(&rt, abandon(&mut table, 0), Ok(()));
+    assert_is(&rt, counted(&table), None);
+    Ok(())
+}
+
 #[test]
 fn an_abandoned_job_frees_its_target(rt: HostRuntime) -> Result<(), Fail> {
     let alloc = rt.alloc();

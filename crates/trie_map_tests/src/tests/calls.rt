@@ -1,10 +1,11 @@
 //! Calls by one thread.
-use super::{Map, Seen, assert_is, key, plain};
+ghost use Rattle.trie_map.specs.Queries.{IsReady};
+
+use super::{Map, Seen, assert_is, empty, key, plain, put, snapshot_of, view_of};
 use combiner::Sum;
 use std::alloc::Global;
 use std::process::Abort;
 use std::sync::Wait;
-use std::test::Fail;
 use test_keys::ChosenKey;
 use trie_map::{Answer, ByteText, NoMemory, PairFn, Query, Refusal, Stored, TrieMap};
 
@@ -58,8 +59,8 @@ fn at<R: Wait>(rt: &R, map: &Map, key: ChosenKey) -> Result<Option<u64>, NoMemor
 }
 
 #[test]
-fn writes_of_one_key(rt: HostRuntime) -> Result<(), Fail> {
-    let map: Map = TrieMap::new(&rt)?;
+fn writes_of_one_key(rt: HostRuntime) {
+    let map = empty(&rt);
     let answers = [None, None, Some(5), Some(6), Some(6), Some(8)];
     assert_is(&rt, written(&rt, &map), Ok(answers));
     assert_is(&rt, exchanged(&rt, &map), Ok([false, true, true]));
@@ -68,7 +69,6 @@ fn writes_of_one_key(rt: HostRuntime) -> Result<(), Fail> {
     let answers = [None, None, Some(2), None];
     assert_is(&rt, written_anew(&rt, &map), Ok(answers));
     assert!(rt; map.is_empty(&rt));
-    Ok(())
 }
 
 // Puts two keys of each first digit, with the values 1 and 2.
@@ -97,15 +97,14 @@ fn assert_kept<R: Abort + Wait>(rt: &R, map: &Map, view: &Seen, snapshot: &Map) 
 }
 
 #[test]
-fn keys_of_every_first_digit(rt: HostRuntime) -> Result<(), Fail> {
-    let map: Map = TrieMap::new(&rt)?;
-    fill(&rt, rt.alloc(), &map)?;
-    let view = map.view(&rt)?;
-    let snapshot = map.snapshot(&rt)?;
+fn keys_of_every_first_digit(rt: HostRuntime) {
+    let map = empty(&rt);
+    assert_is(&rt, fill(&rt, rt.alloc(), &map), Ok(()));
+    let view = view_of(&rt, &map);
+    let snapshot = snapshot_of(&rt, &map);
     assert_is(&rt, map.len(&rt), 64);
-    map.clear(&rt)?;
+    assert_is(&rt, map.clear(&rt), Ok(()));
     assert_kept(&rt, &map, &view, &snapshot);
-    Ok(())
 }
 
 // What the map has at the first key of two stripes.
@@ -124,17 +123,16 @@ fn write_apart<R: Wait>(rt: &R, map: &Map, snapshot: &Map, again: &Map) -> Resul
 }
 
 #[test]
-fn a_snapshot_and_its_map_go_separate_ways(rt: HostRuntime) -> Result<(), Fail> {
-    let map: Map = TrieMap::new(&rt)?;
-    map.put(&rt, key(0, 0), 1)?;
-    map.put(&rt, key(31, 0), 2)?;
-    let snapshot = map.snapshot(&rt)?;
-    let again = snapshot.snapshot(&rt)?;
-    write_apart(&rt, &map, &snapshot, &again)?;
+fn a_snapshot_and_its_map_go_separate_ways(rt: HostRuntime) {
+    let map = empty(&rt);
+    put(&rt, &map, key(0, 0), 1);
+    put(&rt, &map, key(31, 0), 2);
+    let snapshot = snapshot_of(&rt, &map);
+    let again = snapshot_of(&rt, &snapshot);
+    assert_is(&rt, write_apart(&rt, &map, &snapshot, &again), Ok(()));
     assert_is(&rt, at_two(&rt, &map), Ok((Some(10), Some(2))));
     assert_is(&rt, at_two(&rt, &snapshot), Ok((Some(1), Some(20))));
     assert_is(&rt, at_two(&rt, &again), Ok((None, Some(2))));
-    Ok(())
 }
 
 // Writes after a view was taken.
@@ -154,67 +152,70 @@ fn walked_sum(view: &Seen) -> Result<u64, NoMemory> {
 }
 
 #[test]
-fn a_view_stays_as_it_was(rt: HostRuntime) -> Result<(), Fail> {
-    let map: Map = TrieMap::new(&rt)?;
-    map.put(&rt, key(7, 0), 1)?;
-    let view = map.view(&rt)?;
-    write_after(&rt, &map)?;
+fn a_view_stays_as_it_was(rt: HostRuntime) {
+    let map = empty(&rt);
+    put(&rt, &map, key(7, 0), 1);
+    let view = view_of(&rt, &map);
+    assert_is(&rt, write_after(&rt, &map), Ok(()));
     assert_eq!(rt; seen(&view, key(7, 0)), Some(1));
     assert!(rt; !view.contains_key(&key(8, 0)));
-    Ok(())
 }
 
 #[test]
-fn a_clone_of_a_view_has_its_pairs(rt: HostRuntime) -> Result<(), Fail> {
-    let map: Map = TrieMap::new(&rt)?;
-    map.put(&rt, key(7, 0), 1)?;
-    let same = map.view(&rt)?.try_clone()?;
+fn a_clone_of_a_view_has_its_pairs(rt: HostRuntime) {
+    let map = empty(&rt);
+    put(&rt, &map, key(7, 0), 1);
+    assert_is(&rt, map.is_empty(&rt), false);
+    let same = view_of(&rt, &map).try_clone().expect(&rt, "no clone");
     assert_eq!(rt; (same.len(), same.plain().len()), (1, 1));
     assert!(rt; !same.is_empty());
-    Ok(())
 }
 
 #[test]
-fn a_view_shows_the_pairs_of_its_moment(rt: HostRuntime) -> Result<(), Fail> {
-    let map: Map = TrieMap::new(&rt)?;
-    let before = map.view(&rt)?;
-    write_after(&rt, &map)?;
-    let sum = walked_sum(&map.view(&rt)?)?;
-    assert_eq!(rt; sum, 5);
+fn a_view_shows_the_pairs_of_its_moment(rt: HostRuntime) {
+    let map = empty(&rt);
+    let before = view_of(&rt, &map);
+    assert_is(&rt, write_after(&rt, &map), Ok(()));
+    assert_is(&rt, walked_sum(&view_of(&rt, &map)), Ok(5));
     assert!(rt; before.is_empty());
-    Ok(())
 }
 
-#[test]
-fn the_closure_runs_where_the_key_is_absent_alone(rt: HostRuntime) -> Result<(), Fail> {
-    let map: TrieMap<ByteText, u64> = TrieMap::new(&rt)?;
+// The value of a text, which is made where it is absent, and how often the closure ran that makes it.
+fn value_or<R: AllocGlobal + Wait>(
+    rt: &R,
+    map: &TrieMap<ByteText, u64>,
+    value: u64,
+) -> Result<(u64, u32), Refusal> {
     let mut runs = 0u32;
-    let made = map.get_or_else_update(&rt, ByteText::from_text(rt.alloc(), "a")?, || {
+    let text = ByteText::from_text(rt.alloc(), "a")?;
+    let found = map.get_or_else_update(rt, text, || {
         runs = runs.wrapping_add(1);
-        4
+        value
     })?;
-    assert_eq!(rt; (*made, runs), (4, 1));
-    let mut more = 0u32;
-    let found = map.get_or_else_update(&rt, ByteText::from_text(rt.alloc(), "a")?, || {
-        more = more.wrapping_add(1);
-        6
-    })?;
-    assert_eq!(rt; (*found, more), (4, 0));
-    Ok(())
+    Ok((*found, runs))
 }
 
-// A closure may use the map that it makes a value for: no lock is held meanwhile.
 #[test]
-fn the_closure_may_put_the_key(rt: HostRuntime) -> Result<(), Fail> {
-    let map: Map = TrieMap::new(&rt)?;
-    let own = &map;
-    let handle = &rt;
-    let found = map.get_or_else_update(&rt, key(1, 0), || {
-        let _ = own.put(handle, key(1, 0), 7);
+fn the_closure_runs_where_the_key_is_absent_alone(rt: HostRuntime) {
+    let map: TrieMap<ByteText, u64> = TrieMap::new(&rt).expect(&rt, "no map");
+    assert_is(&rt, value_or(&rt, &map, 4), Ok((4, 1)));
+    assert_is(&rt, value_or(&rt, &map, 6), Ok((4, 0)));
+}
+
+// What is answered where the closure puts 7 under the key, and makes 8. It may use the map: no lock is held meanwhile.
+fn put_meanwhile<R: Wait>(rt: &R, map: &Map) -> Result<u64, Refusal> {
+    let found = map.get_or_else_update(rt, key(1, 0), || {
+        let _ = map.put(rt, key(1, 0), 7);
         8
     })?;
-    assert_eq!(rt; *found, 7);
-    Ok(())
+    Ok(*found)
+}
+
+#[test]
+fn the_closure_may_put_the_key(rt: HostRuntime) {
+    let map = empty(&rt);
+    assert_is(&rt, put_meanwhile(&rt, &map), Ok(7));
+    assert_is(&rt, at(&rt, &map, key(1, 0)), Ok(Some(7)));
 }
 
 // Whether the value is even.
@@ -263,15 +264,20 @@ impl PairFn<ChosenKey, u64, i128> for Value {
 
 type Question = Query<ChosenKey, u64, IsEven, Value, Sum, Value>;
 
+// How many values are even.
+fn even_values() -> Question
+    ensures { IsReady result }
+{
+    Query::Count(Stored::new(IsEven))
+}
+
 #[test]
-fn a_question_about_the_whole_map(rt: HostRuntime) -> Result<(), Fail> {
-    let map: Map = TrieMap::new(&rt)?;
+fn a_question_about_the_whole_map(rt: HostRuntime) {
+    let map = empty(&rt);
     for id in 0..10 {
-        map.put(&rt, key(id % 3, id), u64::from(id))?;
+        put(&rt, &map, key(id % 3, id), u64::from(id));
     }
-    let question: Question = Query::Count(Stored::new(IsEven));
-    let (answer, made) = map.query(&rt, &question)?;
+    let (answer, made) = map.query(&rt, &even_values()).expect(&rt, "no answer");
     assert!(rt; matches!(&answer, Answer::Count(5)));
     assert!(rt; made.is_none());
-    Ok(())
 }

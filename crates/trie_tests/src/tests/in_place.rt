@@ -1,163 +1,140 @@
-//! Writes where a root stands: with memory refused, over nodes that others hold, and at the widest
-//! branch and a long bucket.
+//! Writes where a root stands: with memory refused, and over nodes that others hold.
 
-use super::memory::{MOST_GIVEN, ONE, TWO, assert_same, spare_blocks};
-use super::random::{KEYS, WORDS, assert_holds, assert_is_map};
-use super::{Trie, assert_value, branch, key, pairs, put_in, trie_of};
-use crate::held::Held;
-use crate::outline::outline_of;
-use std::alloc::{AllocError, Global};
-use std::collections::BTreeMap;
-use std::process::Abort;
-use std::sync::Arc;
-use std::test::Fail;
-use test_keys::{ChosenKey, Random, take_all};
-use trie_node::{Stamp, size};
+ghost use Rattle.std.specs.Prelude.{◌<◌};
 
-// Keys whose words differ in their last digit alone.
-const P: ChosenKey = ChosenKey { path: 0, id: 0 };
-
-const Q: ChosenKey = ChosenKey {
-    path: 0xc000_0000,
-    id: 0,
+use super::memory::{ONE, P, Q, R, TWO, WAY, assert_same, spare_blocks, take_all_but};
+use super::random::{any_key, assert_holds, assert_is_map, insert};
+use super::{
+    Trie, assert_is, assert_value, copy, key, new, put_in, remove_in, seen, shared_key,
+    shared_value, trie_of,
 };
+use std::alloc::Global;
+use std::collections::BTreeMap;
+use std::panic::Expect;
+use std::process::Abort;
+use test_keys::{ChosenKey, Random, take_all};
+use trie_node::Stamp;
+
+// Puts 4 at the key with every request refused. Whether it is done.
+fn is_put_without_memory(rt: &impl Abort, alloc: Global, trie: &mut Trie, at: ChosenKey) -> bool {
+    let key = shared_key(rt, alloc, at);
+    let value = shared_value(rt, alloc, 4);
+    let _taken = take_all(alloc).expect(rt, "no list");
+    trie.put_in(alloc, key, value, Stamp(2)).is_ok()
+}
+
+// Removes the key with every request refused. Whether it is done.
+fn is_removed_without_memory(
+    rt: &impl Abort,
+    alloc: Global,
+    trie: &mut Trie,
+    at: ChosenKey,
+) -> bool {
+    let _taken = take_all(alloc).expect(rt, "no list");
+    trie.remove_in(alloc, &at, Stamp(2)).is_ok()
+}
 
 // A body that copied a node would ask for memory.
 #[test]
-fn a_sole_holder_replaces_and_removes_without_memory(rt: HostRuntime) -> Result<(), Fail> {
+fn a_sole_holder_replaces_and_removes_without_memory(rt: HostRuntime) {
     let alloc = rt.alloc();
-    let mut trie = trie_of(alloc, &[(P, 1), (Q, 2), (key(1, 0), 3)])?;
-    let at = Arc::new(alloc, P)?;
-    let value = Arc::new(alloc, 4)?;
-    let taken = take_all(alloc)?;
-    let put = trie.put_in(alloc, at, value, Stamp(2));
-    let removed = trie.remove_in(alloc, &Q, Stamp(2));
-    drop(taken);
-    assert!(rt; put.is_ok());
-    assert!(rt; removed.is_ok());
+    let mut trie = trie_of(&rt, alloc, &[(P, 1), (Q, 2), (key(1, 0), 3)]);
+    assert_is(&rt, is_put_without_memory(&rt, alloc, &mut trie, P), true);
+    assert_is(
+        &rt,
+        is_removed_without_memory(&rt, alloc, &mut trie, Q),
+        true,
+    );
     assert_holds(&rt, alloc, &trie, &[(P, 4), (key(1, 0), 3)]);
-    Ok(())
 }
 
 // The same of keys that share a bucket.
 #[test]
-fn a_sole_holder_writes_a_bucket_without_memory(rt: HostRuntime) -> Result<(), Fail> {
+fn a_sole_holder_writes_a_bucket_without_memory(rt: HostRuntime) {
     let alloc = rt.alloc();
-    let mut trie = trie_of(alloc, &[(key(7, 0), 1), (key(7, 1), 2), (key(7, 2), 3)])?;
-    let at = Arc::new(alloc, key(7, 1))?;
-    let value = Arc::new(alloc, 4)?;
-    let taken = take_all(alloc)?;
-    let put = trie.put_in(alloc, at, value, Stamp(2));
-    let removed = trie.remove_in(alloc, &key(7, 0), Stamp(2));
-    drop(taken);
-    assert!(rt; put.is_ok());
-    assert!(rt; removed.is_ok());
-    assert_holds(&rt, alloc, &trie, &[(key(7, 1), 4), (key(7, 2), 3)]);
-    Ok(())
+    let (x, y, z) = (key(7, 0), key(7, 1), key(7, 2));
+    let mut trie = trie_of(&rt, alloc, &[(x, 1), (y, 2), (z, 3)]);
+    assert_is(&rt, is_put_without_memory(&rt, alloc, &mut trie, y), true);
+    assert_is(
+        &rt,
+        is_removed_without_memory(&rt, alloc, &mut trie, x),
+        true,
+    );
+    assert_holds(&rt, alloc, &trie, &[(y, 4), (z, 3)]);
 }
 
 // A key that joins a bucket asks for room before anything is written.
 #[test]
-fn a_refused_put_leaves_a_bucket_as_it_stands(rt: HostRuntime) -> Result<(), Fail> {
+fn a_refused_put_leaves_a_bucket_as_it_stands(rt: HostRuntime) {
     let alloc = rt.alloc();
-    let mut trie = trie_of(alloc, &[(key(7, 0), 1), (key(7, 1), 2), (key(7, 3), 3)])?;
-    let before = outline_of(alloc, trie.root())?;
-    let at = Arc::new(alloc, key(7, 2))?;
-    let value = Arc::new(alloc, 4)?;
-    let taken = take_all(alloc)?;
-    let refused = trie.put_in(alloc, at, value, Stamp(2));
-    drop(taken);
-    assert!(rt; refused.is_err());
+    let (w, x, y, z) = (key(7, 0), key(7, 1), key(7, 2), key(7, 3));
+    let mut trie = trie_of(&rt, alloc, &[(w, 1), (x, 2), (z, 3)]);
+    let before = seen(&rt, alloc, &trie);
+    assert_is(&rt, is_put_without_memory(&rt, alloc, &mut trie, y), false);
     assert_same(&rt, alloc, &trie, &before);
-    put_in(alloc, &mut trie, key(7, 2), 4, 2)?;
-    let all = [
-        (key(7, 0), 1),
-        (key(7, 1), 2),
-        (key(7, 2), 4),
-        (key(7, 3), 3),
-    ];
-    assert_holds(&rt, alloc, &trie, &all);
-    Ok(())
+    put_in(&rt, alloc, &mut trie, (y, 4), 2);
+    assert_holds(&rt, alloc, &trie, &[(w, 1), (x, 2), (y, 4), (z, 3)]);
 }
 
 // Puts Q with so many requests granted. Whether it is done.
-fn is_put_with(alloc: Global, trie: &mut Trie, given: usize) -> Result<bool, AllocError> {
-    let key = Arc::new(alloc, Q)?;
-    let value = Arc::new(alloc, 3)?;
-    let mut spare = spare_blocks(alloc, TWO)?;
-    let _taken = take_all(alloc)?;
-    for _ in 0..given {
-        let _ = spare.pop();
-    }
-    Ok(trie.put_in(alloc, key, value, Stamp(2)).is_ok())
+fn is_put_with(rt: &impl Abort, alloc: Global, trie: &mut Trie, given: usize) -> bool {
+    let key = shared_key(rt, alloc, Q);
+    let value = shared_value(rt, alloc, 3);
+    let mut spare = spare_blocks(rt, alloc, TWO);
+    let _taken = take_all_but(rt, alloc, &mut spare, given);
+    trie.put_in(alloc, key, value, Stamp(2)).is_ok()
 }
 
-// Puts Q with one request more granted each time, until the put is done. Until then the trie is as
-// it was.
-fn assert_put_takes(
-    rt: &impl Abort,
-    alloc: Global,
-    trie: &mut Trie,
-    requests: usize,
-) -> Result<(), Fail> {
-    let before = outline_of(alloc, trie.root())?;
-    for given in 0..MOST_GIVEN {
-        if is_put_with(alloc, trie, given)? {
-            assert_eq!(rt; given, requests);
-            assert_value(rt, trie, Q, Some(3));
-            return Ok(());
-        }
+// Puts Q with one request more granted each time: with fewer than these the trie is as it was.
+fn assert_put_takes(rt: &impl Abort, alloc: Global, trie: &mut Trie, requests: usize) {
+    let before = seen(rt, alloc, trie);
+    for given in 0..requests {
+        assert_is(rt, is_put_with(rt, alloc, trie, given), false);
         assert_same(rt, alloc, trie, &before);
     }
-    assert!(rt; false, "a put is refused with memory to spare");
-    Ok(())
+    assert_is(rt, is_put_with(rt, alloc, trie, requests), true);
+    assert_value(rt, trie, Q, Some(3));
 }
 
-// A leaf gives way to six branches, of which the lowest has it and a new leaf: twelve requests.
-// Where another holds the root, that is copied too: two more.
+// A leaf gives way to branches down to the seventh digit, of which the lowest has it and a new leaf: all
+// of a way but the root. Where another holds the root, that is copied too: two more.
 #[test]
-fn refused_puts_leave_the_root_as_it_stands(rt: HostRuntime) -> Result<(), Fail> {
+fn refused_puts_leave_the_root_as_it_stands(rt: HostRuntime) {
     let alloc = rt.alloc();
-    let mut sole = trie_of(alloc, &[(P, 1), (key(1, 0), 2)])?;
-    let mut shared = sole.try_clone()?;
-    let other = shared.try_clone()?;
-    let before = outline_of(alloc, other.root())?;
-    assert_put_takes(&rt, alloc, &mut shared, 14)?;
+    let mut sole = trie_of(&rt, alloc, &[(P, 1), (key(1, 0), 2)]);
+    let mut shared = copy(&rt, &sole);
+    let other = copy(&rt, &shared);
+    let before = seen(&rt, alloc, &other);
+    assert_put_takes(&rt, alloc, &mut shared, WAY);
     assert_same(&rt, alloc, &other, &before);
     drop(other);
     drop(shared);
-    assert_put_takes(&rt, alloc, &mut sole, 12)
+    assert_put_takes(&rt, alloc, &mut sole, WAY - 2);
 }
 
 // Removes Q with so many requests granted. Whether it is done.
-fn is_removed_with(alloc: Global, trie: &mut Trie, given: usize) -> Result<bool, AllocError> {
-    let mut spare = spare_blocks(alloc, ONE)?;
-    let _taken = take_all(alloc)?;
-    for _ in 0..given {
-        let _ = spare.pop();
-    }
-    Ok(trie.remove_in(alloc, &Q, Stamp(2)).is_ok())
+fn is_removed_with(rt: &impl Abort, alloc: Global, trie: &mut Trie, given: usize) -> bool {
+    let mut spare = spare_blocks(rt, alloc, ONE);
+    let _taken = take_all_but(rt, alloc, &mut spare, given);
+    trie.remove_in(alloc, &Q, Stamp(2)).is_ok()
 }
 
-// A removal from a root that another holds copies seven branches.
+// A removal from a root that another holds copies the branches of a way.
 #[test]
-fn refused_removals_leave_the_root_as_it_stands(rt: HostRuntime) -> Result<(), Fail> {
+fn refused_removals_leave_the_root_as_it_stands(rt: HostRuntime) {
     let alloc = rt.alloc();
-    let mut trie = trie_of(alloc, &[(P, 1), (Q, 2), (key(0x8000_0000, 0), 3)])?;
-    let other = trie.try_clone()?;
-    let before = outline_of(alloc, trie.root())?;
-    for given in 0..MOST_GIVEN {
-        let is_removed = is_removed_with(alloc, &mut trie, given)?;
-        assert_same(&rt, alloc, &other, &before);
-        if is_removed {
-            assert_eq!(rt; given, 14);
-            assert_value(&rt, &trie, Q, None);
-            return Ok(());
-        }
+    let mut trie = trie_of(&rt, alloc, &[(P, 1), (Q, 2), (R, 3)]);
+    let other = copy(&rt, &trie);
+    let before = seen(&rt, alloc, &trie);
+    for given in 0..WAY {
+        let is_removed = is_removed_with(&rt, alloc, &mut trie, given);
+        assert_is(&rt, is_removed, false);
         assert_same(&rt, alloc, &trie, &before);
     }
-    assert!(rt; false, "a removal is refused with memory to spare");
-    Ok(())
+    let is_removed = is_removed_with(&rt, alloc, &mut trie, WAY);
+    assert_is(&rt, is_removed, true);
+    assert_value(&rt, &trie, Q, None);
+    assert_same(&rt, alloc, &other, &before);
 }
 
 // A trie, and the map that it should be.
@@ -168,94 +145,102 @@ struct Beside {
 }
 
 impl Beside {
-    fn new(alloc: Global) -> Result<Beside, Fail> {
-        Ok(Beside {
-            trie: Held::new(alloc, Stamp::LOOSE)?,
+    fn new(rt: &impl Abort, alloc: Global) -> Beside {
+        Beside {
+            trie: new(rt, alloc, Stamp::LOOSE.0),
             map: BTreeMap::new(alloc),
-        })
+        }
     }
 
     // The trie of the copy shares its root.
-    fn copy(&self) -> Result<Beside, Fail> {
-        Ok(Beside {
-            trie: self.trie.try_clone()?,
-            map: self.map.clone()?,
-        })
+    fn copy(&self, rt: &impl Abort) -> Beside {
+        Beside {
+            trie: copy(rt, &self.trie),
+            map: self.map.clone().expect(rt, "no map"),
+        }
     }
 
     // Puts or removes the key.
-    fn write(&mut self, alloc: Global, at: ChosenKey, put: bool, step: u32) -> Result<(), Fail> {
+    fn write(&mut self, rt: &impl Abort, alloc: Global, at: ChosenKey, put: bool, step: u32) {
         if put {
-            put_in(alloc, &mut self.trie, at, step, u64::from(step))?;
-            self.map.insert(at, step)?;
+            put_in(rt, alloc, &mut self.trie, (at, step), u64::from(step));
+            insert(rt, &mut self.map, at, step);
         } else {
-            self.trie.remove_in(alloc, &at, Stamp(u64::from(step)))?;
+            remove_in(rt, alloc, &mut self.trie, at, u64::from(step));
             self.map.remove(&at);
         }
-        Ok(())
+    }
+
+    // The trie has the pairs of the map, and the shape that they have.
+    fn assert_alike(&self, rt: &impl Abort, alloc: Global) {
+        assert_is_map(rt, alloc, &self.trie, &self.map);
     }
 }
 
 #[test]
-fn roots_that_share_nodes_are_written_apart(rt: HostRuntime) -> Result<(), Fail> {
+fn roots_that_share_nodes_are_written_apart(rt: HostRuntime) {
     let alloc = rt.alloc();
     let mut random = Random(10);
-    let mut first = Beside::new(alloc)?;
-    let mut second = first.copy()?;
+    let mut first = Beside::new(&rt, alloc);
+    let mut second = first.copy(&rt);
     for step in 0..4_000 {
-        let at = key(WORDS[random.next(8) as usize % 8], random.next(KEYS));
+        let at = any_key(&mut random);
         let put = random.next(2) == 0;
         match random.next(16) {
-            0 => second = first.copy()?,
-            1 => first = second.copy()?,
-            2..=8 => first.write(alloc, at, put, step)?,
-            _ => second.write(alloc, at, put, step)?,
+            0 => second = first.copy(&rt),
+            1 => first = second.copy(&rt),
+            2..=8 => first.write(&rt, alloc, at, put, step),
+            _ => second.write(&rt, alloc, at, put, step),
         }
-        assert_is_map(&rt, alloc, &first.trie, &first.map);
-        assert_is_map(&rt, alloc, &second.trie, &second.map);
+        first.assert_alike(&rt, alloc);
+        second.assert_alike(&rt, alloc);
     }
-    Ok(())
 }
 
 #[test]
-fn a_hundred_keys_of_one_word_share_a_bucket(rt: HostRuntime) -> Result<(), Fail> {
+fn a_hundred_keys_of_one_word_share_a_bucket(rt: HostRuntime) {
     let alloc = rt.alloc();
-    let mut trie = Held::new(alloc, Stamp(1))?;
+    let mut trie = new(&rt, alloc, 1);
     for id in 0..100 {
-        put_in(alloc, &mut trie, key(7, id * 37 % 101), id, 1)?;
+        put_in(&rt, alloc, &mut trie, (key(7, id * 37 % 101), id), 1);
     }
-    let seen = outline_of(alloc, trie.root())?;
-    assert_eq!(rt;
-        seen.lines.as_slice(),
-        [branch(0, 1 << 7, 100), pairs(1, 100)].as_slice()
-    );
+    let lines = [super::branch(0, 1 << 7, 100), super::pairs(1, 100)];
+    super::assert_lines(&rt, &seen(&rt, alloc, &trie).lines, &lines);
     for id in 0..100 {
         assert_value(&rt, &trie, key(7, id * 37 % 101), Some(id));
     }
     for id in 0..99 {
-        trie.remove_in(alloc, &key(7, id * 37 % 101), Stamp(2))?;
+        remove_in(&rt, alloc, &mut trie, key(7, id * 37 % 101), 2);
     }
     assert_holds(&rt, alloc, &trie, &[(key(7, 99 * 37 % 101), 99)]);
-    Ok(())
+}
+
+// The key of a child of the root, by a number: each once, in no rising order.
+fn child_key(number: u32) -> ChosenKey
+    requires { number < 32 }
+{
+    key(u64::from(number * 5 % 32), 0)
 }
 
 #[test]
-fn a_branch_has_thirty_two_children(rt: HostRuntime) -> Result<(), Fail> {
+fn a_branch_has_thirty_two_children(rt: HostRuntime) {
     let alloc = rt.alloc();
-    let mut trie = Held::new(alloc, Stamp(1))?;
+    let mut trie = new(&rt, alloc, 1);
     for digit in 0..32 {
-        put_in(alloc, &mut trie, key(digit * 5 % 32, 0), digit, 1)?;
+        put_in(&rt, alloc, &mut trie, (child_key(digit), digit), 1);
     }
-    let seen = outline_of(alloc, trie.root())?;
-    assert_eq!(rt; seen.lines.len(), 33);
-    assert_eq!(rt; seen.lines.first(), Some(&branch(0, u32::MAX, 32)));
+    let seen = seen(&rt, alloc, &trie);
+    assert_is(&rt, seen.lines.len(), 33);
+    assert_is(
+        &rt,
+        seen.lines.first().copied(),
+        Some(super::branch(0, u32::MAX, 32)),
+    );
     for digit in 0..32 {
-        assert_value(&rt, &trie, key(digit * 5 % 32, 0), Some(digit));
+        assert_value(&rt, &trie, child_key(digit), Some(digit));
     }
     for digit in 0..32 {
-        trie.remove_in(alloc, &key(digit, 0), Stamp(2))?;
+        remove_in(&rt, alloc, &mut trie, key(digit, 0), 2);
     }
-    assert_eq!(rt; size(trie.root()), 0);
     assert_holds(&rt, alloc, &trie, &[]);
-    Ok(())
 }

@@ -2,18 +2,21 @@
 //!
 //! All memory is taken, and one block more is given back each time, of the size that is asked for next.
 
-use super::{Trie, assert_value, key, trie_of};
+use super::{Trie, assert_is, assert_value, key, seen, shared_key, shared_value, trie_of};
 use crate::outline::{Outline, outline_of};
-use std::alloc::{AllocError, Global};
+use std::alloc::Global;
 use std::panic::Expect;
 use std::process::Abort;
 use std::sync::Arc;
-use std::test::Fail;
-use test_keys::{ChosenKey, take_all};
+use test_keys::{ChosenKey, Shortage, take_all};
 use trie_node::{NoMemory, Stamp};
 
 // More blocks than are given back.
 pub(super) const MOST_GIVEN: usize = 16;
+
+// The requests for the branches of a way from the root to the seventh digit: the children of each and the branch itself.
+// The C library keeps seven blocks of one size ready, and no more, so the words of these tests part there.
+pub(super) const WAY: usize = 14;
 
 // The bytes of a branch, and of the room for one child and for two.
 pub(super) const BRANCH: usize = 48;
@@ -22,94 +25,196 @@ pub(super) const ONE: usize = 32;
 
 pub(super) const TWO: usize = 64;
 
-// Blocks for copies of the seven branches of a way that ends at two leaves, where the root has room
-// for its children in so many bytes. They are asked for from the last: each branch's children and
-// then the branch, from the lowest branch up.
-pub(super) fn spare_blocks(alloc: Global, root: usize) -> Result<Vec<Vec<u8>>, AllocError> {
-    let mut blocks = Vec::with_capacity(alloc, MOST_GIVEN)?;
-    for children in [root, ONE, ONE, ONE, ONE, ONE, TWO] {
-        blocks.push(Vec::with_capacity(alloc, BRANCH)?)?;
-        blocks.push(Vec::with_capacity(alloc, children)?)?;
+// A block of so many bytes.
+pub(super) fn block(rt: &impl Abort, alloc: Global, size: usize) -> Vec<u8> {
+    Vec::with_capacity(alloc, size).expect(rt, "no block")
+}
+
+// Adds a block for a branch, and one for its children.
+fn push_blocks(rt: &impl Abort, alloc: Global, blocks: &mut Vec<Vec<u8>>, children: usize) {
+    blocks.push(block(rt, alloc, BRANCH)).expect(rt, "no room");
+    blocks
+        .push(block(rt, alloc, children))
+        .expect(rt, "no room");
+}
+
+// Blocks for copies of the branches of a way that ends at two leaves below the seventh digit, where the
+// root has room for its children in so many bytes. They are asked for from the last: each branch's
+// children and then the branch, from the lowest branch up.
+pub(super) fn spare_blocks(rt: &impl Abort, alloc: Global, root: usize) -> Vec<Vec<u8>> {
+    let mut blocks = Vec::with_capacity(alloc, MOST_GIVEN).expect(rt, "no list");
+    push_blocks(rt, alloc, &mut blocks, root);
+    for _ in 0..5 {
+        push_blocks(rt, alloc, &mut blocks, ONE);
     }
-    Ok(blocks)
+    push_blocks(rt, alloc, &mut blocks, TWO);
+    blocks
+}
+
+// All memory but for so many of the last blocks, which are dropped.
+pub(super) fn take_all_but(
+    rt: &impl Abort,
+    alloc: Global,
+    spare: &mut Vec<Vec<u8>>,
+    given: usize,
+) -> Vec<Vec<u8>> {
+    let taken = take_all(alloc).expect(rt, "no list");
+    for _ in 0..given {
+        let _ = spare.pop();
+    }
+    taken
+}
+
+// The stamps are these.
+fn assert_stamps(rt: &impl Abort, seen: &[Stamp], want: &[Stamp]) {
+    assert_eq!(rt; seen, want);
 }
 
 // The root is as it was.
 pub(super) fn assert_same(rt: &impl Abort, alloc: Global, trie: &Trie, before: &Outline) {
     let now = outline_of(alloc, trie.root()).expect(rt, "no outline");
-    assert_eq!(rt; now.lines.as_slice(), before.lines.as_slice());
-    assert_eq!(rt; now.stamps.as_slice(), before.stamps.as_slice());
-    assert_eq!(rt; now.pairs.as_slice(), before.pairs.as_slice());
+    super::assert_lines(rt, &now.lines, &before.lines);
+    assert_stamps(rt, &now.stamps, &before.stamps);
+    super::assert_pairs(rt, &now.pairs, &before.pairs);
 }
 
 // Puts 3 at the key with so many requests granted.
 fn put_with(
+    rt: &impl Abort,
     alloc: Global,
     trie: &Trie,
     at: ChosenKey,
     given: usize,
-) -> Result<Result<Trie, NoMemory>, AllocError> {
-    let key = Arc::new(alloc, at)?;
-    let value = Arc::new(alloc, 3)?;
-    let mut spare = spare_blocks(alloc, TWO)?;
-    let _taken = take_all(alloc)?;
-    for _ in 0..given {
-        let _ = spare.pop();
-    }
-    Ok(trie.with_put(alloc, key, value, Stamp(2)))
+) -> Result<Trie, NoMemory> {
+    let key = shared_key(rt, alloc, at);
+    let value = shared_value(rt, alloc, 3);
+    let mut spare = spare_blocks(rt, alloc, TWO);
+    let _taken = take_all_but(rt, alloc, &mut spare, given);
+    trie.with_put(alloc, key, value, Stamp(2))
 }
 
 // Removes the key with so many requests granted.
 fn removed_with(
+    rt: &impl Abort,
     alloc: Global,
     trie: &Trie,
     at: ChosenKey,
     given: usize,
-) -> Result<Result<Trie, NoMemory>, AllocError> {
-    let mut spare = spare_blocks(alloc, ONE)?;
-    let _taken = take_all(alloc)?;
-    for _ in 0..given {
-        let _ = spare.pop();
-    }
-    Ok(trie.with_removed(alloc, &at, Stamp(2)))
+) -> Result<Trie, NoMemory> {
+    let mut spare = spare_blocks(rt, alloc, ONE);
+    let _taken = take_all_but(rt, alloc, &mut spare, given);
+    trie.with_removed(alloc, &at, Stamp(2))
 }
 
-// A put that makes a leaf and copies seven branches: two requests for a branch, and none for the leaf.
+// Keys whose words differ in their seventh digit alone.
+pub(super) const P: ChosenKey = ChosenKey { path: 0, id: 0 };
+
+pub(super) const Q: ChosenKey = ChosenKey {
+    path: 0xc000_0000,
+    id: 0,
+};
+
+pub(super) const R: ChosenKey = ChosenKey {
+    path: 0x8000_0000,
+    id: 0,
+};
+
+// A put that makes a leaf and copies the branches of a way: two requests for a branch, and none for the leaf.
 #[test]
-fn refused_puts_leave_the_root(rt: HostRuntime) -> Result<(), Fail> {
+fn refused_puts_leave_the_root(rt: HostRuntime) {
     let alloc = rt.alloc();
-    let (p, q) = (key(0, 0), key(0xc000_0000, 0));
-    let trie = trie_of(alloc, &[(p, 1), (key(1, 0), 2)])?;
-    let before = outline_of(alloc, trie.root())?;
-    for given in 0..MOST_GIVEN {
-        let answer = put_with(alloc, &trie, q, given)?;
+    let trie = trie_of(&rt, alloc, &[(P, 1), (key(1, 0), 2)]);
+    let before = seen(&rt, alloc, &trie);
+    for given in 0..WAY {
+        let answer = put_with(&rt, alloc, &trie, Q, given);
+        assert_is(&rt, answer.is_ok(), false);
         assert_same(&rt, alloc, &trie, &before);
-        if let Ok(written) = answer {
-            assert_eq!(rt; given, 14);
-            assert_value(&rt, &written, q, Some(3));
-            return Ok(());
-        }
     }
-    assert!(rt; false, "a put is refused with memory to spare");
-    Ok(())
+    let written = put_with(&rt, alloc, &trie, Q, WAY).expect(&rt, "refused");
+    assert_same(&rt, alloc, &trie, &before);
+    assert_value(&rt, &written, Q, Some(3));
 }
 
-// A removal that copies seven branches.
+// A removal that copies the branches of a way.
 #[test]
-fn refused_removals_leave_the_root(rt: HostRuntime) -> Result<(), Fail> {
+fn refused_removals_leave_the_root(rt: HostRuntime) {
     let alloc = rt.alloc();
-    let (p, q) = (key(0, 0), key(0xc000_0000, 0));
-    let trie = trie_of(alloc, &[(p, 1), (q, 2), (key(0x8000_0000, 0), 3)])?;
-    let before = outline_of(alloc, trie.root())?;
-    for given in 0..MOST_GIVEN {
-        let answer = removed_with(alloc, &trie, q, given)?;
+    let trie = trie_of(&rt, alloc, &[(P, 1), (Q, 2), (R, 3)]);
+    let before = seen(&rt, alloc, &trie);
+    for given in 0..WAY {
+        let answer = removed_with(&rt, alloc, &trie, Q, given);
+        assert_is(&rt, answer.is_ok(), false);
         assert_same(&rt, alloc, &trie, &before);
-        if let Ok(written) = answer {
-            assert_eq!(rt; given, 14);
-            assert_value(&rt, &written, q, None);
-            return Ok(());
-        }
     }
-    assert!(rt; false, "a removal is refused with memory to spare");
-    Ok(())
+    let written = removed_with(&rt, alloc, &trie, Q, WAY).expect(&rt, "refused");
+    assert_same(&rt, alloc, &trie, &before);
+    assert_value(&rt, &written, Q, None);
+}
+
+// A key whose word differs from the first key's in its last digit alone, and one between them.
+const LAST: ChosenKey = ChosenKey {
+    path: 0xc000_0000_0000_0000,
+    id: 0,
+};
+
+const MIDDLE: ChosenKey = ChosenKey {
+    path: 0x8000_0000_0000_0000,
+    id: 0,
+};
+
+// How often some bytes more are left, and how many more.
+const STEPS: usize = 64;
+
+const STEP: usize = 64;
+
+// No memory but for so many bytes next to one another.
+fn shortage(rt: &impl Abort, alloc: Global, bytes: usize) -> Shortage {
+    let mut shortage = Shortage::new(alloc).expect(rt, "no list");
+    shortage.give(alloc, bytes).expect(rt, "not given");
+    shortage
+}
+
+// Whether the key is put with so many bytes left: in a root of its own, and where a root stands that another holds.
+fn are_put(rt: &impl Abort, alloc: Global, trie: &Trie, bytes: usize) -> (bool, bool) {
+    let mut place = super::copy(rt, trie);
+    let (first, second) = (shared_key(rt, alloc, LAST), shared_key(rt, alloc, LAST));
+    let value = shared_value(rt, alloc, 3);
+    let same = Arc::try_clone(&value).expect(rt, "no handle");
+    let _shortage = shortage(rt, alloc, bytes);
+    let made = trie.with_put(alloc, first, value, Stamp(2)).is_ok();
+    let placed = place.put_in(alloc, second, same, Stamp(2)).is_ok();
+    (made, placed)
+}
+
+// The same of a removal.
+fn are_removed(rt: &impl Abort, alloc: Global, trie: &Trie, bytes: usize) -> (bool, bool) {
+    let mut place = super::copy(rt, trie);
+    let _shortage = shortage(rt, alloc, bytes);
+    let made = trie.with_removed(alloc, &LAST, Stamp(2)).is_ok();
+    let placed = place.remove_in(alloc, &LAST, Stamp(2)).is_ok();
+    (made, placed)
+}
+
+// Writes that copy the thirteen branches of a whole way: none with no memory, both with enough, and the root as it was
+// each time.
+#[test]
+fn writes_of_a_whole_way_leave_the_root(rt: HostRuntime) {
+    let alloc = rt.alloc();
+    let few = trie_of(&rt, alloc, &[(P, 1), (key(1, 0), 2)]);
+    let more = trie_of(&rt, alloc, &[(P, 1), (LAST, 2), (MIDDLE, 3)]);
+    let (few_before, more_before) = (seen(&rt, alloc, &few), seen(&rt, alloc, &more));
+    assert_is(&rt, are_put(&rt, alloc, &few, 0), (false, false));
+    assert_is(&rt, are_removed(&rt, alloc, &more, 0), (false, false));
+    for step in 1..STEPS {
+        let _ = are_put(&rt, alloc, &few, step * STEP);
+        assert_same(&rt, alloc, &few, &few_before);
+        let _ = are_removed(&rt, alloc, &more, step * STEP);
+        assert_same(&rt, alloc, &more, &more_before);
+    }
+    assert_is(&rt, are_put(&rt, alloc, &few, STEPS * STEP), (true, true));
+    assert_is(
+        &rt,
+        are_removed(&rt, alloc, &more, STEPS * STEP),
+        (true, true),
+    );
 }

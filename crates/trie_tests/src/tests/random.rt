@@ -1,32 +1,32 @@
-use super::{Trie, assert_value, key, put};
-use crate::held::Held;
-use crate::outline::{lines_of, outline_of};
+use super::{
+    Trie, assert_is, assert_lines, assert_pairs, assert_value, copy, key, new, put, removed, seen,
+};
+use crate::outline::lines_of;
 use hash_path::PathKey;
 use std::alloc::{AllocError, Global};
 use std::collections::BTreeMap;
 use std::panic::Expect;
 use std::process::Abort;
-use std::test::Fail;
 use test_keys::{ChosenKey, Random};
 use trie_node::{Stamp, size};
 
 // Few words, so that buckets and branches that are drawn up are frequent.
-pub(super) const WORDS: [u32; 8] = [
+pub(super) const WORDS: [u64; 8] = [
     0,
-    0xc000_0000,
-    0x4000_0000,
-    0xffff_ffff,
-    0x3fff_ffff,
+    0xc000_0000_0000_0000,
+    0x4000_0000_0000_0000,
+    0xffff_ffff_ffff_ffff,
+    0x3fff_ffff_ffff_ffff,
     1,
     33,
-    0x0010_0001,
+    0x0010_0000_0000_0001,
 ];
 
 // How many keys have one word.
 pub(super) const KEYS: u32 = 3;
 
 // The pairs of a map in the order of their positions.
-pub(super) fn in_walk_order(
+fn in_walk_order(
     alloc: Global,
     map: &BTreeMap<ChosenKey, u32>,
 ) -> Result<Vec<(ChosenKey, u32)>, AllocError> {
@@ -38,6 +38,11 @@ pub(super) fn in_walk_order(
     Ok(pairs)
 }
 
+// The same, where there is memory.
+fn listed(rt: &impl Abort, alloc: Global, map: &BTreeMap<ChosenKey, u32>) -> Vec<(ChosenKey, u32)> {
+    in_walk_order(alloc, map).expect(rt, "no list")
+}
+
 // The trie has these pairs and the shape that they have.
 pub(super) fn assert_holds(
     rt: &impl Abort,
@@ -45,11 +50,11 @@ pub(super) fn assert_holds(
     trie: &Trie,
     pairs: &[(ChosenKey, u32)],
 ) {
-    let seen = outline_of(alloc, trie.root()).expect(rt, "no outline");
+    let seen = seen(rt, alloc, trie);
     let lines = lines_of(alloc, pairs).expect(rt, "no outline");
-    assert_eq!(rt; size(trie.root()), pairs.len() as u64);
-    assert_eq!(rt; seen.pairs.as_slice(), pairs);
-    assert_eq!(rt; seen.lines.as_slice(), lines.as_slice());
+    assert_is(rt, size(trie.root()), pairs.len() as u64);
+    assert_pairs(rt, &seen.pairs, pairs);
+    assert_lines(rt, &seen.lines, &lines);
 }
 
 // The trie has the pairs of the map, and the shape that they have.
@@ -59,8 +64,23 @@ pub(super) fn assert_is_map(
     trie: &Trie,
     map: &BTreeMap<ChosenKey, u32>,
 ) {
-    let pairs = in_walk_order(alloc, map).expect(rt, "no list");
-    assert_holds(rt, alloc, trie, pairs.as_slice());
+    assert_holds(rt, alloc, trie, &listed(rt, alloc, map));
+}
+
+// A key that the numbers pick.
+pub(super) fn any_key(random: &mut Random) -> ChosenKey {
+    key(WORDS[random.next(8) as usize % 8], random.next(KEYS))
+}
+
+// Maps the key to the value.
+pub(super) fn insert(
+    rt: &impl Abort,
+    map: &mut BTreeMap<ChosenKey, u32>,
+    at: ChosenKey,
+    value: u32,
+) {
+    let put: Result<_, _> = map.insert(at, value);
+    put.expect(rt, "no room");
 }
 
 // Each key has the value that it has in the map.
@@ -75,40 +95,59 @@ fn assert_finds(rt: &impl Abort, trie: &Trie, map: &BTreeMap<ChosenKey, u32>) {
 
 // Puts or removes a random key.
 fn write(
+    rt: &impl Abort,
     alloc: Global,
     trie: &mut Trie,
     map: &mut BTreeMap<ChosenKey, u32>,
     random: &mut Random,
     step: u32,
-) -> Result<(), Fail> {
-    let at = key(WORDS[random.next(8) as usize % 8], random.next(KEYS));
+) {
+    let at = any_key(random);
     if random.next(2) == 0 {
-        *trie = put(alloc, trie, at, step, u64::from(step))?;
-        map.insert(at, step)?;
+        *trie = put(rt, alloc, trie, (at, step), u64::from(step));
+        insert(rt, map, at, step);
     } else {
-        *trie = trie.with_removed(alloc, &at, Stamp(u64::from(step)))?;
+        *trie = removed(rt, alloc, trie, at, u64::from(step));
         map.remove(&at);
     }
-    Ok(())
+}
+
+// An old root and its pairs.
+type Old = (Trie, Vec<(ChosenKey, u32)>);
+
+// Keeps the root and its pairs.
+fn keep(
+    rt: &impl Abort,
+    alloc: Global,
+    old: &mut Vec<Old>,
+    trie: &Trie,
+    map: &BTreeMap<ChosenKey, u32>,
+) {
+    let kept = old.push((copy(rt, trie), listed(rt, alloc, map)));
+    kept.expect(rt, "no room");
+}
+
+// Each old root has the pairs that it had.
+fn assert_kept(rt: &impl Abort, alloc: Global, old: &[Old]) {
+    for (trie, pairs) in old {
+        assert_holds(rt, alloc, trie, pairs);
+    }
 }
 
 #[test]
-fn random_writes_agree_with_an_ordered_map(rt: HostRuntime) -> Result<(), Fail> {
+fn random_writes_agree_with_an_ordered_map(rt: HostRuntime) {
     let alloc = rt.alloc();
     let mut random = Random(2026);
-    let mut trie = Held::new(alloc, Stamp::LOOSE)?;
+    let mut trie = new(&rt, alloc, Stamp::LOOSE.0);
     let mut map = BTreeMap::new(alloc);
     let mut old = Vec::new(alloc);
     for step in 0..10_000 {
         if step % 500 == 0 {
-            old.push((trie.try_clone()?, in_walk_order(alloc, &map)?))?;
+            keep(&rt, alloc, &mut old, &trie, &map);
         }
-        write(alloc, &mut trie, &mut map, &mut random, step)?;
+        write(&rt, alloc, &mut trie, &mut map, &mut random, step);
         assert_finds(&rt, &trie, &map);
         assert_is_map(&rt, alloc, &trie, &map);
     }
-    for (trie, pairs) in &old {
-        assert_holds(&rt, alloc, trie, pairs.as_slice());
-    }
-    Ok(())
+    assert_kept(&rt, alloc, &old);
 }

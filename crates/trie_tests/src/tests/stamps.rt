@@ -1,39 +1,37 @@
-use super::{Trie, key, put, trie_of};
-use crate::outline::outline_of;
+use super::{Trie, assert_is, key, put, removed, seen, trie_of};
 use std::alloc::Global;
-use std::panic::Expect;
 use std::process::Abort;
-use std::test::Fail;
 use trie_node::Stamp;
 
 // The nodes of the trie have these stamps, in the order of a walk.
 fn assert_stamps(rt: &impl Abort, alloc: Global, trie: &Trie, stamps: &[u64]) {
-    let seen = outline_of(alloc, trie.root()).expect(rt, "no outline");
-    assert_eq!(rt; seen.stamps.len(), stamps.len());
+    let seen = seen(rt, alloc, trie);
+    assert_is(rt, seen.stamps.len(), stamps.len());
     for (stamp, want) in seen.stamps.iter().zip(stamps) {
-        assert_eq!(rt; stamp.0, *want);
+        assert_is(rt, stamp.0, *want);
     }
 }
 
 #[test]
-fn writes_stamp_one_path(rt: HostRuntime) -> Result<(), Fail> {
+fn writes_stamp_one_path(rt: HostRuntime) {
     let alloc = rt.alloc();
-    let (p, q, r) = (key(0, 0), key(0xc000_0000, 0), key(1, 0));
-    let trie = trie_of(alloc, &[(p, 1), (q, 2), (r, 3)])?;
+    let (p, q, r) = (key(0, 0), key(0xc000_0000_0000_0000, 0), key(1, 0));
+    let trie = trie_of(&rt, alloc, &[(p, 1), (q, 2), (r, 3)]);
 
-    // The root, six branches down to p and q, these two, and r.
-    let trie = put(alloc, &trie, r, 4, 2)?;
-    assert_stamps(&rt, alloc, &trie, &[2, 1, 1, 1, 1, 1, 1, 1, 1, 2]);
+    // The root, twelve branches down to p and q, these two, and r.
+    let trie = put(&rt, alloc, &trie, (r, 4), 2);
+    let stamps = [2, 1, 1, 1, 1, 1, 1, 1, 1, 1, 1, 1, 1, 1, 1, 2];
+    assert_stamps(&rt, alloc, &trie, &stamps);
 
     // The leaf of p is drawn up and keeps its stamp.
-    let trie = trie.with_removed(alloc, &q, Stamp(3))?;
+    let trie = removed(&rt, alloc, &trie, q, 3);
     assert_stamps(&rt, alloc, &trie, &[3, 1, 2]);
 
-    let trie = trie.with_removed(alloc, &q, Stamp(4))?;
+    let trie = removed(&rt, alloc, &trie, q, 4);
     assert_stamps(&rt, alloc, &trie, &[3, 1, 2]);
 
     // The leaf of p moves down and keeps its stamp.
-    let trie = put(alloc, &trie, q, 5, Stamp::LOOSE.0)?;
-    assert_stamps(&rt, alloc, &trie, &[0, 0, 0, 0, 0, 0, 0, 1, 0, 2]);
-    Ok(())
+    let trie = put(&rt, alloc, &trie, (q, 5), Stamp::LOOSE.0);
+    let stamps = [0, 0, 0, 0, 0, 0, 0, 0, 0, 0, 0, 0, 0, 1, 0, 2];
+    assert_stamps(&rt, alloc, &trie, &stamps);
 }

@@ -12,15 +12,15 @@ use trie_node::Stamp;
 use versions::{NoMemory, Refusal, Version};
 
 // Few words, which part at different levels.
-const WORDS: [u32; 8] = [
+const WORDS: [u64; 8] = [
     0,
-    0xc000_0000,
-    0x4000_0000,
+    0xc000_0000_0000_0000,
+    0x4000_0000_0000_0000,
     1,
     33,
-    0x0010_0000,
-    0x0010_0001,
-    0xffff_ffff,
+    0x0010_0000_0000_0000,
+    0x0010_0000_0000_0001,
+    0xffff_ffff_ffff_ffff,
 ];
 
 // Keys of each word.

@@ -19,7 +19,8 @@ fn forks_and_views_make_no_request(rt: HostRuntime) -> Result<(), Fail> {
     let taken = take_all(alloc)?;
     let viewed = version.view().is_ok();
     let forked = fork(&rt, &mut version, &mut source);
-    let put = version.put(alloc, Arc::try_clone(&a)?, nine);
+    // what a refused put gives back is held here too, so that it frees nothing for the calls behind it
+    let put = version.put(alloc, Arc::try_clone(&a)?, Arc::try_clone(&nine)?);
     let removed = version.remove(alloc, &*a);
     let cleared = version.clear(alloc);
     let left = sizes(&version);

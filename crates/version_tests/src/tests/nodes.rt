@@ -61,20 +61,24 @@ fn keys_of_one_word_share_a_bucket(rt: HostRuntime) -> Result<(), Fail> {
     Ok(())
 }
 
-// Words that part at the last digit have seven branches above their two leaves. Without one of them the other's leaf
+// Words that part at the last digit have thirteen branches above their two leaves. Without one of them the other's leaf
 // stands below the root, beside a third.
 #[test]
-fn words_that_part_late_have_seven_branches(rt: HostRuntime) -> Result<(), Fail> {
+fn words_that_part_late_have_thirteen_branches(rt: HostRuntime) -> Result<(), Fail> {
     let alloc = rt.alloc();
     let mut version: Chosen = empty(&rt, alloc, 10)?;
-    for (path, nodes) in [(0, 2), (0xc000_0000, 9), (0xffff_ffff, 10)] {
-        put(alloc, &mut version, chosen(path, 0), i64::from(path))?;
+    for (path, value, nodes) in [
+        (0, 1, 2),
+        (0xc000_0000_0000_0000, 2, 15),
+        (0xffff_ffff_ffff_ffff, 3, 16),
+    ] {
+        put(alloc, &mut version, chosen(path, 0), value)?;
         assert_own(&rt, &version, nodes);
     }
-    remove(alloc, &mut version, &chosen(0xc000_0000, 0))?;
+    remove(alloc, &mut version, &chosen(0xc000_0000_0000_0000, 0))?;
     assert_sizes(&rt, &version, (2, 3));
-    assert_value(&rt, &version, chosen(0, 0), Some(0));
-    assert_value(&rt, &version, chosen(0xffff_ffff, 0), Some(0xffff_ffff));
+    assert_value(&rt, &version, chosen(0, 0), Some(1));
+    assert_value(&rt, &version, chosen(0xffff_ffff_ffff_ffff, 0), Some(3));
     Ok(())
 }
 

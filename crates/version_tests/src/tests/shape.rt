@@ -1,8 +1,10 @@
 //! What stands where in a trie.
-ghost use Rattle.std.specs.Prelude.{◌≤◌};
+ghost use Rattle.std.specs.Prelude.{◌≤◌, ◌+◌};
+ghost use Rattle.hash_path.specs.Digits.{word_digits};
 ghost use Rattle.trie_shape.specs.Shape.{Fits};
 ghost use Rattle.trie_shape.specs.View.{tree};
 
+use hash_path::WORD_DIGITS;
 use std::alloc::AllocError;
 use test_keys::ChosenKey;
 use trie_node::{Look, Node, bitmap_counts_children, child, look};
@@ -14,16 +16,16 @@ pub enum Shown {
     Pairs(usize),
 }
 
-/// Adds the nodes below a node, in the order of a walk. No trie has a node at a depth above 7.
+/// Adds the nodes below a node, in the order of a walk. No trie has a node at a depth above the number of digits.
 pub fn walk(
     node: &Node<ChosenKey, i64>,
     depth: u32,
     seen: &mut Vec<Shown>,
 ) -> Result<(), AllocError>
     requires fits { Fits (tree node.now) }
-    requires depth { depth ≤ 8 }
+    requires depth { depth ≤ word_digits + 1 }
 {
-    if depth == 8 {
+    if depth > WORD_DIGITS {
         return Ok(());
     }
     bitmap_counts_children::<ChosenKey, i64>();

@@ -18,7 +18,7 @@ type Pieces = Vec<(Part, Vec<Row>)>;
 // A map of 300 keys has no more pieces than these on the way to pieces of one.
 const MOST_PIECES: u32 = 600;
 
-const END: u64 = 1 << 32;
+const END: u128 = 1 << 64;
 
 // The piece has these rows.
 fn assert_piece(rt: &impl Abort, piece: &Part, rows: &[Row]) -> Result<(), Fail> {
@@ -32,7 +32,7 @@ fn cut_at(
     rt: &impl Abort,
     piece: Part,
     grain: u64,
-    point: Option<u64>,
+    point: Option<u128>,
 ) -> Result<Cut<ChosenKey, i64>, Fail> {
     let (lo, hi) = (piece.lo(), piece.hi());
     match cut(piece, grain) {
@@ -64,7 +64,7 @@ fn push_cut(
     pieces: &mut Pieces,
     cut: Cut<ChosenKey, i64>,
     rows: &[Row],
-) -> Result<Option<(u64, u64)>, Fail> {
+) -> Result<Option<(u128, u128)>, Fail> {
     match cut {
         Cut::Two(lower, upper) => {
             push(alloc, pieces, upper, rows)?;

@@ -28,7 +28,7 @@ fn end_of(walk: Result<Walk<'_>, NoMemory>) -> Option<(Option<Row>, u64)> {
 fn meeting(
     piece: Piece<ChosenKey, i64>,
     grain: u64,
-) -> Option<(u64, Option<(Option<Row>, u64)>, Option<(Option<Row>, u64)>)> {
+) -> Option<(u128, Option<(Option<Row>, u64)>, Option<(Option<Row>, u64)>)> {
     match cut(piece, grain) {
         Ok(Cut::Two(lower, upper)) => {
             Some((lower.hi(), end_of(lower.pairs()), end_of(upper.pairs())))

@@ -10,7 +10,7 @@ use trie_node::{NoMemory, Stamp};
 use versions::Version;
 
 // The whole of a map with these path words, each with a number of its own.
-fn piece_of(rt: &impl Abort, alloc: Global, words: &[u32]) -> Result<Piece<ChosenKey, i64>, Fail> {
+fn piece_of(rt: &impl Abort, alloc: Global, words: &[u64]) -> Result<Piece<ChosenKey, i64>, Fail> {
     let mut version = Version::empty(alloc, 100, Stamp(1))?;
     let mut id = 0;
     for word in words {
@@ -26,7 +26,7 @@ fn piece_of(rt: &impl Abort, alloc: Global, words: &[u32]) -> Result<Piece<Chose
 }
 
 // The bounds and the size of the lower piece, and the end and the size of the upper one.
-type Pieces = (u64, u64, u64, u64, u64);
+type Pieces = (u128, u128, u64, u128, u64);
 
 // The two pieces, or none.
 fn cut_of(piece: Piece<ChosenKey, i64>, grain: u64) -> Result<Option<Pieces>, Fail> {
@@ -47,7 +47,7 @@ fn cut_of(piece: Piece<ChosenKey, i64>, grain: u64) -> Result<Option<Pieces>, Fa
 fn assert_cut(
     rt: &impl Abort,
     alloc: Global,
-    words: &[u32],
+    words: &[u64],
     grain: u64,
     want: Option<Pieces>,
 ) -> Result<(), Fail> {
@@ -61,22 +61,72 @@ fn assert_cut(
 fn words_are_cut_in_the_middle(rt: HostRuntime) -> Result<(), Fail> {
     let alloc = rt.alloc();
     assert_cut(&rt, alloc, &[0, 0, 0], 1, None)?;
-    let pieces = (0, 3, 1, 4_294_967_296, 1);
-    assert_cut(&rt, alloc, &[0, 0xc000_0000], 1, Some(pieces))?;
-    let words = [0xe40c_292c, 0xe70c_2de5, 0xe60c_2c52];
-    let pieces = (0, 1_610_612_736, 1, 4_294_967_296, 2);
+    let pieces = (0, 12, 1, 18_446_744_073_709_551_616, 1);
+    assert_cut(&rt, alloc, &[0, 0xc000_0000_0000_0000], 1, Some(pieces))?;
+    let words = [
+        0xaf63_dc4c_8601_ec8c,
+        0xaf63_df4c_8601_f1a5,
+        0xaf63_de4c_8601_eff2,
+    ];
+    let pieces = (
+        0,
+        6_917_529_027_641_081_856,
+        1,
+        18_446_744_073_709_551_616,
+        2,
+    );
     assert_cut(&rt, alloc, &words, 1, Some(pieces))?;
     assert_cut(&rt, alloc, &words, 3, None)?;
-    let pieces = (0, 4_160_749_568, 1, 4_294_967_296, 1);
-    assert_cut(&rt, alloc, &[0, 0xffff_ffff], 1, Some(pieces))?;
+    let pieces = (
+        0,
+        17_870_283_321_406_128_128,
+        1,
+        18_446_744_073_709_551_616,
+        1,
+    );
+    assert_cut(&rt, alloc, &[0, 0xffff_ffff_ffff_ffff], 1, Some(pieces))?;
     assert_cut(&rt, alloc, &[], 1, None)
+}
+
+// Whether a walk over the piece meets these path words, and no other.
+fn has_words(piece: &Piece<ChosenKey, i64>, words: &[u64]) -> Result<bool, Fail> {
+    let mut walk = piece.pairs()?;
+    for word in words {
+        match walk.next() {
+            Some((key, _)) if key.path == *word => {}
+            _ => return Ok(false),
+        }
+    }
+    Ok(walk.next().is_none())
+}
+
+#[test]
+fn each_half_has_its_words(rt: HostRuntime) -> Result<(), Fail> {
+    let alloc = rt.alloc();
+    let [a, b, c] = [
+        0xaf63_dc4c_8601_ec8c,
+        0xaf63_df4c_8601_f1a5,
+        0xaf63_de4c_8601_eff2,
+    ];
+    match cut(piece_of(&rt, alloc, &[a, b, c])?, 1) {
+        Ok(Cut::Two(lower, upper)) => {
+            assert!(rt; has_words(&lower, &[b])?);
+            assert!(rt; has_words(&upper, &[a, c])?);
+            Ok(())
+        }
+        _ => Err("two halves")?,
+    }
 }
 
 #[test]
 fn walks_meet_words_by_position(rt: HostRuntime) -> Result<(), Fail> {
     let alloc = rt.alloc();
     let mut version = Version::empty(alloc, 100, Stamp(1))?;
-    for word in [0xe40c_292c, 0xe70c_2de5, 0xe60c_2c52] {
+    for word in [
+        0xaf63_dc4c_8601_ec8c,
+        0xaf63_df4c_8601_f1a5,
+        0xaf63_de4c_8601_eff2,
+    ] {
         version.put(
             alloc,
             Arc::new(alloc, ChosenKey { path: word, id: 0 })?,
@@ -86,7 +136,11 @@ fn walks_meet_words_by_position(rt: HostRuntime) -> Result<(), Fail> {
     let view = version.view()?;
     let mut walk = pairs(alloc, &view)?;
     assert_eq!(rt; walk.left(), 3);
-    for word in [0xe70c_2de5, 0xe40c_292c, 0xe60c_2c52] {
+    for word in [
+        0xaf63_df4c_8601_f1a5,
+        0xaf63_dc4c_8601_ec8c,
+        0xaf63_de4c_8601_eff2,
+    ] {
         match walk.next() {
             Some((key, _)) => assert_eq!(rt; key.path, word),
             None => assert!(rt; false),

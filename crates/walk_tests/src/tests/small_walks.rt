@@ -10,7 +10,11 @@ use trie_node::Stamp;
 use versions::Version;
 
 // The path words of the keys a, b and c, whose positions rise from b over a to c.
-const WORDS: [u32; 3] = [0xe40c_292c, 0xe70c_2de5, 0xe60c_2c52];
+const WORDS: [u64; 3] = [
+    0xaf63_dc4c_8601_ec8c,
+    0xaf63_df4c_8601_f1a5,
+    0xaf63_de4c_8601_eff2,
+];
 
 // A map that gives each of those words its number.
 fn three(alloc: Global) -> Result<Version<ChosenKey, i64>, Fail> {
@@ -26,7 +30,7 @@ fn three(alloc: Global) -> Result<Version<ChosenKey, i64>, Fail> {
 }
 
 // The path word and the number of the walk's next pair.
-fn next_of(walk: &mut Walk<'_>) -> Option<(u32, i64)> {
+fn next_of(walk: &mut Walk<'_>) -> Option<(u64, i64)> {
     let (key, value) = walk.next()?;
     Some((key.path, **value))
 }
@@ -63,7 +67,10 @@ fn a_walk_of_a_version_meets_each_word(rt: HostRuntime) -> Result<(), Fail> {
     for (key, _) in pairs_of(alloc, &version)? {
         all ^= key.path;
     }
-    assert_eq!(rt; all, 0xe40c_292c ^ 0xe70c_2de5 ^ 0xe60c_2c52);
+    assert_eq!(rt;
+        all,
+        0xaf63_dc4c_8601_ec8c ^ 0xaf63_df4c_8601_f1a5 ^ 0xaf63_de4c_8601_eff2
+    );
     Ok(())
 }
 
@@ -79,7 +86,7 @@ fn the_empty_map_has_an_empty_walk(rt: HostRuntime) -> Result<(), Fail> {
 }
 
 // How many nodes a walk over a map with these path words has entered at its end.
-fn entered_of(alloc: Global, words: [u32; 3], count: u32) -> Result<u64, Fail> {
+fn entered_of(alloc: Global, words: [u64; 3], count: u32) -> Result<u64, Fail> {
     let mut version = Version::empty(alloc, 100, Stamp(1))?;
     for id in 0..3u32 {
         if id < count {
@@ -96,7 +103,8 @@ fn entered_of(alloc: Global, words: [u32; 3], count: u32) -> Result<u64, Fail> {
             )?;
         }
     }
-    let mut walk = pairs_of(alloc, &version)?;
+    let view = version.view()?;
+    let mut walk = pairs(alloc, &view)?;
     for _ in 0..3u32 {
         let _pair = walk.step();
     }
@@ -106,7 +114,7 @@ fn entered_of(alloc: Global, words: [u32; 3], count: u32) -> Result<u64, Fail> {
 #[test]
 fn a_walk_enters_each_node_once(rt: HostRuntime) -> Result<(), Fail> {
     let alloc = rt.alloc();
-    assert_eq!(rt; entered_of(alloc, [0, 0xc000_0000, 0], 2)?, 9);
+    assert_eq!(rt; entered_of(alloc, [0, 0xc000_0000_0000_0000, 0], 2)?, 15);
     assert_eq!(rt; entered_of(alloc, WORDS, 3)?, 4);
     assert_eq!(rt; entered_of(alloc, [0, 0, 0], 3)?, 2);
     assert_eq!(rt; entered_of(alloc, [0, 0, 0], 0)?, 1);

@@ -23,7 +23,7 @@ fn walks_list_random_maps(rt: HostRuntime) -> Result<(), Fail> {
 }
 
 // The positions of rows, each once, with the number of its rows.
-fn positions_of(alloc: Global, rows: &[Row]) -> Result<Vec<(u64, u32)>, AllocError> {
+fn positions_of(alloc: Global, rows: &[Row]) -> Result<Vec<(u128, u32)>, AllocError> {
     let mut positions = Vec::new(alloc);
     let mut count = 0u32;
     for (n, row) in rows.iter().enumerate() {
@@ -39,7 +39,7 @@ fn positions_of(alloc: Global, rows: &[Row]) -> Result<Vec<(u64, u32)>, AllocErr
 
 // The walk has entered the root at first, with the first pair of a position the nodes on the way to it, and none with
 // the others.
-fn assert_enters(rt: &impl Abort, walk: &mut Walk<'_>, positions: &[(u64, u32)]) {
+fn assert_enters(rt: &impl Abort, walk: &mut Walk<'_>, positions: &[(u128, u32)]) {
     let mut entered = 1u64;
     let mut before = None;
     for (n, (here, count)) in positions.iter().enumerate() {

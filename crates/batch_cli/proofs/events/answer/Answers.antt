@@ -1,7 +1,7 @@
 use Rattle.std.proofs.Common.{◌≡◌, sym, ap, ◌∙◌, None}
 use Rattle.handles.specs.Machine.{freeze}
 use Rattle.handles.specs.Views.{request_of}
-use Rattle.batch_cli.specs.Events.{asked, or_else_asked, or_else_in, request_for}
+use Rattle.questions.specs.Program.{asked, or_else_asked, or_else_in, request_for}
 use Rattle.batch_cli.proofs.Filing.{answered_as_served, answered_at_once}
 use Rattle.batch_cli.proofs.events.answer.Goals as goal
 

@@ -1,13 +1,14 @@
-use Rattle.std.proofs.Common.{rules, ◌≡◌, false, sym, subst, ◌∙◌}
+use Rattle.std.proofs.Common.{rules, ◌≡◌, false, true, sym, inl, inr, subst, ◌∙◌}
 use Rattle.std.proofs.lemmas.Bool.{false≢true}
-use Rattle.core_steps.specs.Collected.{IsCollected}
+use Rattle.core_steps.specs.Collected.{IsCollected, MayCollect}
 use Rattle.core_steps.specs.Desks.{IsJobOn}
 use Rattle.core_steps.proofs.Collections.{settled_collects}
 use Rattle.core_steps.proofs.Takings.{if_ok}
+use Rattle.core_steps.proofs.DueSteps.{at_err, if_err}
 use Rattle.core_steps.proofs.collecting.collected.Goals as goal
 
-pub returns : goal.returns
-returns g c =
+pub returns-clause-part : goal.returns-clause-part
+returns-clause-part g c =
     let R = g.K.Ord.cmp in
     let path = g.K.PathKey.path_of in
     let answers = g.B.Bulk.answers c.args.bulk.now in
@@ -17,4 +18,23 @@ returns g c =
     (λ part settles m job.
     subst (λ ds. IsCollected path answers decides m ds part) c.desks-desks.ensures
     (settled_collects path answers decides m c.desks-desks.result.now part (λ none. false≢true (sym no ∙ c.is_done.ensures.1 none)) (settles m (subst (IsJobOn R path answers m) (sym c.desks-desks.ensures) job))))
-    c.settled_part.ensures
+    c.settled_part.ensures.part
+
+pub returns-in_err-joined-clause-wanting : goal.returns-in_err-joined-clause-wanting
+returns-in_err-joined-clause-wanting g c =
+    let path = g.K.PathKey.path_of in
+    let answers = g.B.Bulk.answers c.args.bulk.now in
+    let decides = g.B.Bulk.decides c.args.bulk.now in
+    let yes : c.is_done.result ≡ true = search rules in
+    at_err c.from_residual.result
+    (λ m job. subst (MayCollect path answers decides m) c.desks-desks.ensures (inl (c.is_done.ensures.0 yes)))
+
+pub returns-clause-wanting : goal.returns-clause-wanting
+returns-clause-wanting g c =
+    let R = g.K.Ord.cmp in
+    let path = g.K.PathKey.path_of in
+    let answers = g.B.Bulk.answers c.args.bulk.now in
+    let decides = g.B.Bulk.decides c.args.bulk.now in
+    if_err _ _ c.settled_part.result
+    (λ decided m job. subst (MayCollect path answers decides m) c.desks-desks.ensures (inr (decided m (subst (IsJobOn R path answers m) (sym c.desks-desks.ensures) job))))
+    c.settled_part.ensures.wanting

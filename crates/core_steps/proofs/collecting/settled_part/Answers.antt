@@ -3,6 +3,7 @@ use Rattle.versions.specs.Map.{Map}
 use Rattle.combiner.specs.Unions.{IsWithin}
 use Rattle.combiner.specs.Bulks.{Apart, IsJoined}
 use Rattle.core_steps.proofs.Collections.{lasting_whole, may_join_unit, joined_unit, decided_here, undecided_upto}
+use Rattle.core_steps.proofs.DueSteps.{at_err}
 use Rattle.core_steps.proofs.collecting.settled_part.Goals as goal
 
 pub join-requires : goal.join-requires
@@ -19,8 +20,8 @@ join-requires g c =
     let whole = lasting_whole R path laws.map laws.apart laws.union answers m c.args.desks.now job c.loop-desk.desk-index d (omega arith) c.desk-item.is lasting in
     ∣ subst (Apart R answers c.in_ok-unit.unit) (sym c.part-part.ensures) (may_join_unit R path laws.map laws.apart laws.union answers m c.args.desks.now job c.in_ok-unit.unit d.part c.in_ok-unit.ensures whole) ∣₁
 
-pub returns-then-decided : goal.returns-then-decided
-returns-then-decided g c = λ m job.
+pub returns-then-decided-clause-part : goal.returns-then-decided-clause-part
+returns-then-decided-clause-part g c = λ m job.
     let R = g.K.Ord.cmp in
     let path = g.K.PathKey.path_of in
     let answers = g.B.Bulk.answers c.args.bulk.now in
@@ -43,5 +44,33 @@ loop-desk-preserved g c = λ m job.
     undecided_upto g.K.Ord.cmp g.K.PathKey.path_of laws.map laws.apart laws.union (g.B.Bulk.answers c.args.bulk.now) m c.args.desks.now job (g.B.Bulk.decides c.args.bulk.now) c.settled-decided.result c.loop-desk.desk-index c.desk-item.result c.part-part.result.now
     (omega arith) c.desk-item.is c.part-part.ensures c.settled-decided.ensures.exact no (c.loop-desk.invariant m job)
 
-pub returns : goal.returns
-returns g c = λ m job some. c.loop-desk.invariant m job some.0 (omega (arith, some.1)) some.2
+pub returns-clause-part : goal.returns-clause-part
+returns-clause-part g c = λ m job some. c.loop-desk.invariant m job some.0 (omega (arith, some.1)) some.2
+
+pub returns-in_err-unit-clause-wanting : goal.returns-in_err-unit-clause-wanting
+returns-in_err-unit-clause-wanting g c =
+    let R = g.K.Ord.cmp in
+    let path = g.K.PathKey.path_of in
+    let answers = g.B.Bulk.answers c.args.bulk.now in
+    let decides = g.B.Bulk.decides c.args.bulk.now in
+    let laws = c.parts_follow_intervals.ensures in
+    let yes : c.settled-decided.result ≡ true = search rules in
+    let d = c.desk-item.result in
+    let n = c.loop-desk.desk-index in
+    at_err c.from_residual.result
+    (λ m job.
+    (n, omega arith, decided_here R path laws.map laws.apart laws.union answers m c.args.desks.now job decides c.settled-decided.result n d c.part-part.result.now (omega arith) c.desk-item.is c.part-part.ensures c.settled-decided.ensures.exact yes))
+
+pub returns-in_err-both-clause-wanting : goal.returns-in_err-both-clause-wanting
+returns-in_err-both-clause-wanting g c =
+    let R = g.K.Ord.cmp in
+    let path = g.K.PathKey.path_of in
+    let answers = g.B.Bulk.answers c.args.bulk.now in
+    let decides = g.B.Bulk.decides c.args.bulk.now in
+    let laws = c.parts_follow_intervals.ensures in
+    let yes : c.settled-decided.result ≡ true = search rules in
+    let d = c.desk-item.result in
+    let n = c.loop-desk.desk-index in
+    at_err c.from_residual-in_err-both.result
+    (λ m job.
+    (n, omega arith, decided_here R path laws.map laws.apart laws.union answers m c.args.desks.now job decides c.settled-decided.result n d c.part-part.result.now (omega arith) c.desk-item.is c.part-part.ensures c.settled-decided.ensures.exact yes))

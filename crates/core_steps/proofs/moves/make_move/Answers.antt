@@ -5,7 +5,7 @@ use Rattle.core_steps.specs.Boards.{named_by}
 use Rattle.core_steps.specs.Moves.{MovesTo, move_of}
 use Rattle.core_steps.specs.Views.{turn_of}
 use Rattle.core_steps.proofs.MoveSteps.{take_moves, steal_moves, split_moves, work_moves}
-use Rattle.core_steps.proofs.Takings.{if_ok}
+use Rattle.core_steps.proofs.Takings.{both_ok, if_ok}
 use Rattle.core_steps.proofs.moves.make_move.Goals as goal
 
 pub take-requires : goal.take-requires
@@ -85,9 +85,9 @@ returns-in-Work-clause-ok g c =
     let n = length c.args.board.now in
     let there = All-head (λ w. w < n) c.in-Work.worker [] (subst (λ x. All (λ w. w < n) (named_by (move_of x))) c.in-Work.is c.requires.named) in
     if_ok _ _ c.work_on.result
-    (λ progress works m job.
-    let done = works m job in
+    (λ progress both m job.
+    let done = both.0 m job in
     subst (λ x. MovesTo R path answers decides m c.args.grain c.args.board.now (move_of x) (turn_of progress) c.work_on.new.board) (sym c.in-Work.is)
-    (work_moves R path answers decides m c.args.grain c.args.board.now c.work_on.new.board (turn_of progress) c.in-Work.worker done
+    (work_moves R path answers decides m c.args.grain c.args.board.now c.work_on.new.board (turn_of progress) c.in-Work.worker done both.1
     (c.law_of_jobs.ensures.works m c.args.board.now c.work_on.new.board (turn_of progress) c.in-Work.worker there done job)))
-    c.work_on.ensures.ok
+    (both_ok _ _ c.work_on.result c.work_on.ensures.ok c.work_on.ensures.parts)

@@ -1,4 +1,5 @@
 use Rattle.std.proofs.Common.{◌≡◌, ◌+◌, ◌-◌, ◌/◌, ◌<◌, ℕ, suc, ◌∷◌, length, get_or, sym, ap, ◌∙◌, subst, arith}
+use Rattle.hash_path.specs.Digits.{fan_out}
 use Rattle.trie_shape.specs.Tree.{digits_from}
 use Rattle.splitter.proofs.Rows.{digits_at_start, set_next, unset_next}
 use Rattle.splitter.proofs.digits.nth_digit.Goals.{then-rest-eq1+else-left-eq0, else-rest-eq1}
@@ -12,8 +13,8 @@ loop-digit-init c =
 pub loop-digit-preserved : goal.loop-digit-preserved
 loop-digit-preserved c =
     let l = c.loop-digit in
-    let k : ℕ = 32 - (l.digit + 1) in
-    let more : 32 - l.digit ≡ suc k = omega (arith, c.loop-digit-test.true) in
+    let k : ℕ = fan_out - (l.digit + 1) in
+    let more : fan_out - l.digit ≡ suc k = omega (arith, c.loop-digit-test.true) in
     let here = ap (λ n. digits_from n l.digit l.rest) more in
     elim c.if-rest-eq1.branch [
       | then-rest-eq1+else-left-eq0 w ↦

@@ -1,5 +1,6 @@
 use Rattle.std.proofs.Common.{rules, ◌≡◌, ◌+◌, ◌<◌, ◌++◌, [], ◌∷◌, length, map, bit_or, option_map, IfSome, sym, ap, ◌∙◌, subst, arith}
 use Rattle.std.proofs.lemmas.List.{map-append}
+use Rattle.hash_path.specs.Digits.{fan_out}
 use Rattle.trie_node.specs.Merges.{child_at}
 use Rattle.trie_shape.specs.Tree.{entries, entries_of_all, trees, IsTrie}
 use Rattle.trie_shape.specs.View.{tree}
@@ -64,7 +65,7 @@ merge_branches-loop-digit-preserved g t c =
     let row = map tree c.loop-digit.children.items in
     let o = option_map tree c.in_ok-merged.merged in
     let m = merges_same R path (a.level + 1) a.stamp.0 _ _ (child_at lt k) (child_at rt k) o c.child_of-left_child.ensures c.child_of-right_child.ensures c.in_ok-merged.ensures in
-    let below : k < 32 = omega (arith, c.loop-digit-test.true) in
+    let below : k < fan_out = omega (arith, c.loop-digit-test.true) in
     elim c.match-merged.branch [
       | merge_branches-in-Some+in_ok-push w ↦
           let child = tree w.in-Some.child in
@@ -97,5 +98,5 @@ merge_branches-returns g t c =
     let l = side R path exact a.level a.left_bitmap lt c.requires.left c.requires.both.left_trie in
     let r = side R path exact a.level a.right_bitmap rt c.requires.right c.requires.both.right_trie in
     let row = map tree c.loop-digit.children.items in
-    let whole = subst (λ k. IsRow R path a.level a.stamp.0 (bit_or a.left_bitmap a.right_bitmap) lt rt k row) {x = c.loop-digit.digit} {y = 32} (omega (arith, c.loop-digit-test.false)) c.loop-digit.invariant.row in
+    let whole = subst (λ k. IsRow R path a.level a.stamp.0 (bit_or a.left_bitmap a.right_bitmap) lt rt k row) {x = c.loop-digit.digit} {y = fan_out} (omega (arith, c.loop-digit-test.false)) c.loop-digit.invariant.row in
     on_ok c.make_branch.result _ _ (λ n made. row_done R path exact a.level a.left_bitmap a.right_bitmap lt rt l r c.requires.both a.stamp.0 row whole c.loop-digit.pairs c.loop-digit.invariant.counted (tree n) made) c.make_branch.ensures

@@ -1,5 +1,6 @@
 use Rattle.std.proofs.Common.{rules, ◌≡◌, ◌+◌, ◌*◌, ◌<◌, ◌%◌, ◌^◌, length, map, take, get_or, Some, option_map, sym, ap, ◌∙◌, subst, arith}
 use Rattle.std.proofs.lemmas.List.{length-map, get_or-map}
+use Rattle.hash_path.specs.Digits.{digit_bits}
 use Rattle.trie_node.specs.Merges.{PutsEach}
 use Rattle.trie_shape.specs.View.{tree, pair_values}
 use Rattle.trie_node.specs.Writes.{WritesWhere}
@@ -20,7 +21,7 @@ put_at-requires-clause-agree g c =
     let is : pair_values item ≡ get_or es i (pair_values item) = ap pair_values c.loop-key-item.is ∙ sym (get_or-map pair_values a.pairs.now i item (pair_values item) within) in
     let word : c.path.result.0 ≡ path item.0.value = search rules in
     let agree = agree_next R path g.met.K.Ord.total g.met.K.PathKey.exact a.level a.stamp.0 (g.C.Condition.holds a.condition.now) a.stamp.0 es (tree a.node.now) c.requires i (pair_values item) lt is (tree c.loop-key.all) c.loop-key.invariant in
-    λ q found. agree q found ∙ ap (λ w. w % 2 ^ (5 * a.level)) (sym word)
+    λ q found. agree q found ∙ ap (λ w. w % 2 ^ (digit_bits * a.level)) (sym word)
 
 pub loop-key-preserved : goal.loop-key-preserved
 loop-key-preserved g c =

@@ -1,5 +1,6 @@
 use Rattle.std.proofs.Common.{◌-◌}
+use Rattle.hash_path.specs.Digits.{word_digits}
 use Rattle.trie_node.proofs.put.+split.Given as goal
 
 abbrev pub decreases-split : goal.decreases-split
-decreases-split g l = 7 - l.level
+decreases-split g l = word_digits - l.level

@@ -2,7 +2,7 @@ use Rattle.std.proofs.Common.{◌≡◌, None, false, sym, subst}
 use Rattle.handles.specs.Machine.{abandon, refusal}
 use Rattle.handles.specs.Views.{unit_outcome}
 use Rattle.core_steps.specs.Cores.{of_client}
-use Rattle.core_steps.specs.Posts.{IsWhole, posts_of, core_of}
+use Rattle.core_steps.specs.Posts.{IsWhole, posts_of, value_of}
 use Rattle.core_steps.specs.Queries.{asked, divided}
 use Rattle.core_steps.specs.Steps.{IsAnswered, StepsTo, takes_no_memory}
 use Rattle.core_steps.specs.declared.outcome.Outcome.TheVariants.{Abandoned}
@@ -20,10 +20,10 @@ returns-in-Err-clause-step g c =
     let t = c.self.inside in
     let ps = t.posts.items in
     let division = divided path g.Q.Bulk.decides in
-    let after = core_of c.abandon.new.self (posts_of ps) t.workers t.grain in
+    let after = value_of c.abandon.new.self (posts_of ps) t.workers t.grain in
     let answered = (refusal_whole R path g.Q.Bulk.answers g.Q.Bulk.ready kind g.Q.Bulk.decides cuts unit_outcome t.table c.abandon.new.self (posts_of ps) t.workers t.grain (abandon c.args.job) c.in-Err.refusal c.in-Err.ensures.step c.self.invariant).0 in
     subst (λ s. IsAnswered kind division s (of_client (abandon c.args.job)) c.refused.result after) c.self.view_is
-    (subst (λ r. IsAnswered kind division (core_of t.table (posts_of ps) t.workers t.grain) (of_client (abandon c.args.job)) r after) (sym c.refused.ensures) answered)
+    (subst (λ r. IsAnswered kind division (value_of t.table (posts_of ps) t.workers t.grain) (of_client (abandon c.args.job)) r after) (sym c.refused.ensures) answered)
 
 pub invariant_of-self-2 : goal.invariant_of-self-2
 invariant_of-self-2 g c =
@@ -46,13 +46,13 @@ returns-clause-step g c =
     let ps = t.posts.items in
     let division = divided path g.Q.Bulk.decides in
     let closed = abandoned_whole R path g.Q.Bulk.answers g.Q.Bulk.ready kind g.Q.Bulk.decides cuts t.table c.abandon.new.self (posts_of ps) t.workers t.grain c.args.job c.in-Ok.ensures.step c.self.invariant in
-    subst (λ s. StepsTo kind division s (of_client (abandon c.args.job)) Abandoned (core_of c.abandon.new.self (posts_of c.close.new.posts.items) t.workers t.grain)) c.self.view_is
-    (subst (λ posts. StepsTo kind division (core_of t.table (posts_of ps) t.workers t.grain) (of_client (abandon c.args.job)) Abandoned (core_of c.abandon.new.self posts t.workers t.grain)) (sym c.close.ensures) closed.0)
+    subst (λ s. StepsTo kind division s (of_client (abandon c.args.job)) Abandoned (value_of c.abandon.new.self (posts_of c.close.new.posts.items) t.workers t.grain)) c.self.view_is
+    (subst (λ posts. StepsTo kind division (value_of t.table (posts_of ps) t.workers t.grain) (of_client (abandon c.args.job)) Abandoned (value_of c.abandon.new.self posts t.workers t.grain)) (sym c.close.ensures) closed.0)
 
 pub returns-in-Err-clause-due : goal.returns-in-Err-clause-due
 returns-in-Err-clause-due g c =
     let kind = asked g.K.Ord.cmp g.V.PartialEq.eq g.Q.Asks.target_of g.Q.Asks.answered in
-    never_wanting (refusal kind c.args.self.now.machine (abandon c.args.job) ≡ None) c.refused.result c.in-Err.refusal c.refused.ensures c.in-Err.ensures.memory
+    never_wanting (refusal kind c.args.self.now.state.machine (abandon c.args.job) ≡ None) c.refused.result c.in-Err.refusal c.refused.ensures c.in-Err.ensures.memory
 
 pub returns-in-Err-clause-memory : goal.returns-in-Err-clause-memory
 returns-in-Err-clause-memory g c =

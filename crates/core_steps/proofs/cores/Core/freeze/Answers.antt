@@ -6,7 +6,7 @@ use Rattle.handles.specs.Views.{frozen_outcome}
 use Rattle.core_steps.specs.Boards.{first_board}
 use Rattle.core_steps.specs.Cores.{Asked, of_client}
 use Rattle.core_steps.specs.Desks.{IsJobOn, IsVacant}
-use Rattle.core_steps.specs.Posts.{IsWhole, posts_of, core_of}
+use Rattle.core_steps.specs.Posts.{IsWhole, posts_of, value_of}
 use Rattle.core_steps.specs.Queries.{asked, divided}
 use Rattle.core_steps.specs.Steps.{IsAnswered, StepsTo}
 use Rattle.core_steps.specs.declared.post.Post.{Post}
@@ -29,9 +29,9 @@ returns-in-Err-clause-step g c =
     let asks : Asked g.row.K.Denot g.row.V.Denot g.row.Q.Denot = of_client (freeze c.args.handle c.args.query.value) in
     let answered = (refusal_whole R path g.Q.Bulk.answers g.Q.Bulk.ready kind g.Q.Bulk.decides cuts frozen_outcome t.table c.freeze.new.self (posts_of ps) t.workers t.grain (freeze c.args.handle c.args.query.value) c.in-Err.refusal c.in-Err.ensures.step c.self.invariant).0 in
     let same : c.reserve.new.self.items ≡ ps = search rules in
-    subst (λ s. IsAnswered kind division s asks c.refused.result (core_of c.freeze.new.self (posts_of c.reserve.new.self.items) t.workers t.grain)) c.self.view_is
-    (subst (λ qs. IsAnswered kind division (core_of t.table (posts_of ps) t.workers t.grain) asks c.refused.result (core_of c.freeze.new.self (posts_of qs) t.workers t.grain)) (sym same)
-    (subst (λ r. IsAnswered kind division (core_of t.table (posts_of ps) t.workers t.grain) asks r (core_of c.freeze.new.self (posts_of ps) t.workers t.grain)) (sym c.refused.ensures) answered))
+    subst (λ s. IsAnswered kind division s asks c.refused.result (value_of c.freeze.new.self (posts_of c.reserve.new.self.items) t.workers t.grain)) c.self.view_is
+    (subst (λ qs. IsAnswered kind division (value_of t.table (posts_of ps) t.workers t.grain) asks c.refused.result (value_of c.freeze.new.self (posts_of qs) t.workers t.grain)) (sym same)
+    (subst (λ r. IsAnswered kind division (value_of t.table (posts_of ps) t.workers t.grain) asks r (value_of c.freeze.new.self (posts_of ps) t.workers t.grain)) (sym c.refused.ensures) answered))
 
 pub invariant_of-self-in-Err : goal.invariant_of-self-in-Err
 invariant_of-self-in-Err g c =
@@ -79,11 +79,11 @@ returns-clause-step g c =
     let longer : c.push_reserved.new.self.items ≡ ps ++ p ∷ [] = search rules in
     let job = subst (λ q. IsJobOn R path (g.Q.Bulk.answers q) c.in-Ok.opened.1 c.begin_whole.new.vacant) c.deref-3.ensures c.begin_whole.ensures.job in
     let pushed = pushed_whole R path g.Q.Bulk.answers g.Q.Bulk.ready kind g.Q.Bulk.decides cuts t.table ps t.workers t.grain c.self.invariant c.freeze.new.self c.args.handle c.args.query.value c.in-Ok.opened.1 p c.in-Ok.ensures.step same c.requires job (c.begin_whole.ensures.first ∙ ap first_board c.in_ok-board.ensures.count) in
-    subst (λ s. StepsTo kind division s asks (Frozen c.in-Ok.opened.0) (core_of c.freeze.new.self (posts_of c.push_reserved.new.self.items) t.workers t.grain)) c.self.view_is
-    (subst (λ qs. StepsTo kind division (core_of t.table (posts_of ps) t.workers t.grain) asks (Frozen c.in-Ok.opened.0) (core_of c.freeze.new.self (posts_of qs) t.workers t.grain)) (sym longer) pushed.0)
+    subst (λ s. StepsTo kind division s asks (Frozen c.in-Ok.opened.0) (value_of c.freeze.new.self (posts_of c.push_reserved.new.self.items) t.workers t.grain)) c.self.view_is
+    (subst (λ qs. StepsTo kind division (value_of t.table (posts_of ps) t.workers t.grain) asks (Frozen c.in-Ok.opened.0) (value_of c.freeze.new.self (posts_of qs) t.workers t.grain)) (sym longer) pushed.0)
 
 pub returns-in-Err-clause-due : goal.returns-in-Err-clause-due
 returns-in-Err-clause-due g c =
     let kind = asked g.K.Ord.cmp g.V.PartialEq.eq g.Q.Asks.target_of g.Q.Asks.answered in
-    due_refused (refusal kind c.args.self.now.machine (freeze c.args.handle c.args.query.value) ≡ None) c.refused.result c.in-Err.refusal c.refused.ensures
-    (λ lacks. subst (λ s. refusal kind s.machine (freeze c.args.handle c.args.query.value) ≡ None) c.self.view_is (c.in-Err.ensures.due lacks))
+    due_refused (refusal kind c.args.self.now.state.machine (freeze c.args.handle c.args.query.value) ≡ None) c.refused.result c.in-Err.refusal c.refused.ensures
+    (λ lacks. subst (λ s. refusal kind s.state.machine (freeze c.args.handle c.args.query.value) ≡ None) c.self.view_is (c.in-Err.ensures.due lacks))

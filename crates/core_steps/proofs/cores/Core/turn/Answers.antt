@@ -2,7 +2,7 @@ use Rattle.std.proofs.Common.{◌≡◌, ◌∙◌, None, set, sym, subst}
 use Rattle.core_steps.specs.Cores.{of_worker, refusal_of}
 use Rattle.core_steps.specs.Desks.{IsJobOn}
 use Rattle.core_steps.specs.Moves.{move_of}
-use Rattle.core_steps.specs.Posts.{IsPlaceOf, posts_of, core_of, post_of}
+use Rattle.core_steps.specs.Posts.{IsPlaceOf, posts_of, value_of, post_of}
 use Rattle.core_steps.specs.Queries.{asked, divided}
 use Rattle.core_steps.specs.Steps.{StepsTo}
 use Rattle.versions.specs.declared.refusal.Refusal.TheVariants.{NoWorker}
@@ -100,7 +100,7 @@ returns-clause-step g c =
     let d = c.index_mut-post.result.now in
     let moved = moved_here R path g.Q.Bulk.answers g.Q.Bulk.ready kind g.Q.Bulk.decides cuts t.table ps t.workers t.grain c.self.invariant c.args.job c.in-Some.place lies
     d (move_of c.args.chosen) c.in_ok-progress.progress c.deref-2.result.now c.make_move.new.board c.index_mut-post.ensures.value c.deref-2.ensures (sym c.names_other.ensures ∙ c.if-names_other.false) c.in_ok-progress.ensures.ok in
-    subst (λ s. StepsTo kind (divided path g.Q.Bulk.decides) s (of_worker c.args.job (move_of c.args.chosen)) (Turn c.in_ok-progress.progress) (core_of t.table (posts_of (set ps c.in-Some.place (record d { board = c.make_move.new.board }))) t.workers t.grain)) c.self.view_is moved.0
+    subst (λ s. StepsTo kind (divided path g.Q.Bulk.decides) s (of_worker c.args.job (move_of c.args.chosen)) (Turn c.in_ok-progress.progress) (value_of t.table (posts_of (set ps c.in-Some.place (record d { board = c.make_move.new.board }))) t.workers t.grain)) c.self.view_is moved.0
 
 pub returns-in_err-progress-clause-due : goal.returns-in_err-progress-clause-due
 returns-in_err-progress-clause-due g c =
@@ -111,6 +111,6 @@ returns-in_err-progress-clause-due g c =
     let t = c.self.inside in
     let ps = t.posts.items in
     let lies = subst (λ qs. IsPlaceOf qs c.args.job c.in-Some.place) c.deref.ensures.value c.in-Some.ensures.some in
-    at_err c.from_residual.result (subst (λ s. refusal_of s c.args.job (move_of c.args.chosen) ≡ None) c.self.view_is
+    at_err c.from_residual.result (subst (λ s. refusal_of s.state c.args.job (move_of c.args.chosen) ≡ None) c.self.view_is
     (move_unrefused R path g.Q.Bulk.answers g.Q.Bulk.ready kind g.Q.Bulk.decides cuts t.table ps t.workers t.grain c.self.invariant c.args.job c.in-Some.place lies
     (move_of c.args.chosen) (sym c.names_other.ensures ∙ c.if-names_other.false)))

@@ -40,6 +40,20 @@ nth_digit-digit-requires g c =
     let place = c.loop-spot.invariant in
     omega (arith, c.loop-spot-test.true, place.order, place.within, children_long t s.bitmap (c.trie_follows_digits.ensures.fits t s.level place.trie) place.shown)
 
+pub overflow_mul-spot : goal.overflow_mul-spot
+overflow_mul-spot g c =
+    let R = g.K.Ord.cmp in
+    let path = g.K.PathKey.path_of in
+    let m = c.args.self.now.map in
+    let i = c.args.self.now.interval in
+    let s = c.loop-spot.spot in
+    let t = tree s.branch.now in
+    let place = c.loop-spot.invariant in
+    let there : s.from < length (children t) = omega (arith, c.loop-spot-test.true, place.order, place.within) in
+    let digit = c.from.ensures ∙ c.nth_digit-digit.ensures in
+    let value : c.from.result * c.weight_at.result ≡ get_or (digits_of s.bitmap) s.from 0 * breadth word_bits (s.level + 1) = λ n. digit n * c.weight_at.ensures n in
+    omega (arith, value, stretch_within R path c.walk_lists_map.ensures.count c.walk_lists_map.ensures.passing c.shared_digits_are_interval.ensures.interval c.digits_determine_word.ensures.shared c.shared_digits_are_interval.ensures.step c.position_is_bijection.ensures.below g.met.K.PathKey.small c.trie_follows_digits.ensures.fits c.trie_follows_digits.ensures.branch c.trie_follows_digits.ensures.below c.trie_follows_digits.ensures.digits c.branch_is_its_children.ensures.pairs m i t s.bitmap s.level s.base s.from s.to place s.from there)
+
 pub overflow_add-spot-in-loop-spot : goal.overflow_add-spot-in-loop-spot
 overflow_add-spot-in-loop-spot g c =
     let R = g.K.Ord.cmp in
@@ -51,7 +65,7 @@ overflow_add-spot-in-loop-spot g c =
     let place = c.loop-spot.invariant in
     let there : s.from < length (children t) = omega (arith, c.loop-spot-test.true, place.order, place.within) in
     let digit = c.from.ensures ∙ c.nth_digit-digit.ensures in
-    let value : c.from.result * c.width.result ≡ get_or (digits_of s.bitmap) s.from 0 * breadth word_bits (s.level + 1) = λ n. digit n * c.width.ensures n in
+    let value : c.from.result * c.weight_at.result ≡ get_or (digits_of s.bitmap) s.from 0 * breadth word_bits (s.level + 1) = λ n. digit n * c.weight_at.ensures n in
     omega (arith, value, stretch_within R path c.walk_lists_map.ensures.count c.walk_lists_map.ensures.passing c.shared_digits_are_interval.ensures.interval c.digits_determine_word.ensures.shared c.shared_digits_are_interval.ensures.step c.position_is_bijection.ensures.below g.met.K.PathKey.small c.trie_follows_digits.ensures.fits c.trie_follows_digits.ensures.branch c.trie_follows_digits.ensures.below c.trie_follows_digits.ensures.digits c.branch_is_its_children.ensures.pairs m i t s.bitmap s.level s.base s.from s.to place s.from there)
 
 pub loop-spot-preserved : goal.loop-spot-preserved
@@ -67,7 +81,7 @@ loop-spot-preserved g c =
     let there : s.from < length (children t) = omega (arith, c.loop-spot-test.true, place.order, place.within) in
     let only : s.to ≡ s.from + 1 = omega (arith, c.loop-spot-test.true, place.order) in
     let digit = c.from.ensures ∙ c.nth_digit-digit.ensures in
-    let value : c.from.result * c.width.result ≡ get_or (digits_of s.bitmap) s.from 0 * breadth word_bits (s.level + 1) = λ n. digit n * c.width.ensures n in
+    let value : c.from.result * c.weight_at.result ≡ get_or (digits_of s.bitmap) s.from 0 * breadth word_bits (s.level + 1) = λ n. digit n * c.weight_at.ensures n in
     let trie = (c.trie_follows_digits.ensures.below t u s.level s.from place.trie there c.child-only.ensures).0 in
     let few = c.bitmap_counts_children.ensures.count u c.in-Branch.bitmap (c.trie_follows_digits.ensures.fits u (s.level + 1) trie) c.in-Branch.ensures in
     let below = place_below R path c.walk_lists_map.ensures.count c.walk_lists_map.ensures.passing c.shared_digits_are_interval.ensures.interval c.digits_determine_word.ensures.shared c.shared_digits_are_interval.ensures.step c.position_is_bijection.ensures.below g.met.K.PathKey.small c.trie_follows_digits.ensures.fits c.trie_follows_digits.ensures.branch c.trie_follows_digits.ensures.below c.trie_follows_digits.ensures.digits c.branch_is_its_children.ensures.pairs m i t s.bitmap s.level s.base s.from s.to place u only there c.child-only.ensures c.in-Branch.bitmap (count_ones c.in-Branch.bitmap) c.in-Branch.ensures few in

@@ -1,0 +1,4 @@
+pub mod LineLemmas
+pub mod NewlineLemmas
+pub mod ReadLemmas
+pub mod LineEnds

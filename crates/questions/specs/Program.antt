@@ -1,0 +1,115 @@
+-- The machine of a program of scripts, and the replies that show its outcomes.
+use Rattle.std.specs.Prelude.{ℕ, ℤ, Bool, true, false, List, Option, Some, None}
+use Rattle.std.specs.Ordering.{int_eq}
+use Rattle.std.specs.Arc.{arc_value}
+use Rattle.versions.specs.Commands.{get, put, put_if_absent, replace, replace_if, remove, remove_if, size, clear, old, done, cleared}
+use Rattle.versions.specs.Commands as commands
+use Rattle.handles.specs.declared.limits.Limits.{Limits}
+use Rattle.handles.specs.Machine.{Kind, State, Request, open_handle, snapshot, drop_handle, on, view, freeze, Outcome, made, replied, viewed, finished, refused}
+use Rattle.handles.specs.Views.{machine, request_of}
+use Rattle.bulk_ops.specs.Answers as plain
+use Rattle.keys.specs.Order.{bytes_cmp}
+use Rattle.script.specs.declared.statement.Statement.{Statement}
+use Rattle.script.specs.declared.statement.Statement.TheVariants.{Open, Snap, Drop, Get, Put, PutIfAbsent, Replace, ReplaceIf, Remove, RemoveIf, GetOrElse, Size, Clear, Pairs, Count, Exists, ForAll, Find, Filter, MapValues, Fold}
+use Rattle.script.specs.declared.reply.LineReply.{LineReply}
+use Rattle.script.specs.declared.reply.LineReply.TheVariants as replies
+use Rattle.questions.specs.Folds.{Item}
+use Rattle.questions.specs.declared.ask.Ask.{Ask}
+use Rattle.questions.specs.declared.ask.Ask.TheVariants as asks
+use Rattle.questions.specs.Queries.{ScriptQuestion, count, exists, for_all, find, filtered, mapped, fold, answers, target_of}
+
+-- what a question is answered
+abbrev pub ProgramAnswer : Type 0
+ProgramAnswer = plain.Answer (List ℕ) ℤ Item
+
+-- what is told of that
+abbrev pub ProgramTold : Type 0
+ProgramTold = plain.Told (List ℕ) ℤ Item
+
+-- the machine of the program: its keys are in the order of their bytes, its values are numbers, and a question has its answers
+abbrev pub program : Kind (List ℕ) ℤ ScriptQuestion ProgramAnswer ProgramTold
+program = machine bytes_cmp int_eq target_of answers
+
+-- a state of that machine
+abbrev pub ProgramState : Type 0
+ProgramState = State (List ℕ) ℤ ScriptQuestion
+
+-- what that machine is asked
+abbrev pub ProgramRequest : Type 0
+ProgramRequest = Request (List ℕ) ℤ ScriptQuestion
+
+-- what it is answered
+abbrev pub ProgramOutcome : Type 0
+ProgramOutcome = Outcome (List ℕ) ℤ ProgramTold
+
+-- how much the maps and the journal of a program may hold
+abbrev pub largest : Limits
+largest = record { pairs = 16777216; entries = 1048576 }
+
+-- the reply that tells an answer
+abbrev pub told_reply : ProgramTold → LineReply
+told_reply (plain.Told.number n) = replies.Count n
+told_reply (plain.Told.truth b) = replies.Truth b
+told_reply (plain.Told.found None) = replies.Absent
+told_reply (plain.Told.found (Some pair)) = replies.Pair pair.0 pair.1
+told_reply (plain.Told.made pairs) = replies.Count pairs
+told_reply (plain.Told.item None) = replies.Absent
+told_reply (plain.Told.item (Some n)) = replies.Item n
+
+-- the reply that shows the outcome of a request
+abbrev pub reply_to : ProgramOutcome → Option LineReply
+reply_to made = Some replies.Done
+reply_to (replied (old None)) = Some replies.Absent
+reply_to (replied (old (Some value))) = Some (replies.Found value)
+reply_to (replied (done b)) = Some (replies.Truth b)
+reply_to (replied (commands.count number)) = Some (replies.Count number)
+reply_to (replied cleared) = Some replies.Done
+reply_to (viewed pairs) = Some (replies.Pairs pairs)
+reply_to (finished told) = Some (told_reply told)
+reply_to (refused refusal) = Some (replies.Refused refusal)
+reply_to _ = None
+
+-- the request of a statement; of `getorelse`, which may make two, and of a bulk verb, which makes a freeze and a finish, the first
+abbrev pub request_for : Statement → ProgramRequest
+request_for (Open handle) = open_handle handle
+request_for (Snap handle target) = snapshot handle target
+request_for (Drop handle) = drop_handle handle
+request_for (Get handle key) = on handle (get key)
+request_for (Put handle key value) = on handle (put key value)
+request_for (PutIfAbsent handle key value) = on handle (put_if_absent key value)
+request_for (Replace handle key value) = on handle (replace key value)
+request_for (ReplaceIf handle key was value) = on handle (replace_if key was value)
+request_for (Remove handle key) = on handle (remove key)
+request_for (RemoveIf handle key value) = on handle (remove_if key value)
+request_for (GetOrElse handle key value) = on handle (get key)
+request_for (Size handle) = on handle size
+request_for (Clear handle) = on handle clear
+request_for (Pairs handle) = view handle
+request_for (Count handle test) = freeze handle (count test)
+request_for (Exists handle test) = freeze handle (exists test)
+request_for (ForAll handle test) = freeze handle (for_all test)
+request_for (Find handle test) = freeze handle (find test)
+request_for (Filter handle test target) = freeze handle (filtered test target)
+request_for (MapValues handle mapping target) = freeze handle (mapped mapping target)
+request_for (Fold handle folding) = freeze handle (fold folding)
+
+-- the request that something asked of the map is, or the first of two
+abbrev pub asked : Ask → ProgramRequest
+asked (asks.Call call) = request_of call
+asked (asks.View handle) = view handle
+asked (asks.Job handle question) = freeze handle question
+asked (asks.GetOrElse handle key value) = on handle (get (arc_value key))
+
+-- the handle, the key and the value of a getorelse
+abbrev pub or_else_in : Statement → Option (ℕ × List ℕ × ℤ)
+or_else_in (GetOrElse handle key value) = Some (handle, key, value)
+or_else_in statement = None
+
+abbrev pub or_else_asked : Ask → Option (ℕ × List ℕ × ℤ)
+or_else_asked (asks.GetOrElse handle key value) = Some (handle, arc_value key, value)
+or_else_asked ask = None
+
+-- whether the question asks for some pair, of which there may be several
+abbrev pub asks_pair : ScriptQuestion → Bool
+asks_pair (find test) = true
+asks_pair q = false

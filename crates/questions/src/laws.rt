@@ -1,0 +1,18 @@
+//! Laws of the program's machine. Each function says one, and does nothing.
+
+ghost use Rattle.questions.specs.Laws.{FinishesLeaveOne, FinishesTellOne, HaveOneOutcome};
+
+/// A request that is neither a finish nor a worker's step has one outcome in a state, and leaves one state.
+pub fn requests_have_one_outcome()
+    ensures { HaveOneOutcome }
+{}
+
+/// A finish that is made leaves one state, whatever pair is told where one is asked for.
+pub fn finishes_leave_one_state()
+    ensures { FinishesLeaveOne }
+{}
+
+/// Of a job that asks for no pair, a finish tells one answer and leaves one state.
+pub fn finishes_tell_one_answer()
+    ensures { FinishesTellOne }
+{}

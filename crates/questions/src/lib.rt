@@ -1,0 +1,19 @@
+//! What a program of scripts asks of a map: the queries of the bulk verbs with their closures and folds, the calls of
+//! the other verbs, and the replies that tell what is answered.
+//!
+//! Contracts see the table of such a program as one machine, whose laws are here too.
+#![tactic(auto)]
+
+mod ask;
+mod closures;
+mod fold;
+mod laws;
+mod listing;
+mod query;
+mod telling;
+
+pub use ask::{Ask, ask_of};
+pub use laws::{finishes_leave_one_state, finishes_tell_one_answer, requests_have_one_outcome};
+pub use listing::listing_of;
+pub use query::{ScriptPart, ScriptQuery};
+pub use telling::told;

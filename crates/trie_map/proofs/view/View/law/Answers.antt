@@ -1,0 +1,11 @@
+use Rattle.std.proofs.Common.{sym, ◌∙◌, subst}
+use Rattle.trie_shape.specs.Order.{walked}
+use Rattle.trie_map.specs.Rules.{AllKeep}
+use Rattle.trie_map.proofs.Keeping.{kept_listing}
+use Rattle.trie_map.proofs.view.View.law.Goals as goal
+
+pub returns-clause-walked : goal.returns-clause-walked
+returns-clause-walked g c =
+    let here : AllKeep g.K.Ord.cmp g.P.Keeps.holds c.args.self.now = subst (AllKeep g.K.Ord.cmp g.P.Keeps.holds) c.self.view_is c.self.invariant in
+    kept_listing g.K.Ord.cmp g.P.Keeps.holds g.met.K.Ord.total g.met.K.PathKey.exact (walked g.K.Ord.cmp g.K.PathKey.path_of c.args.self.now) (c.walk_lists_map.ensures.once c.args.self.now)
+    (λ k v found. here k v (sym (c.walk_lists_map.ensures.finds c.args.self.now k) ∙ found))

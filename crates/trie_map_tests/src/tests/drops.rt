@@ -1,0 +1,102 @@
+//! When the pairs that a map lets go are dropped.
+use super::{assert_is, key};
+use std::alloc::Global;
+use std::sync::atomic::{AtomicU32, Ordering};
+use std::sync::{Arc, Wait};
+use std::thread;
+use std::thread::Threads;
+use test_keys::ChosenKey;
+use trie_map::{Refusal, TrieMap};
+
+// How often a thread lets others run before it gives up.
+const PATIENCE: u32 = 4_000_000;
+
+// What two threads tell one another.
+#[derive(Drop)]
+struct Signs {
+    // Whether a value is being dropped.
+    dropping: AtomicU32,
+    // Whether all stripes were locked since.
+    locked: AtomicU32,
+    // How many values were dropped while a stripe could be locked, and how many while none could.
+    free: AtomicU32,
+    held: AtomicU32,
+}
+
+// Waits for another thread to set the sign, and answers whether it did.
+fn wait_for(sign: &AtomicU32) -> bool {
+    for _ in 0..PATIENCE {
+        if sign.load(Ordering::SeqCst) != 0 {
+            return true;
+        }
+        thread::yield_now();
+    }
+    false
+}
+
+// A value whose drop waits until another thread has locked all stripes.
+struct Waiting {
+    signs: Arc<Signs, Global>,
+}
+
+impl Drop for Waiting {
+    fn drop(self) {
+        let Waiting { signs } = self;
+        signs.dropping.store(1, Ordering::SeqCst);
+        let count = if wait_for(&signs.locked) {
+            &signs.free
+        } else {
+            &signs.held
+        };
+        count.fetch_add(1, Ordering::SeqCst);
+    }
+}
+
+type Values = TrieMap<ChosenKey, Waiting>;
+
+// Puts a pair, and clears the map.
+fn put_and_clear<R: Wait>(rt: &R, map: &Values, signs: &Arc<Signs, Global>) -> Result<(), Refusal> {
+    let signs = Arc::try_clone(signs)?;
+    map.put(rt, key(3, 0), Waiting { signs })?;
+    map.clear(rt)?;
+    Ok(())
+}
+
+// Locks all stripes once a value is being dropped.
+fn lock_all<R: Wait>(rt: &R, map: &Values, signs: &Signs) {
+    if wait_for(&signs.dropping) {
+        map.len(rt);
+        signs.locked.store(1, Ordering::SeqCst);
+    }
+}
+
+// The two threads: how many values were dropped while no lock was held, and how many while one was.
+fn dropped<R: AllocGlobal + Threads + Wait + Sync>(rt: &R) -> Result<(u32, u32), Refusal> {
+    let made: Values = TrieMap::new(rt)?;
+    let map = &made;
+    let signs = Arc::new(
+        rt.alloc(),
+        Signs {
+            dropping: AtomicU32::new(0),
+            locked: AtomicU32::new(0),
+            free: AtomicU32::new(0),
+            held: AtomicU32::new(0),
+        },
+    )?;
+    let told = &signs;
+    let (cleared, _) = thread::join(
+        rt,
+        || put_and_clear(rt, map, told),
+        || lock_all(rt, map, told),
+    );
+    cleared?;
+    Ok((
+        signs.free.load(Ordering::SeqCst),
+        signs.held.load(Ordering::SeqCst),
+    ))
+}
+
+#[test]
+fn cleared_pairs_are_dropped_when_no_lock_is_held(rt: HostRuntime) {
+    assert_is(&rt, dropped(&rt), Ok((1, 0)));
+}

@@ -1,0 +1,147 @@
+//! Maps of many pairs, and a stripe that is full.
+use super::{Map, assert_is, empty, key, plain};
+use std::alloc::Global;
+use std::sync::Wait;
+use test_keys::ChosenKey;
+use trie_map::{MOST_PAIRS_OF_STRIPE, NoMemory, Refusal};
+
+// More pairs than numbers of 16 bits, twice over.
+const MANY: u64 = 131_073;
+
+// A key whose word is a number.
+fn numbered(number: u64) -> ChosenKey {
+    ChosenKey {
+        path: number,
+        id: 0,
+    }
+}
+
+// A key whose word has the first digit 0, and a number behind it.
+fn in_first_stripe(number: u64) -> ChosenKey {
+    numbered(number.wrapping_mul(32))
+}
+
+// Puts many keys, and answers how many were there before.
+fn put_many<R: Wait>(rt: &R, map: &Map) -> Result<u64, Refusal> {
+    let mut there = 0u64;
+    for number in 0..MANY {
+        if map.put(rt, numbered(number), number)?.is_some() {
+            there = there.wrapping_add(1);
+        }
+    }
+    Ok(there)
+}
+
+// How many of the keys have their number.
+fn got<R: Wait>(rt: &R, map: &Map) -> Result<u64, NoMemory> {
+    let mut right = 0u64;
+    for number in 0..MANY {
+        if plain(map.get(rt, &numbered(number))?) == Some(number) {
+            right = right.wrapping_add(1);
+        }
+    }
+    Ok(right)
+}
+
+// How many pairs a view says that it has, and how many a walk over it meets whose value is their key's number.
+fn viewed<R: Wait>(rt: &R, map: &Map) -> Result<(u64, u64), NoMemory> {
+    let view = map.view(rt)?;
+    let mut right = 0u64;
+    for (key, value) in view.pairs()? {
+        if key.path == **value {
+            right = right.wrapping_add(1);
+        }
+    }
+    Ok((view.len(), right))
+}
+
+// Removes the keys, and answers how many had their number.
+fn removed<R: Wait>(rt: &R, map: &Map) -> Result<u64, NoMemory> {
+    let mut right = 0u64;
+    for number in 0..MANY {
+        if plain(map.remove(rt, &numbered(number))?) == Some(number) {
+            right = right.wrapping_add(1);
+        }
+    }
+    Ok(right)
+}
+
+#[test]
+fn many_pairs(rt: HostRuntime) {
+    let map = empty(&rt);
+    assert_is(&rt, put_many(&rt, &map), Ok(0));
+    assert_is(&rt, got(&rt, &map), Ok(MANY));
+    assert_is(&rt, viewed(&rt, &map), Ok((MANY, MANY)));
+    assert_is(&rt, map.len(&rt), MANY);
+    assert_is(&rt, removed(&rt, &map), Ok(MANY));
+    assert_is(&rt, map.is_empty(&rt), true);
+}
+
+// Puts as many keys of the first digit 0 as a stripe may have.
+fn fill<R: Wait>(rt: &R, map: &Map) -> Result<(), Refusal> {
+    for number in 0..MOST_PAIRS_OF_STRIPE {
+        map.put(rt, in_first_stripe(number), number)?;
+    }
+    Ok(())
+}
+
+// What calls on a key that is new to the full stripe are answered.
+fn of_new<R: Wait>(rt: &R, map: &Map) -> [bool; 8] {
+    let new = in_first_stripe(MOST_PAIRS_OF_STRIPE);
+    [
+        map.put(rt, new, 1).is_err_and(|e| e == Refusal::Full),
+        map.put_if_absent(rt, new, 1)
+            .is_err_and(|e| e == Refusal::Full),
+        map.get_or_else_update(rt, new, || 1)
+            .is_err_and(|e| e == Refusal::Full),
+        map.replace(rt, new, 1).is_ok_and(|found| found.is_none()),
+        map.replace_if(rt, new, &1, 2).is_ok_and(|done| !done),
+        map.remove(rt, &new).is_ok_and(|found| found.is_none()),
+        map.get(rt, &new).is_ok_and(|found| found.is_none()),
+        !map.contains_key(rt, &new),
+    ]
+}
+
+// What calls on a key of the full stripe are answered, whose value is 5.
+fn of_old<R: Wait>(rt: &R, map: &Map) -> Result<[u64; 6], Refusal> {
+    let old = in_first_stripe(5);
+    Ok([
+        plain(map.get(rt, &old)?).unwrap_or(0),
+        plain(map.put(rt, old, 6)?).unwrap_or(0),
+        plain(map.put_if_absent(rt, old, 1)?).unwrap_or(0),
+        plain(map.replace(rt, old, 7)?).unwrap_or(0),
+        u64::from(map.replace_if(rt, old, &7, 8)?),
+        *map.get_or_else_update(rt, old, || 1)?,
+    ])
+}
+
+// Puts a key of another stripe, one that is new to the full stripe, and one more, which is not reached.
+fn extended<R: Wait>(rt: &R, alloc: Global, map: &Map) -> Result<(), Refusal> {
+    let mut pairs = Vec::new(alloc);
+    pairs.push((key(1, 0), 1))?;
+    pairs.push((in_first_stripe(MOST_PAIRS_OF_STRIPE), 2))?;
+    pairs.push((key(2, 0), 3))?;
+    map.extend(rt, pairs)
+}
+
+// Removes a key of the full stripe, and puts one that is new to it: what each is answered.
+fn made_room<R: Wait>(rt: &R, map: &Map) -> Result<[Option<u64>; 2], Refusal> {
+    Ok([
+        plain(map.remove(rt, &in_first_stripe(9))?),
+        plain(map.put(rt, in_first_stripe(MOST_PAIRS_OF_STRIPE), 9)?),
+    ])
+}
+
+#[test]
+fn a_full_stripe(rt: HostRuntime) {
+    let map = empty(&rt);
+    assert_is(&rt, fill(&rt, &map), Ok(()));
+    assert_is(&rt, of_new(&rt, &map), [true; 8]);
+    assert_is(&rt, of_old(&rt, &map), Ok([5, 5, 6, 6, 1, 8]));
+    let extension = extended(&rt, rt.alloc(), &map);
+    assert_is(&rt, extension, Err(Refusal::Full));
+    assert_is(&rt, map.contains_key(&rt, &key(1, 0)), true);
+    assert_is(&rt, map.contains_key(&rt, &key(2, 0)), false);
+    assert_is(&rt, made_room(&rt, &map), Ok([Some(9), None]));
+    assert_is(&rt, map.len(&rt), MOST_PAIRS_OF_STRIPE + 1);
+}
