@@ -3,7 +3,7 @@ use generation::{Source, own_nodes};
 use std::sync::Arc;
 use std::test::Fail;
 use test_keys::ChosenKey;
-use trie_node::{Stamp, empty_root, with_put};
+use trie_node::{Stamp, empty_root, root_has_few_nodes, with_put};
 
 #[test]
 fn stamps_rise_from_one(rt: HostRuntime) {
@@ -20,6 +20,8 @@ fn stamps_rise_from_one(rt: HostRuntime) {
 #[test]
 fn a_put_owns_its_path(rt: HostRuntime) -> Result<(), Fail> {
     let alloc = rt.alloc();
+    // the roots below have few nodes, since they have few pairs
+    root_has_few_nodes::<ChosenKey, i64>();
     let empty = empty_root::<ChosenKey, i64>(alloc, Stamp(1))?;
     assert_eq!(rt; own_nodes(&empty, Stamp(1)), 1);
     assert_eq!(rt; own_nodes(&empty, Stamp(2)), 0);

@@ -1,5 +1,6 @@
-use Rattle.std.proofs.Common.{◌-◌}
+use Rattle.std.proofs.Common.{suc, ◌-◌}
+use Rattle.hash_path.specs.Digits.{word_digits}
 use Rattle.version_tests.proofs.tests.shape.+walk.Given as goal
 
 abbrev pub decreases-walk : goal.decreases-walk
-decreases-walk l = 8 - l.depth
+decreases-walk l = suc word_digits - l.depth
