@@ -1,10 +1,11 @@
 //! The tests by which a map is closed. They take no memory.
-ghost use Rattle.std.specs.Prelude.{◌≡◌, ◌<◌, ℕ, All, IsTrue, None, Some, slice_index_or, true, vec_len};
+ghost use Rattle.std.specs.Prelude.{◌≡◌, ◌<◌, ◌≤◌, ℕ, All, IsTrue, None, Some, slice_index_or, true, vec_len};
 ghost use Rattle.handles.specs.Machine.{job_at, room};
 ghost use Rattle.journal.specs.Journals.{own};
 ghost use Rattle.locked_map.specs.Seats.{AboveFloors, pairs};
 ghost use Rattle.journal.specs.Tokens.{AllShown, entries_of};
 
+use crate::filed::Filed;
 use crate::seat::Seat;
 use bulk_ops::Asks;
 use handles::Table;
@@ -33,7 +34,7 @@ pub(crate) fn is_borne_out<K: PathKey + Drop, V: Drop, Q: Asks<K, V> + Drop, J: 
                 return false;
             };
             if filed.place != place
-                || filed.place < filed.floor
+                || !is_above_floor(filed)
                 || filed.token.index() != token.index()
             {
                 return false;
@@ -44,6 +45,13 @@ pub(crate) fn is_borne_out<K: PathKey + Drop, V: Drop, Q: Asks<K, V> + Drop, J: 
         place += 1;
     }
     rest.is_empty()
+}
+
+// Whether the entry stands at the floor beside it, or behind that.
+fn is_above_floor<K: PathKey, V, Q, I>(filed: &Filed<K, V, Q, I>) -> bool
+    ensures { IsTrue result → filed.now.floor ≤ filed.now.place }
+{
+    filed.floor <= filed.place
 }
 
 /// Whether the seats have the numbers from 0, in order, and the journal bears out each one's list, and their marks
@@ -89,6 +97,20 @@ pub(crate) fn are_of_seats<K: PathKey + Drop, V: Drop, Q: Drop, I: Drop>(
         }
     }
     true
+}
+
+/// Whether the vector holds no entry but those of the tokens and, for each time that a seat was answered `NoMemory`, at
+/// most one that such a call had placed.
+pub(crate) fn are_all<K: PathKey, V, Q: Asks<K, V>, J: Room>(
+    entries: &Entries<K, V, Q, Q::Item>,
+    tokens: &Vec<Token<K, V, Q, Q::Item>>,
+    seats: &Vec<Seat<K, V, Q, J>>,
+) -> bool {
+    let mut most = tokens.len() as u64;
+    for seat in seats {
+        most = most.saturating_add(seat.wanting);
+    }
+    entries.count() as u64 <= most
 }
 
 // Whether the seat was told the truth where it was answered `JournalFull` or `NoJob`: the journal is full, and the job

@@ -14,7 +14,8 @@ use versions::Refusal;
 ///
 /// It keeps a list of its entries, each with its token and its place in the journal, and a floor: its next entry stands
 /// at the floor or behind it. It is marked where it was answered `JournalFull`, and with the first job for which it was
-/// answered `NoJob`, so that `close` can see whether that was true.
+/// answered `NoJob`, so that `close` can see whether that was true. It counts how often it was answered `NoMemory`, since
+/// such a call may have placed an entry that no list has.
 #[derive(Drop)]
 pub struct Seat<K: PathKey, V, Q: Asks<K, V>, J: Room> {
     pub(crate) number: u32,
@@ -22,6 +23,7 @@ pub struct Seat<K: PathKey, V, Q: Asks<K, V>, J: Room> {
     pub(crate) list: Vec<Filed<K, V, Q, Q::Item>>,
     pub(crate) full: bool,
     pub(crate) unknown: Option<u64>,
+    pub(crate) wanting: u64,
     pub(crate) room: PhantomData<J>,
 }
 
@@ -47,6 +49,7 @@ impl<K: PathKey + Drop, V: Drop, Q: Asks<K, V> + Drop, J: Room> Seat<K, V, Q, J>
             list: Vec::new(alloc),
             full: false,
             unknown: None,
+            wanting: 0,
             room: PhantomData,
         }
     }
@@ -58,7 +61,7 @@ impl<K: PathKey + Drop, V: Drop, Q: Asks<K, V> + Drop, J: Room> Seat<K, V, Q, J>
         self.number
     }
 
-    /// Marks the seat where a call on this job made no entry for this reason.
+    /// Marks the seat, or counts want of memory, where a call on this job made no entry for this reason.
     pub(crate) fn mark(&mut self, refusal: Refusal, job: Option<u64>)
         ensures { self.new ≡ marked_by self.old refusal job }
     {
@@ -69,6 +72,7 @@ impl<K: PathKey + Drop, V: Drop, Q: Asks<K, V> + Drop, J: Room> Seat<K, V, Q, J>
                     self.unknown = job;
                 }
             }
+            Refusal::NoMemory => self.wanting = self.wanting.saturating_add(1),
             _ => (),
         }
     }

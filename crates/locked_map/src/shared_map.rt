@@ -13,7 +13,7 @@ ghost use Rattle.locked_map.specs.Tickets.{ticket_outcome};
 mod get_or_else;
 
 use crate::closed::{Closed, Torn};
-use crate::closing::{are_borne_out, are_of_seats};
+use crate::closing::{are_all, are_borne_out, are_of_seats};
 use crate::filed::file;
 use crate::seat::Seat;
 use crate::ticket::Ticket;
@@ -205,8 +205,8 @@ impl<K: PathKey + Drop, V: Eq + Drop, Q: Asks<K, V> + Drop, J: Room> SharedMap<K
     /// memory.
     ///
     /// It is `Torn` where the seats are not all those of the map, in the order of their numbers, or where an entry of a
-    /// seat is not the journal's at its place, or stands below the floor beside it, or where a seat was answered
-    /// `JournalFull` and the journal has room, or `NoJob` and the job is open.
+    /// seat is not the journal's at its place, or stands below the floor beside it, or where an entry was placed that is
+    /// nobody's, or a seat was answered `JournalFull` and the journal has room, or `NoJob` and the job is open.
     pub fn close(self, seats: Vec<Seat<K, V, Q, J>>) -> Result<Closed<K, V, Q>, Torn>
         ensures legal { IfOk result (λ c. IsLegal (machine K.cmp V.eq Q.target_of Q.answered) c.table.limits c.journal c.table) }
         ensures seats { IfOk result (λ c. All (λ e. e.seat < vec_len seats) c.journal) }
@@ -224,7 +224,7 @@ impl<K: PathKey + Drop, V: Eq + Drop, Q: Asks<K, V> + Drop, J: Room> SharedMap<K
         if !are_borne_out(&entries, &tokens, &table, &seats) {
             return Err(Torn);
         }
-        if !are_of_seats(&entries, &tokens, seats.len()) {
+        if !are_of_seats(&entries, &tokens, seats.len()) || !are_all(&entries, &tokens, &seats) {
             return Err(Torn);
         }
         Ok(Closed {

@@ -1,14 +1,14 @@
 use Rattle.std.proofs.Common.{rules, ◌≡◌, ◌∷◌, ◌<◌, ◌≤◌, length}
 use Rattle.journal.specs.Tokens.{entry_at, AllShown}
 use Rattle.locked_map.proofs.Walk.{walks_skip, walks_take, head_shown, item_shown}
-use Rattle.locked_map.proofs.closing.is_borne_out.Goals.{then-of-seat+in-Some+else-filed-place+else-filed+else-index, else-of-seat}
+use Rattle.locked_map.proofs.closing.is_borne_out.Goals.{then-of-seat+in-Some+else-filed-place+else-not-is_above_floor+else-index, else-of-seat}
 use Rattle.locked_map.proofs.closing.is_borne_out.Goals as goal
 
 pub loop-token-preserved : goal.loop-token-preserved
 loop-token-preserved g c =
     let h : c.loop-token.token-index < length c.deref-token-items.result.now = search rules in
     elim c.if-of-seat.branch [
-      | then-of-seat+in-Some+else-filed-place+else-filed+else-index w ↦
+      | then-of-seat+in-Some+else-filed-place+else-not-is_above_floor+else-index w ↦
           let mine : (entry_at c.token-item.result).seat ≡ c.seat.inside.number = search rules in
           let parts : c.loop-token.rest.now ≡ w.in-Some.filed.now ∷ c.if-of-seat.rest.now = search rules in
           let at : w.in-Some.filed.now.place ≡ c.loop-token.place = search rules in

@@ -14,4 +14,7 @@ returns g c =
       legal = subst (λ limits. IsLegal (machine g.K.Ord.cmp g.V.PartialEq.eq g.Q.Asks.target_of g.Q.Asks.answered) limits closed.journal closed.table) same kept.legal;
       known = subst (λ n. All (λ e. e.seat < n) closed.journal) long kept.seats;
       each = λ k s h. kept.own k s (subst (λ n. k < n) (sym long) h);
+      floors = λ k s h. kept.floors k s (subst (λ n. k < n) (sym long) h);
+      full = λ k s h. kept.full k s (subst (λ n. k < n) (sym long) h);
+      unknown = λ k s h. kept.unknown k s (subst (λ n. k < n) (sym long) h);
     }
