@@ -1,0 +1,5 @@
+pub mod Covering
+pub mod Trays
+pub mod Halving
+pub mod Reporting
+pub mod Crossing

@@ -1,0 +1,29 @@
+-- How a report is put together.
+use Rattle.std.proofs.Common.{◌≡◌, ℕ, ◌+◌, ◌⊎◌, List, [], ◌∷◌, ◌++◌, length, map, sym, ap, subst, ◌∙◌, length-append}
+use Rattle.std.proofs.lemmas.List.{map-append, length-map}
+use Rattle.trie_shape.specs.Map.{Map}
+use Rattle.iter.specs.declared.interval.Interval.{Interval}
+use Rattle.iter.specs.Intervals.{AreApart, Tile, parts, whole}
+use Rattle.task_pool.specs.Worked.{Uncut}
+use Rattle.task_pool.specs.Reports.{IsReport, all_of}
+use Rattle.task_pool.proofs.Covering.{all_of_push}
+
+-- one list more
+pub listed : {X : Type 0} (f : X → List Interval) (ls ms : List X) (l : X) (all : List Interval) → ms ≡ ls ++ l ∷ [] → all_of (map f ls) ≡ all → all_of (map f ms) ≡ all ++ f l
+listed f ls ms l all e is =
+    ap (λ xs. all_of (map f xs)) e ∙ ap all_of (map-append f ls (l ∷ [])) ∙ all_of_push (map f ls) (f l) ∙ ap (λ x. x ++ f l) is
+
+pub counted : {X : Type 0} (f : X → List Interval) (ls ms : List X) (l : X) (n : ℕ) → ms ≡ ls ++ l ∷ [] → length ls ≡ n → length (map f ms) ≡ n + 1
+counted f ls ms l n e is = length-map ms f ∙ ap length e ∙ length-append ls (l ∷ []) ∙ ap (λ k. k + 1) is
+
+-- the report of what was worked
+pub made : {K V P : Type 0} (path : K → ℕ) (answers : Map K V → P → Type 0) (decides : Map K V → Type 0) (m : Map K V) (grain workers : ℕ) (part : P) (lists : List (List Interval)) (all : List Interval)
+    → all_of lists ≡ all → length lists ≡ workers + 1 → answers m part → AreApart all → Uncut path m grain all → Tile all whole ⊎ decides (parts path m all)
+    → IsReport path answers decides m grain workers part lists
+made path answers decides m grain workers part lists all is count has apart uncut ended = record {
+  answered = has;
+  count = count;
+  apart = subst AreApart (sym is) apart;
+  uncut = subst (Uncut path m grain) (sym is) uncut;
+  ended = subst (λ xs. Tile xs whole ⊎ decides (parts path m xs)) (sym is) ended;
+}
