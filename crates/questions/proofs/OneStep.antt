@@ -16,14 +16,14 @@ use Rattle.questions.specs.Laws.{is_settled_at_once, FinishesLeaveOne, FinishesT
 use Rattle.questions.specs.Program.{asks_pair, program, ProgramAnswer, ProgramTold, ProgramState, ProgramRequest, ProgramOutcome}
 
 -- the state behind a refusal
-abbrev refused_in : ProgramState → Refusal → ProgramState
+abbrev pub refused_in : ProgramState → Refusal → ProgramState
 refused_in s e = record s { entries = if is_entry e then s.entries + 1 else s.entries }
 
 -- the step is a refusal, or is granted
-abbrev Settled : ProgramState → ProgramRequest → ProgramOutcome → ProgramState → Type 0
+abbrev pub Settled : ProgramState → ProgramRequest → ProgramOutcome → ProgramState → Type 0
 Settled s r o t = ((e : Refusal) × (o ≡ refused e) × (refusal program s r ≡ Some e) × (t ≡ refused_in s e)) ⊎ ((refusal program s r ≡ None) × Granted program s r o t)
 
-settled : (s : ProgramState) (r : ProgramRequest) (o : ProgramOutcome) (t : ProgramState) → Step program s r o t → Settled s r o t
+pub settled : (s : ProgramState) (r : ProgramRequest) (o : ProgramOutcome) (t : ProgramState) → Step program s r o t → Settled s r o t
 settled s r (refused e) t h = inl (e, refl, h.0, h.1)
 settled s r made t h = inr h
 settled s r (replied y) t h = inr h
@@ -34,7 +34,7 @@ settled s r unfinished t h = inr h
 settled s r worked t h = inr h
 
 -- what an open, a snapshot and a command are answered where they are granted, and what they leave
-one_open : (s : ProgramState) (h : ℕ) (o : ProgramOutcome) (t : ProgramState) → Granted program s (open_handle h) o t → (o ≡ made) × (t ≡ record s { live = live_with s h []; entries = s.entries + 1 })
+pub one_open : (s : ProgramState) (h : ℕ) (o : ProgramOutcome) (t : ProgramState) → Granted program s (open_handle h) o t → (o ≡ made) × (t ≡ record s { live = live_with s h []; entries = s.entries + 1 })
 one_open s h made t g = (refl, g)
 one_open s h (replied y) t g = absurd g
 one_open s h (viewed m) t g = absurd g
@@ -44,7 +44,7 @@ one_open s h unfinished t g = absurd g
 one_open s h (refused e) t g = absurd g
 one_open s h worked t g = absurd g
 
-one_snapshot : (s : ProgramState) (h to : ℕ) (o : ProgramOutcome) (t : ProgramState) → Granted program s (snapshot h to) o t → (o ≡ made) × (t ≡ record s { live = live_with s to (held_by s h); entries = s.entries + 1 })
+pub one_snapshot : (s : ProgramState) (h to : ℕ) (o : ProgramOutcome) (t : ProgramState) → Granted program s (snapshot h to) o t → (o ≡ made) × (t ≡ record s { live = live_with s to (held_by s h); entries = s.entries + 1 })
 one_snapshot s h to made t g = (refl, g)
 one_snapshot s h to (replied y) t g = absurd g
 one_snapshot s h to (viewed m) t g = absurd g
@@ -54,7 +54,7 @@ one_snapshot s h to unfinished t g = absurd g
 one_snapshot s h to (refused e) t g = absurd g
 one_snapshot s h to worked t g = absurd g
 
-one_reply : (s : ProgramState) (h : ℕ) (c : commands.Command (List ℕ) ℤ) (o : ProgramOutcome) (t : ProgramState) → Granted program s (on h c) o t
+pub one_reply : (s : ProgramState) (h : ℕ) (c : commands.Command (List ℕ) ℤ) (o : ProgramOutcome) (t : ProgramState) → Granted program s (on h c) o t
     → (o ≡ replied (commands.reply program.order program.equal (held_by s h) c)) × (t ≡ record s { live = live_with s h (commands.after program.order program.equal (held_by s h) c); entries = s.entries + 1 })
 one_reply s h c (replied y) t g = (ap (λ (x : commands.Reply ℤ). replied x) g.0, g.1)
 one_reply s h c made t g = absurd g
@@ -65,7 +65,7 @@ one_reply s h c unfinished t g = absurd g
 one_reply s h c (refused e) t g = absurd g
 one_reply s h c worked t g = absurd g
 
-one_drop : (s : ProgramState) (h : ℕ) (o : ProgramOutcome) (t : ProgramState) → Granted program s (drop_handle h) o t → (o ≡ made) × (t ≡ record s { live = without nat_cmp s.live h; entries = s.entries + 1 })
+pub one_drop : (s : ProgramState) (h : ℕ) (o : ProgramOutcome) (t : ProgramState) → Granted program s (drop_handle h) o t → (o ≡ made) × (t ≡ record s { live = without nat_cmp s.live h; entries = s.entries + 1 })
 one_drop s h made t g = (refl, g)
 one_drop s h (replied y) t g = absurd g
 one_drop s h (viewed m) t g = absurd g
@@ -75,7 +75,7 @@ one_drop s h unfinished t g = absurd g
 one_drop s h (refused e) t g = absurd g
 one_drop s h worked t g = absurd g
 
-one_abandon : (s : ProgramState) (j : ℕ) (o : ProgramOutcome) (t : ProgramState) → Granted program s (abandon j) o t → (o ≡ made) × (t ≡ record s { jobs = without nat_cmp s.jobs j; entries = s.entries + 1 })
+pub one_abandon : (s : ProgramState) (j : ℕ) (o : ProgramOutcome) (t : ProgramState) → Granted program s (abandon j) o t → (o ≡ made) × (t ≡ record s { jobs = without nat_cmp s.jobs j; entries = s.entries + 1 })
 one_abandon s j made t g = (refl, g)
 one_abandon s j (replied y) t g = absurd g
 one_abandon s j (viewed m) t g = absurd g
@@ -86,10 +86,10 @@ one_abandon s j (refused e) t g = absurd g
 one_abandon s j worked t g = absurd g
 
 -- what a freeze leaves
-abbrev frozen_in : ProgramState → ℕ → ScriptQuestion → ProgramState
+abbrev pub frozen_in : ProgramState → ℕ → ScriptQuestion → ProgramState
 frozen_in s h q = record s { jobs = with_pair nat_cmp s.jobs s.next (record { query = q; frozen = held_by s h }); next = s.next + 1; entries = s.entries + 1 }
 
-one_freeze : (s : ProgramState) (h : ℕ) (q : ScriptQuestion) (o : ProgramOutcome) (t : ProgramState) → Granted program s (freeze h q) o t → (o ≡ frozen s.next (held_by s h)) × (t ≡ frozen_in s h q)
+pub one_freeze : (s : ProgramState) (h : ℕ) (q : ScriptQuestion) (o : ProgramOutcome) (t : ProgramState) → Granted program s (freeze h q) o t → (o ≡ frozen s.next (held_by s h)) × (t ≡ frozen_in s h q)
 one_freeze s h q (frozen j m) t g = ((λ i. frozen (g.0 i) (g.1 i)), g.2 ∙ ap (λ (n : ℕ). record s { jobs = with_pair nat_cmp s.jobs n (record { query = q; frozen = m }); next = s.next + 1; entries = s.entries + 1 }) g.0 ∙ ap (λ (shown : Map (List ℕ) ℤ). record s { jobs = with_pair nat_cmp s.jobs s.next (record { query = q; frozen = shown }); next = s.next + 1; entries = s.entries + 1 }) g.1)
 one_freeze s h q made t g = absurd g
 one_freeze s h q (replied y) t g = absurd g
@@ -99,7 +99,7 @@ one_freeze s h q unfinished t g = absurd g
 one_freeze s h q (refused e) t g = absurd g
 one_freeze s h q worked t g = absurd g
 
-one_view : (s : ProgramState) (h : ℕ) (o : ProgramOutcome) (t : ProgramState) → Granted program s (view h) o t → (o ≡ viewed (held_by s h)) × (t ≡ record s { entries = s.entries + 1 })
+pub one_view : (s : ProgramState) (h : ℕ) (o : ProgramOutcome) (t : ProgramState) → Granted program s (view h) o t → (o ≡ viewed (held_by s h)) × (t ≡ record s { entries = s.entries + 1 })
 one_view s h (viewed m) t g = (ap (λ (pairs : Map (List ℕ) ℤ). viewed pairs) g.0, g.1)
 one_view s h made t g = absurd g
 one_view s h (replied y) t g = absurd g
@@ -110,7 +110,7 @@ one_view s h (refused e) t g = absurd g
 one_view s h worked t g = absurd g
 
 -- two ways to be granted are one
-abbrev OneGrant : ProgramRequest → Type 0
+abbrev pub OneGrant : ProgramRequest → Type 0
 OneGrant r = (s t u : ProgramState) (o p : ProgramOutcome) → Granted program s r o t → Granted program s r p u → (o ≡ p) × (t ≡ u)
 
 one_command : (h : ℕ) (c : commands.Command (List ℕ) ℤ) → OneGrant (on h c)
@@ -134,7 +134,7 @@ freeze_once h q s t u o p g k = let a = one_freeze s h q o t g in let b = one_fr
 abandon_once : (j : ℕ) → OneGrant (abandon j)
 abandon_once j s t u o p g k = let a = one_abandon s j o t g in let b = one_abandon s j p u k in (a.0 ∙ sym b.0, a.1 ∙ sym b.1)
 
-granted_once : (r : ProgramRequest) → is_settled_at_once r ≡ true → OneGrant r
+pub granted_once : (r : ProgramRequest) → is_settled_at_once r ≡ true → OneGrant r
 granted_once (open_handle h) e = open_once h
 granted_once (snapshot h to) e = snapshot_once h to
 granted_once (drop_handle h) e = drop_once h
@@ -155,11 +155,11 @@ one_settled r s t u o p one (inr (none, g)) (inl (e, a, b, d)) = let same : Some
 one_settled r s t u o p one (inr (none, g)) (inr (other, k)) = one g k
 
 -- a request has one outcome in a state
-one_step : (r : ProgramRequest) → OneGrant r → (s t u : ProgramState) (o p : ProgramOutcome) → Step program s r o t → Step program s r p u → (o ≡ p) × (t ≡ u)
+pub one_step : (r : ProgramRequest) → OneGrant r → (s t u : ProgramState) (o p : ProgramOutcome) → Step program s r o t → Step program s r p u → (o ≡ p) × (t ≡ u)
 one_step r one s t u o p a b = one_settled r s t u o p (one s t u o p) (settled s r o t a) (settled s r p u b)
 
 -- the one answer of any other question
-abbrev the_answer : ScriptQuestion → Map (List ℕ) ℤ → ProgramAnswer
+abbrev pub the_answer : ScriptQuestion → Map (List ℕ) ℤ → ProgramAnswer
 the_answer (count test) m = plain.Answer.number (length (plain.passing (passes test) m))
 the_answer (exists test) m = plain.Answer.truth (list_any (plain.passes (passes test)) m)
 the_answer (for_all test) m = plain.Answer.truth (list_all (plain.passes (passes test)) m)
@@ -168,7 +168,7 @@ the_answer (filtered test to) m = plain.Answer.made (plain.passing (passes test)
 the_answer (mapped mapping to) m = plain.Answer.made (plain.with_values (new_value mapping) m)
 the_answer (fold folding) m = plain.Answer.item (folded (combined folding) (item_of_none folding) (plain.items_of item_of m))
 
-is_the_answer : (q : ScriptQuestion) (m : Map (List ℕ) ℤ) (a : ProgramAnswer) → asks_pair q ≡ false → answers q m a → a ≡ the_answer q m
+pub is_the_answer : (q : ScriptQuestion) (m : Map (List ℕ) ℤ) (a : ProgramAnswer) → asks_pair q ≡ false → answers q m a → a ≡ the_answer q m
 is_the_answer (count test) m (plain.Answer.number n) never is = ap (λ (n : ℕ). plain.Answer.number n) is
 is_the_answer (exists test) m (plain.Answer.truth b) never is = ap (λ (b : Bool). plain.Answer.truth b) is
 is_the_answer (for_all test) m (plain.Answer.truth b) never is = ap (λ (b : Bool). plain.Answer.truth b) is
@@ -205,7 +205,7 @@ leaves_one s j (find test) m a b x y = refl
 leaves_one s j q m a b x y = let one = is_the_answer q m a refl x in let other = is_the_answer q m b refl y in ap (finished_in s j (record { query = q; frozen = m })) (one ∙ sym other)
 
 -- an open job is finished in one state
-finishes_leave_one : (s t u : ProgramState) (j : ℕ) (b c : ProgramTold) → Finishes program s j b t → Finishes program s j c u → t ≡ u
+pub finishes_leave_one : (s t u : ProgramState) (j : ℕ) (b c : ProgramTold) → Finishes program s j b t → Finishes program s j c u → t ≡ u
 finishes_leave_one s t u j b c f k =
     let named : Some f.job ≡ Some k.job = sym f.named ∙ k.named in
     let same : f.job ≡ k.job = cc in

@@ -2,7 +2,7 @@
 use Rattle.std.specs.Prelude.{ℕ, ℤ, Bool, true, false, List, Option, Some, None}
 use Rattle.std.specs.Ordering.{int_eq}
 use Rattle.std.specs.Arc.{arc_value}
-use Rattle.versions.specs.Commands.{get, put, put_if_absent, replace, replace_if, remove, remove_if, size, clear, old, done, cleared}
+use Rattle.versions.specs.Commands.{Command, get, put, put_if_absent, replace, replace_if, remove, remove_if, size, clear, old, done, cleared}
 use Rattle.versions.specs.Commands as commands
 use Rattle.handles.specs.declared.limits.Limits.{Limits}
 use Rattle.handles.specs.Machine.{Kind, State, Request, open_handle, snapshot, drop_handle, on, view, freeze, Outcome, made, replied, viewed, finished, refused}
@@ -92,6 +92,28 @@ request_for (Find handle test) = freeze handle (find test)
 request_for (Filter handle test target) = freeze handle (filtered test target)
 request_for (MapValues handle mapping target) = freeze handle (mapped mapping target)
 request_for (Fold handle folding) = freeze handle (fold folding)
+
+-- the statement of a script that makes the command
+abbrev pub command_statement : ℕ → Command (List ℕ) ℤ → Statement
+command_statement h (get k) = Get h k
+command_statement h (put k v) = Put h k v
+command_statement h (put_if_absent k v) = PutIfAbsent h k v
+command_statement h (replace k v) = Replace h k v
+command_statement h (replace_if k was v) = ReplaceIf h k was v
+command_statement h (remove k) = Remove h k
+command_statement h (remove_if k v) = RemoveIf h k v
+command_statement h size = Size h
+command_statement h clear = Clear h
+
+-- the statement of a script that asks the question
+abbrev pub question_statement : ℕ → ScriptQuestion → Statement
+question_statement h (count test) = Count h test
+question_statement h (exists test) = Exists h test
+question_statement h (for_all test) = ForAll h test
+question_statement h (find test) = Find h test
+question_statement h (filtered test to) = Filter h test to
+question_statement h (mapped mapping to) = MapValues h mapping to
+question_statement h (fold folding) = Fold h folding
 
 -- the request that something asked of the map is, or the first of two
 abbrev pub asked : Ask → ProgramRequest

@@ -1,0 +1,5 @@
+pub mod CallLemmas
+pub mod WordLemmas
+pub mod FieldLemmas
+pub mod HeardLemmas
+pub mod TextLemmas

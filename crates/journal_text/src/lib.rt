@@ -1,0 +1,18 @@
+//! The text of journals: a line for each entry, and a last one with their number.
+//!
+//! What an entry asked is written in the words of a script's statement, with one space between; behind `freeze` where a
+//! job is opened. What it was told is written as a script's reply, and an opened job as its number. Each text is read
+//! back, and has one spelling.
+#![tactic(auto)]
+
+mod asked;
+mod call;
+mod laws;
+mod outcome;
+mod text;
+
+pub use asked::asked_in;
+pub use call::{ProgramAsked, push_call};
+pub use laws::law_of_calls;
+pub use outcome::{ProgramTold, push_told};
+pub use text::{ProgramJournal, journal_text};

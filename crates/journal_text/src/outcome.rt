@@ -1,0 +1,72 @@
+//! The text of what is told.
+
+ghost use Rattle.std.specs.Prelude.{◌≡◌, ◌++◌, IfOk, OnOk, Some};
+ghost use Rattle.bulk_ops.specs.Told.{told_of};
+ghost use Rattle.handles.specs.Views.{call_outcome};
+ghost use Rattle.questions.specs.Program.{told_reply};
+ghost use Rattle.journal.specs.Answers.{outcome_told};
+ghost use Rattle.questions.specs.Program.{reply_to};
+ghost use Rattle.journal_text.specs.Calls.{outcome_text};
+
+use bulk_ops::Answer;
+use handles::{CallReply, Reply};
+use journal::Told;
+use keys::ByteText;
+use questions::listing_of;
+use script::{LineReply, MapKey, push_reply};
+use std::alloc::Global;
+use std::io::Write;
+use std::sync::Arc;
+use versions::NoMemory;
+
+/// What is told of the table of a program.
+pub type ProgramTold = Told<ByteText, i64, Option<i128>>;
+
+/// Appends the text of what is told.
+pub fn push_told(alloc: Global, out: &mut Vec<u8>, told: &ProgramTold) -> Result<(), NoMemory>
+    ensures { OnOk result (out.new.items ≡ out.old.items ++ outcome_text (outcome_told told.now)) }
+{
+    let done = match told {
+        Told::Frozen(job, _) => write!(out, "job {job}"),
+        Told::Reply(reply) => push_reply(out, &shown(reply)),
+        Told::View(view) => push_reply(out, &LineReply::Pairs(listing_of(alloc, view)?)),
+        Told::Answer(answer) => push_reply(out, &answer_shown(answer)?),
+        Told::Abandoned => push_reply(out, &LineReply::Done),
+        Told::Refused(refusal) => push_reply(out, &LineReply::Refused(*refusal)),
+    };
+    match done {
+        Ok(()) => Ok(()),
+        Err(_) => Err(NoMemory),
+    }
+}
+
+/// The reply that shows what a call is answered.
+fn shown(reply: &CallReply<i64>) -> LineReply
+    ensures { reply_to (call_outcome reply.now) ≡ Some result }
+{
+    match reply {
+        CallReply::Unit => LineReply::Done,
+        CallReply::Reply(Reply::Old(None)) => LineReply::Absent,
+        CallReply::Reply(Reply::Old(Some(value))) => LineReply::Found(**value),
+        CallReply::Reply(Reply::Done(done)) => LineReply::Truth(*done),
+        CallReply::Reply(Reply::Size(pairs)) => LineReply::Count(*pairs),
+        CallReply::Reply(Reply::Cleared) => LineReply::Done,
+    }
+}
+
+/// The reply that tells the answer.
+fn answer_shown(answer: &Answer<ByteText, i64, Option<i128>>) -> Result<LineReply, NoMemory>
+    ensures { IfOk result (λ reply. reply ≡ told_reply (told_of answer.now)) }
+{
+    Ok(match answer {
+        Answer::Count(number) => LineReply::Count(*number),
+        Answer::Truth(truth) => LineReply::Truth(*truth),
+        Answer::Found(Some((key, value))) => {
+            LineReply::Pair(MapKey::new(Arc::try_clone(key)?), **value)
+        }
+        Answer::Found(None) => LineReply::Absent,
+        Answer::Made(pairs) => LineReply::Count(*pairs),
+        Answer::Item(Some(number)) => LineReply::Item(*number),
+        Answer::Item(None) => LineReply::Absent,
+    })
+}
