@@ -4,3 +4,4 @@ pub use Rattle.bulk_ops.specs.Queries
 pub use Rattle.bulk_ops.specs.Told
 pub mod Rules
 pub mod Stripes
+pub mod Questions

@@ -6,27 +6,29 @@
 #![tactic(auto)]
 
 mod blank;
+mod closure;
+mod columns;
+mod crew;
 mod joining;
 mod keeps;
 mod origin;
+mod questions;
 mod row;
 mod stripe;
 mod trie_map;
 mod view;
 
-pub use blank::Blank;
 pub use bulk_ops::{
     Answer, Asks, Pair, PairFn, Part, Plain, Query, Stored, StoredItem, StoredMap, StoredTest,
 };
+pub use columns::{Keys, Values};
 pub use combiner::{Both, Greatest, Least, Monoid, Sum};
 pub use hash_path::PathKey;
 pub use iter::Pairs;
-pub use joining::joined;
 pub use keeps::{Anything, Keeps};
 pub use keys::ByteText;
-pub use origin::{Origin, found_or_made};
-pub use row::{Held, Row, blanks, clear_all, empties, forks};
-pub use stripe::{MOST_PAIRS_OF_STRIPE, STRIPES, Stripe};
+pub use stripe::MOST_PAIRS_OF_STRIPE;
+pub use task_pool::Crew;
 pub use trie_map::TrieMap;
 pub use trie_node::NoMemory;
 pub use versions::{MOST_PAIRS, Refusal, Version};

@@ -1,17 +1,21 @@
 //! A map as it stood at one moment.
-ghost use Rattle.std.specs.Prelude.{◌≡◌, ◌↔◌, [], All, IfOk, IfSome, IsTrue, is_some, length, option_map};
+ghost use Rattle.std.specs.Prelude.{◌≡◌, ◌↔◌, [], All, IfOk, IfSome, IsPermutation, IsTrue, is_some, length, map, option_map};
 ghost use Rattle.bulk_ops.specs.Told.{IsAnswered};
 ghost use Rattle.trie_map.specs.Rules.{AllKeep};
 ghost use Rattle.trie_shape.specs.Order.{walked};
 ghost use Rattle.versions.specs.Map.{IsMap, value_at};
 
+use crate::columns::{Keys, Values};
+use crate::crew::within_limits;
 use crate::keeps::{Anything, Keeps};
 use bulk_ops::{Answer, Asks, ask};
 use hash_path::PathKey;
 use iter::Pairs;
 use std::alloc::Global;
 use std::marker::{Model, PhantomData};
-use std::sync::Arc;
+use std::sync::{Arc, Wait};
+use std::thread::Threads;
+use task_pool::{Crew, ask_crew};
 use trie_node::{NoMemory, walk_lists_map};
 use versions::Version;
 
@@ -78,22 +82,41 @@ impl<K: PathKey + Drop, V: Drop, P: Keeps<K, V>> View<K, V, P> {
         self.plain.is_empty()
     }
 
-    /// A walk over all pairs, in order of position and, within one position, of key. Each of them keeps the rule.
+    /// A walk over all pairs, each once, in order of position and, within one position, of key. Each of them keeps the
+    /// rule.
     pub fn pairs(&self) -> Result<Pairs<'_, K, V>, NoMemory>
         ensures rest { IfOk result (λ walk. walk.rest ≡ walked K.cmp K.path_of self.now) }
+        ensures once { IfOk result (λ walk. IsPermutation self.now walk.rest) }
         ensures kept { IfOk result (λ walk. All (λ pair. P.holds pair.0 pair.1) walk.rest) }
     {
         self.law();
         iter::pairs(self.alloc, &self.plain)
     }
 
-    /// What each pair of the view keeps: the rule, at its key and on a walk. It does nothing.
+    /// A walk over all keys, each once, in the order of `pairs`.
+    pub fn keys(&self) -> Result<Keys<'_, K, V>, NoMemory>
+        ensures rest { IfOk result (λ keys. keys ≡ map (λ pair. pair.0) (walked K.cmp K.path_of self.now)) }
+        ensures once { IfOk result (λ keys. IsPermutation (map (λ pair. pair.0) self.now) keys) }
+    {
+        Ok(Keys::of(self.pairs()?))
+    }
+
+    /// A walk over the values of all keys, in the order of `pairs`.
+    pub fn values(&self) -> Result<Values<'_, K, V>, NoMemory>
+        ensures rest { IfOk result (λ values. values ≡ map (λ pair. pair.1) (walked K.cmp K.path_of self.now)) }
+        ensures once { IfOk result (λ values. IsPermutation (map (λ pair. pair.1) self.now) values) }
+    {
+        Ok(Values::of(self.pairs()?))
+    }
+
+    /// What each pair of the view keeps: the rule, at its key and on a walk, which has each pair once. It does nothing.
     pub fn law(&self)
         ensures at_key { AllKeep K.cmp P.holds self.now }
         ensures walked { All (λ pair. P.holds pair.0 pair.1) (walked K.cmp K.path_of self.now) }
+        ensures once { IsPermutation self.now (walked K.cmp K.path_of self.now) }
     {
         walk_lists_map::<K, V>();
-        let _ = &self.plain;
+        self.plain.len();
     }
 
     /// What the query is answered for the whole view, and the map that it makes where it has a target.
@@ -123,5 +146,34 @@ impl<K: PathKey + Drop, V: Drop, P: Keeps<K, V>> View<K, V, P> {
             plain: self.plain.try_clone()?,
             rule: PhantomData,
         })
+    }
+}
+
+impl<K: PathKey + Drop + Send + Sync, V: Drop + Send + Sync, P: Keeps<K, V>> View<K, V, P> {
+    /// What `query` answers, worked by a crew: the view is cut into pieces, which the threads of the crew take from one
+    /// another, and the caller works what they leave.
+    ///
+    /// The closures of the query run on these threads, several at once. No lock is held while they work: who writes the
+    /// map that the view was taken of goes on. The threads have ended when the call returns. A view with no more pairs
+    /// than the crew's grain is worked by the caller alone. Where a number of the crew is beyond its limits, the nearest
+    /// within them is taken.
+    ///
+    /// It is refused for want of memory. A thread that cannot be started is no error: the others, or the caller, work
+    /// its pieces.
+    pub fn query_by<R, Q>(
+        &self,
+        rt: &R,
+        query: &Q,
+        crew: Crew,
+    ) -> Result<(Answer<K, V, Q::Item>, Option<Version<K, V>>), NoMemory>
+    where
+        R: Threads + Wait + Sync,
+        Q: Asks<K, V> + Sync,
+        Q::Part: Send,
+        requires { Q.ready query.now }
+        ensures { IfOk result (λ answer. IsAnswered (Q.answered query.now self.now) (Q.target_of query.now) answer.0 answer.1) }
+    {
+        let view = self.plain.try_clone()?;
+        ask_crew(rt, self.alloc, view, query, within_limits(crew))
     }
 }

@@ -1,5 +1,7 @@
 //! What the calls answer, by hand; with requests for memory refused; of many pairs; and by many threads at once.
+mod asked;
 mod calls;
+mod crews;
 mod drops;
 mod memory;
 mod moments;

@@ -1,0 +1,106 @@
+//! Questions by closures.
+use super::{Map, Seen, assert_is, empty, key, put, view_of};
+use combiner::Sum;
+use std::process::Abort;
+use std::sync::Wait;
+use trie_map::NoMemory;
+
+// A map of ten keys in three stripes; the value of each is its number.
+fn ten<R: AllocGlobal + Wait + Abort>(rt: &R) -> Map {
+    let map = empty(rt);
+    for id in 0..10 {
+        put(rt, &map, key(id % 3, id), u64::from(id));
+    }
+    map
+}
+
+// Of a view of the map: how many values are even, whether one is 9, and whether all are below 9.
+fn asked<R: Wait>(rt: &R, map: &Map) -> Result<(u64, bool, bool), NoMemory> {
+    let view = map.view(rt)?;
+    Ok((
+        view.count(|_, value| *value % 2 == 0)?,
+        view.exists(|_, value| *value == 9)?,
+        view.for_all(|_, value| *value < 9)?,
+    ))
+}
+
+// Of a view of the map: the number and the value that are found above the bound.
+fn found_above<R: Wait>(rt: &R, map: &Map, bound: u64) -> Result<Option<(u32, u64)>, NoMemory> {
+    let found = map.view(rt)?.find(|_, value| *value > bound)?;
+    Ok(found.map(|pair| (pair.0.id, *pair.1)))
+}
+
+// Of a view of the map: the sum of the values.
+fn sum<R: Wait>(rt: &R, map: &Map) -> Result<i128, NoMemory> {
+    map.view(rt)?.fold(&Sum, |_, value| i128::from(*value))
+}
+
+// Of the map: how many keys are in the first stripe, whether a value is 10, and whether all are below 10.
+fn asked_of_map<R: Wait>(rt: &R, map: &Map) -> Result<(u64, bool, bool), NoMemory> {
+    Ok((
+        map.count(rt, |key, _| key.path == 0)?,
+        map.exists(rt, |_, value| *value == 10)?,
+        map.for_all(rt, |_, value| *value < 10)?,
+    ))
+}
+
+// Of the map: the value that is found above 8, and the sum of the values.
+fn found_of_map<R: Wait>(rt: &R, map: &Map) -> Result<(Option<u64>, i128), NoMemory> {
+    let found = map.find(rt, |_, value| *value > 8)?;
+    let sum = map.fold(rt, &Sum, |_, value| i128::from(*value))?;
+    Ok((found.map(|pair| *pair.1), sum))
+}
+
+// Of a view: the numbers of the keys, as the digits of one number, in the order of a walk.
+fn keys_of(view: &Seen) -> Result<u32, NoMemory> {
+    let mut digits = 0u32;
+    for key in view.keys()? {
+        digits = digits.wrapping_mul(10).wrapping_add(key.id);
+    }
+    Ok(digits)
+}
+
+// The same of the values.
+fn values_of(view: &Seen) -> Result<u64, NoMemory> {
+    let mut digits = 0u64;
+    for value in view.values()? {
+        digits = digits.wrapping_mul(10).wrapping_add(**value);
+    }
+    Ok(digits)
+}
+
+#[test]
+fn questions_about_a_view(rt: HostRuntime) {
+    let map = ten(&rt);
+    assert_is(&rt, asked(&rt, &map), Ok((5, true, false)));
+    assert_is(&rt, sum(&rt, &map), Ok(45));
+}
+
+#[test]
+fn a_pair_that_passes_is_found(rt: HostRuntime) {
+    let map = ten(&rt);
+    assert_is(&rt, found_above(&rt, &map, 8), Ok(Some((9, 9))));
+    assert_is(&rt, found_above(&rt, &map, 9), Ok(None));
+}
+
+#[test]
+fn questions_about_a_map(rt: HostRuntime) {
+    let map = ten(&rt);
+    assert_is(&rt, asked_of_map(&rt, &map), Ok((4, false, true)));
+    assert_is(&rt, found_of_map(&rt, &map), Ok((Some(9), 45)));
+}
+
+#[test]
+fn keys_and_values_are_walked_in_order(rt: HostRuntime) {
+    let view = view_of(&rt, &ten(&rt));
+    assert_is(&rt, keys_of(&view), Ok(369_147_258));
+    assert_is(&rt, values_of(&view), Ok(369_147_258));
+}
+
+#[test]
+fn questions_about_no_pairs(rt: HostRuntime) {
+    let view = view_of(&rt, &empty(&rt));
+    assert_eq!(rt; view.count(|_, _| true), Ok(0));
+    assert_eq!(rt; view.exists(|_, _| true), Ok(false));
+    assert_eq!(rt; view.for_all(|_, _| false), Ok(true));
+}
