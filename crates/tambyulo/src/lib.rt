@@ -1,0 +1,11 @@
+//! One name for what a service uses: the map that threads share, its views, and what they are asked.
+#![tactic(auto)]
+
+mod test;
+
+pub use test::{Passes, Tested, test_by};
+pub use trie_map::{
+    Answer, Anything, Asks, Both, ByteText, Crew, Greatest, Keeps, Keys, Least, MOST_PAIRS,
+    MOST_PAIRS_OF_STRIPE, Monoid, NoMemory, Pair, PairFn, Pairs, PathKey, Query, Refusal, Stored,
+    StoredItem, StoredMap, StoredTest, Sum, TrieMap, Values, Version, View,
+};
