@@ -1,0 +1,10 @@
+pub mod OneState
+pub mod Runs
+pub mod Diverging
+pub mod Read
+pub mod Loop
+pub mod JudgedLemmas
+pub mod EntryLemmas
+pub mod FinishLemmas
+pub mod SpaceLemmas
+pub mod TellingLemmas

@@ -1,0 +1,65 @@
+-- A filed step leaves one state, and one entry more.
+use Rattle.std.proofs.Common.{◌≡◌, Bool, true, false, ℕ, ◌+◌, ◌∙◌, Some, None, inl, inr, refl, sym, ap}
+use Rattle.versions.specs.declared.refusal.Refusal.{Refusal}
+use Rattle.handles.specs.Machine.{Step, Granted, Finishes, is_entry, open_handle, snapshot, drop_handle, on, view, freeze, finish, abandon, worker_step, made, replied, viewed, frozen, finished, unfinished, refused, worked}
+use Rattle.journal.specs.Journals.{is_filed}
+use Rattle.questions.specs.Program.{program, ProgramTold, ProgramState, ProgramRequest, ProgramOutcome}
+use Rattle.questions.proofs.OneStep.{Settled, settled, refused_in, granted_once, one_step, one_open, one_snapshot, one_reply, one_drop, one_abandon, one_freeze, one_view, finishes_leave_one}
+use Rattle.journal_text.specs.Calls.{IsLawfulRequest}
+
+-- a finish that is filed is told
+abbrev pub IsTold : ProgramState → ℕ → ProgramOutcome → ProgramState → Type 0
+IsTold s j o t = (b : ProgramTold) × (o ≡ finished b) × Finishes program s j b t
+
+pub finish_told : (s : ProgramState) (j : ℕ) (o : ProgramOutcome) (t : ProgramState) → is_filed o ≡ true → Granted program s (finish j) o t → IsTold s j o t
+finish_told s j (finished b) t filed g = (b, refl, g)
+finish_told s j unfinished t filed g = cc
+finish_told s j made t filed g = absurd g
+finish_told s j (replied y) t filed g = absurd g
+finish_told s j (viewed m) t filed g = absurd g
+finish_told s j (frozen k m) t filed g = absurd g
+finish_told s j (refused e) t filed g = absurd g
+finish_told s j worked t filed g = absurd g
+
+one_finish : (s t u : ProgramState) (j : ℕ) (o p : ProgramOutcome) → is_filed o ≡ true → is_filed p ≡ true → Settled s (finish j) o t → Settled s (finish j) p u → t ≡ u
+one_finish s t u j o p filed too (inl (e, a, b, d)) (inl (f, a', b', d')) =
+    let same : Some e ≡ Some f = sym b ∙ b' in
+    let names : e ≡ f = cc in
+    d ∙ ap (refused_in s) names ∙ sym d'
+one_finish s t u j o p filed too (inl (e, a, b, d)) (inr (none, g)) = let same : Some e ≡ None = sym b ∙ none in cc
+one_finish s t u j o p filed too (inr (none, g)) (inl (e, a, b, d)) = let same : Some e ≡ None = sym b ∙ none in cc
+one_finish s t u j o p filed too (inr (none, g)) (inr (other, k)) =
+    let f = finish_told s j o t filed g in
+    let h = finish_told s j p u too k in
+    finishes_leave_one s t u j f.0 h.0 f.2 h.2
+
+-- what a filed step of a lawful request leaves is one state
+pub one_state : (r : ProgramRequest) (s t u : ProgramState) (o p : ProgramOutcome) → IsLawfulRequest r → is_filed o ≡ true → is_filed p ≡ true → Step program s r o t → Step program s r p u → t ≡ u
+one_state (finish j) s t u o p lawful filed too step trod = one_finish s t u j o p filed too (settled s (finish j) o t step) (settled s (finish j) p u trod)
+one_state worker_step s t u o p lawful filed too step trod = absurd lawful
+one_state r s t u o p lawful filed too step trod = (one_step r (granted_once r refl) s t u o p step trod).1
+
+granted_counts : (r : ProgramRequest) (s t : ProgramState) (o : ProgramOutcome) → IsLawfulRequest r → is_filed o ≡ true → Granted program s r o t → t.entries ≡ s.entries + 1
+granted_counts (open_handle h) s t o lawful filed g = ap (λ (x : ProgramState). x.entries) (one_open s h o t g).1
+granted_counts (snapshot h to) s t o lawful filed g = ap (λ (x : ProgramState). x.entries) (one_snapshot s h to o t g).1
+granted_counts (drop_handle h) s t o lawful filed g = ap (λ (x : ProgramState). x.entries) (one_drop s h o t g).1
+granted_counts (on h c) s t o lawful filed g = ap (λ (x : ProgramState). x.entries) (one_reply s h c o t g).1
+granted_counts (view h) s t o lawful filed g = ap (λ (x : ProgramState). x.entries) (one_view s h o t g).1
+granted_counts (freeze h q) s t o lawful filed g = ap (λ (x : ProgramState). x.entries) (one_freeze s h q o t g).1
+granted_counts (abandon j) s t o lawful filed g = ap (λ (x : ProgramState). x.entries) (one_abandon s j o t g).1
+granted_counts (finish j) s t o lawful filed g = ap (λ (x : ProgramState). x.entries) (finish_told s j o t filed g).2.left
+granted_counts worker_step s t o lawful filed g = absurd lawful
+
+refused_counts : (s : ProgramState) (e : Refusal) (b : Bool) → is_entry e ≡ b → b ≡ true → (refused_in s e).entries ≡ s.entries + 1
+refused_counts s e true is there = rw is refl
+refused_counts s e false is there = cc
+
+settled_counts : (r : ProgramRequest) (s t : ProgramState) (o : ProgramOutcome) → IsLawfulRequest r → is_filed o ≡ true → Settled s r o t → t.entries ≡ s.entries + 1
+settled_counts r s t o lawful filed (inl (e, is, why, left)) =
+    let entry : is_entry e ≡ true = sym (ap is_filed is) ∙ filed in
+    ap (λ (x : ProgramState). x.entries) left ∙ refused_counts s e true entry refl
+settled_counts r s t o lawful filed (inr (none, g)) = granted_counts r s t o lawful filed g
+
+-- a filed step counts one entry
+pub step_counts : (r : ProgramRequest) (s t : ProgramState) (o : ProgramOutcome) → IsLawfulRequest r → is_filed o ≡ true → Step program s r o t → t.entries ≡ s.entries + 1
+step_counts r s t o lawful filed step = settled_counts r s t o lawful filed (settled s r o t step)

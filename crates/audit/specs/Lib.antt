@@ -1,0 +1,4 @@
+pub mod Verdicts
+pub mod Answers
+pub mod Reading
+pub mod Telling

@@ -1,0 +1,15 @@
+//! The audit of the text of a journal: whether it is that of a legal journal, and else the first line that spoils it.
+//!
+//! A text is read line by line. Each line is held to the one spelling of an entry with its own number, and the entry to
+//! the table that the entries before it lead to: what was asked is asked again, and what was told compared.
+#![tactic(auto)]
+
+mod auditing;
+mod entry;
+mod judging;
+mod pairs;
+mod telling;
+mod verdict;
+
+pub use auditing::audit;
+pub use verdict::Verdict;

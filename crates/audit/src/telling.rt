@@ -1,0 +1,91 @@
+//! Whether a job is told so.
+
+ghost use Rattle.std.specs.Prelude.{◌≡◌, IfOk, MatchOption};
+ghost use Rattle.bulk_ops.specs.Answers as plain;
+ghost use Rattle.bulk_ops.specs.Queries.{answer_of};
+ghost use Rattle.script.specs.Replies.{text_of};
+ghost use Rattle.questions.specs.Program.{told_reply};
+ghost use Rattle.questions.specs.Queries.{IsPartFor, find};
+ghost use Rattle.audit.specs.Answers.{NoneTold};
+ghost use Rattle.audit.specs.Telling.{IsOnlyTold};
+
+use crate::judging::is_shown_as;
+use crate::pairs::{key_told, pair_at};
+use bulk_ops::{Asks, work};
+use iter::parts_follow_intervals;
+use keys::ByteText;
+use questions::{ScriptPart, ScriptQuery, told};
+use script::Test;
+use splitter::whole;
+use std::alloc::Global;
+use versions::{NoMemory, View};
+
+/// A part that answers the query for the map and is told by this text, if there is one.
+#[tactic(auto, using(crate::proofs::TellingLemmas::told_otherwise))]
+pub fn part_told(
+    alloc: Global,
+    query: &ScriptQuery,
+    view: &View<ByteText, i64>,
+    reply: &[u8],
+) -> Result<Option<ScriptPart>, NoMemory>
+    ensures { IfOk result (λ found. MatchOption found (NoneTold query.now view.now reply.now) (λ part. IsPartFor query.now view.now part × (reply.now ≡ text_of (told_reply (plain.told (answer_of part)))))) }
+{
+    let Some(part) = only_part(alloc, query, view, reply)? else {
+        return Ok(None);
+    };
+    let shown = told(query.tell(&part)?);
+    if is_shown_as(alloc, &Some(shown), reply)? {
+        Ok(Some(part))
+    } else {
+        Ok(None)
+    }
+}
+
+/// A part that answers the query for the map, if this text may tell one; no answer but the part's is told by the text.
+#[tactic(auto, using(crate::proofs::TellingLemmas::one_for))]
+fn only_part(
+    alloc: Global,
+    query: &ScriptQuery,
+    view: &View<ByteText, i64>,
+    reply: &[u8],
+) -> Result<Option<ScriptPart>, NoMemory>
+    ensures { IfOk result (λ found. MatchOption found (NoneTold query.now view.now reply.now) (λ part. IsPartFor query.now view.now part × IsOnlyTold query.now view.now reply.now part)) }
+{
+    if let Some(test) = query.pair_test() {
+        return pair_told(alloc, test, query, view, reply);
+    }
+    let part = part_of(alloc, query, view)?;
+    Ok(Some(part))
+}
+
+/// The same of a query for some pair.
+#[tactic(auto, using(crate::proofs::TellingLemmas::none_at, crate::proofs::TellingLemmas::pair_for, crate::proofs::TellingLemmas::other_for))]
+fn pair_told(
+    alloc: Global,
+    test: &Test,
+    query: &ScriptQuery,
+    view: &View<ByteText, i64>,
+    reply: &[u8],
+) -> Result<Option<ScriptPart>, NoMemory>
+    requires { query.now ≡ find test.now }
+    ensures { IfOk result (λ found. MatchOption found (NoneTold query.now view.now reply.now) (λ part. IsPartFor query.now view.now part × IsOnlyTold query.now view.now reply.now part)) }
+{
+    let Some(key) = key_told(reply) else {
+        let part = part_of(alloc, query, view)?;
+        return Ok(Some(part));
+    };
+    pair_at(alloc, test, view, key)
+}
+
+/// The part of the whole map.
+fn part_of(
+    alloc: Global,
+    query: &ScriptQuery,
+    view: &View<ByteText, i64>,
+) -> Result<ScriptPart, NoMemory>
+    ensures { IfOk result (λ part. IsPartFor query.now view.now part) }
+{
+    parts_follow_intervals::<ByteText, i64>();
+    let piece = whole(alloc, view.try_clone()?);
+    work(alloc, &piece, query)
+}

@@ -1,0 +1,16 @@
+//! What the tests share: the verdict on a text, in words.
+use audit::{Verdict, audit};
+use std::alloc::Global;
+use versions::NoMemory;
+
+mod hostile;
+mod rows;
+mod runs;
+
+/// The verdict on the text, as the program prints it.
+fn told(alloc: Global, text: &[u8]) -> Result<String, NoMemory> {
+    Ok(match audit(alloc, text)? {
+        Verdict::Legal(entries) => format!(in alloc; "legal {entries}")?,
+        Verdict::Bad(line) => format!(in alloc; "bad {line}")?,
+    })
+}

@@ -1,0 +1,74 @@
+//! Bytes that nobody wrote as a journal.
+use crate::tests::told;
+use std::alloc::Global;
+use std::test::Fail;
+use versions::NoMemory;
+
+/// So many times the bytes, between two others.
+fn repeated(
+    alloc: Global,
+    front: &[u8],
+    bytes: &[u8],
+    times: u32,
+    back: &[u8],
+) -> Result<Vec<u8>, NoMemory> {
+    let mut made = Vec::new(alloc);
+    made.extend_from_slice(front)?;
+    for _ in 0..times {
+        made.extend_from_slice(bytes)?;
+    }
+    made.extend_from_slice(back)?;
+    Ok(made)
+}
+
+#[test]
+fn hostile_lines_are_bad(rt: HostRuntime) -> Result<(), Fail> {
+    let cases: [(&[u8], &[u8], u32, &[u8]); 10] = [
+        (b"", b"[", 100_000, b"\n"),
+        (b"", b"{\"call\":", 100_000, b"\n"),
+        (b"{\"call\":", b"[", 100_000, b"\n"),
+        (
+            b"{\"call\":\"",
+            b"a",
+            1_000_000,
+            b"\",\"entry\":1,\"reply\":\"ok\",\"seat\":0}\n",
+        ),
+        (
+            b"{\"call\":\"open 1\",\"entry\":",
+            b"1",
+            1_000,
+            b",\"reply\":\"ok\",\"seat\":0}\n",
+        ),
+        (
+            b"{\"call\":\"open ",
+            b"1",
+            1_000,
+            b"\",\"entry\":1,\"reply\":\"ok\",\"seat\":0}\n",
+        ),
+        (
+            b"{\"call\":\"open 1\",\"entry\":1,\"reply\":\"ok",
+            b"\\u0000",
+            10,
+            b"\",\"seat\":0}\n",
+        ),
+        (
+            b"{\"call\":\"open 1\",\"entry\":1,\"reply\":\"ok",
+            b"\xff",
+            10,
+            b"\",\"seat\":0}\n",
+        ),
+        (
+            b"{\"call\":\"put 1 \\\"",
+            b"\\\\",
+            100,
+            b" 1\",\"entry\":1,\"reply\":\"ok\",\"seat\":0}\n",
+        ),
+        (b"{\"entries\":", b"0", 1_000, b"}\n"),
+    ];
+    for (front, bytes, times, back) in cases {
+        let text = repeated(rt.alloc(), front, bytes, times, back)?;
+        let verdict = told(rt.alloc(), &text)?;
+        assert_eq!(rt; verdict.as_str(), "bad 1");
+    }
+    Ok(())
+}

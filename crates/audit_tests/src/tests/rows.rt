@@ -1,0 +1,190 @@
+//! Journals whose verdict is known from outside.
+use crate::tests::told;
+use std::alloc::Global;
+use std::test::Fail;
+use versions::NoMemory;
+
+/// A journal of four entries.
+const FIRST: &[u8] = b"{\"call\":\"open 1\",\"entry\":1,\"reply\":\"ok\",\"seat\":0}
+{\"call\":\"put 1 a 5\",\"entry\":2,\"reply\":\"none\",\"seat\":0}
+{\"call\":\"put 1 a 7\",\"entry\":3,\"reply\":\"some 5\",\"seat\":0}
+{\"call\":\"get 1 a\",\"entry\":4,\"reply\":\"some 7\",\"seat\":0}
+{\"entries\":4}
+";
+
+/// A journal of a bulk verb with a target, of each kind of event, and of a find that two pairs could answer.
+const BULK: &[u8] = b"{\"call\":\"open 1\",\"entry\":1,\"reply\":\"ok\",\"seat\":0}
+{\"call\":\"put 1 a\\\"\\\\=b 4\",\"entry\":2,\"reply\":\"none\",\"seat\":63}
+{\"call\":\"put 1 c -9223372036854775808\",\"entry\":3,\"reply\":\"none\",\"seat\":0}
+{\"call\":\"freeze filter 1 even 2\",\"entry\":4,\"reply\":\"job 0\",\"seat\":0}
+{\"call\":\"freeze find 1 even\",\"entry\":5,\"reply\":\"job 1\",\"seat\":1}
+{\"call\":\"remove 1 c\",\"entry\":6,\"reply\":\"some -9223372036854775808\",\"seat\":1}
+{\"call\":\"finish 0\",\"entry\":7,\"reply\":\"count 2\",\"seat\":0}
+{\"call\":\"finish 1\",\"entry\":8,\"reply\":\"pair c -9223372036854775808\",\"seat\":1}
+{\"call\":\"view 2\",\"entry\":9,\"reply\":\"pairs a\\\"\\\\=b=4 c=-9223372036854775808\",\"seat\":1}
+{\"call\":\"freeze fold 2 sum\",\"entry\":10,\"reply\":\"job 2\",\"seat\":1}
+{\"call\":\"abandon 2\",\"entry\":11,\"reply\":\"ok\",\"seat\":1}
+{\"call\":\"open 1\",\"entry\":12,\"reply\":\"refused Taken\",\"seat\":0}
+{\"call\":\"get 3 a\",\"entry\":13,\"reply\":\"refused NoHandle\",\"seat\":0}
+{\"call\":\"open 1024\",\"entry\":14,\"reply\":\"refused BadNumber\",\"seat\":0}
+{\"call\":\"snap 1 5\",\"entry\":15,\"reply\":\"ok\",\"seat\":0}
+{\"call\":\"drop 1\",\"entry\":16,\"reply\":\"ok\",\"seat\":0}
+{\"entries\":16}
+";
+
+#[test]
+fn legal_journals_are_legal(rt: HostRuntime) -> Result<(), Fail> {
+    let first = told(rt.alloc(), FIRST)?;
+    assert_eq!(rt; first.as_str(), "legal 4");
+    let bulk = told(rt.alloc(), BULK)?;
+    assert_eq!(rt; bulk.as_str(), "legal 16");
+    let none = told(rt.alloc(), b"{\"entries\":0}\n")?;
+    assert_eq!(rt; none.as_str(), "legal 0");
+    Ok(())
+}
+
+/// How many newlines there are.
+fn newlines(text: &[u8]) -> u64 {
+    let mut count = 0;
+    for byte in text {
+        if *byte == b'\n' && count < 1_000_000 {
+            count += 1;
+        }
+    }
+    count
+}
+
+/// The line that is cut spoils the text, or the one that is wanting: each beginning of the first journal, and every
+/// 37th of the second.
+#[test]
+fn beginnings_are_bad(rt: HostRuntime) -> Result<(), Fail> {
+    for end in 0..FIRST.len() {
+        let verdict = told(rt.alloc(), &FIRST[..end])?;
+        let wanted = cut(rt.alloc(), &FIRST[..end])?;
+        assert_eq!(rt; verdict.as_str(), wanted.as_str());
+    }
+    for end in (0..BULK.len()).step_by(37) {
+        let verdict = told(rt.alloc(), &BULK[..end])?;
+        let wanted = cut(rt.alloc(), &BULK[..end])?;
+        assert_eq!(rt; verdict.as_str(), wanted.as_str());
+    }
+    Ok(())
+}
+
+/// What is told of the beginning of a legal journal's text.
+fn cut(alloc: Global, beginning: &[u8]) -> Result<String, NoMemory> {
+    Ok(format!(in alloc; "bad {}", newlines(beginning).saturating_add(1))?)
+}
+
+/// Each line in the place of another one of the journal of four entries, and the line that it spoils.
+#[test]
+fn wrong_lines_are_bad(rt: HostRuntime) -> Result<(), Fail> {
+    let cases: [(&[u8], &[u8], &str); 27] = [
+        (b"\"some 5\"", b"\"some 6\"", "bad 3"),
+        (b"\"some 7\"", b"\"some 5\"", "bad 4"),
+        (b"\"none\"", b"\"some 5\"", "bad 2"),
+        (b"put 1 a 7", b"put 1 b 7", "bad 3"),
+        (b"put 1 a 7", b"put 1  a 7", "bad 3"),
+        (b"put 1 a 7", b" put 1 a 7", "bad 3"),
+        (b"put 1 a 7", b"put 1 a 7 ", "bad 3"),
+        (b"put 1 a 7", b"put 1 a 07", "bad 3"),
+        (b"put 1 a 7", b"put 1 a +7", "bad 3"),
+        (b"put 1 a 7", b"put 01 a 7", "bad 3"),
+        (b"put 1 a 7", b"put 1 \\u0061 7", "bad 3"),
+        (b"get 1 a", b"getorelse 1 a 3", "bad 4"),
+        (b"get 1 a", b"finish 0", "bad 4"),
+        (b"get 1 a", b"abandon 0", "bad 4"),
+        (b"get 1 a", b"pairs 1", "bad 4"),
+        (b"get 1 a", b"count 1 all", "bad 4"),
+        (
+            b"get 1 a",
+            b"finish 999999999999999999999999999999",
+            "bad 4",
+        ),
+        (
+            b"\"seat\":0}\n{\"call\":\"get",
+            b"\"seat\":64}\n{\"call\":\"get",
+            "bad 3",
+        ),
+        (
+            b"\"seat\":0}\n{\"call\":\"get",
+            b"\"seat\":63}\n{\"call\":\"get",
+            "legal 4",
+        ),
+        (
+            b"\"seat\":0}\n{\"call\":\"get",
+            b"\"seat\":0.0}\n{\"call\":\"get",
+            "bad 3",
+        ),
+        (
+            b"\"seat\":0}\n{\"call\":\"get",
+            b"\"seat\":-0}\n{\"call\":\"get",
+            "bad 3",
+        ),
+        (
+            b"\"seat\":0}\n{\"call\":\"get",
+            b"\"seat\":0,\"seat\":0}\n{\"call\":\"get",
+            "bad 3",
+        ),
+        (b"\"entry\":2", b"\"entry\":3", "bad 2"),
+        (b"{\"entries\":4}", b"{\"entries\":3}", "bad 5"),
+        (b"{\"entries\":4}", b"{\"entries\":4} ", "bad 5"),
+        (b"{\"entries\":4}\n", b"{\"entries\":4}\n\n", "bad 6"),
+        (b"{\"entries\":4}\n", b"", "bad 5"),
+    ];
+    for (old, new, wanted) in cases {
+        let text = turned(rt.alloc(), FIRST, old, new)?;
+        let verdict = told(rt.alloc(), &text)?;
+        assert_eq!(rt; verdict.as_str(), wanted);
+    }
+    Ok(())
+}
+
+/// Replies of the second journal that are others, and where they spoil it. Another pair that passes is as good.
+#[test]
+fn wrong_replies_are_bad(rt: HostRuntime) -> Result<(), Fail> {
+    let cases: [(&[u8], &[u8], &str); 14] = [
+        (
+            b"pair c -9223372036854775808",
+            b"pair a\\\"\\\\=b 4",
+            "legal 16",
+        ),
+        (
+            b"pair c -9223372036854775808",
+            b"pair a\\\"\\\\=b 6",
+            "bad 8",
+        ),
+        (b"pair c -9223372036854775808", b"pair d 4", "bad 8"),
+        (b"pair c -9223372036854775808", b"none", "bad 8"),
+        (b"pair c -9223372036854775808", b"count 1", "bad 8"),
+        (b"pair c -9223372036854775808", b"pair ", "bad 8"),
+        (b"pair c -9223372036854775808", b"pair c", "bad 8"),
+        (b"\"count 2\"", b"\"count 1\"", "bad 7"),
+        (b"\"job 0\"", b"\"job 1\"", "bad 4"),
+        (b"=b=4 c=-9223372036854775808", b"=b=4", "bad 9"),
+        (b"\"abandon 2\"", b"\"abandon 1\"", "bad 11"),
+        (b"\"refused Taken\"", b"\"refused NoHandle\"", "bad 12"),
+        (b"\"refused Taken\"", b"\"ok\"", "bad 12"),
+        (b"\"finish 1\"", b"\"finish 0\"", "bad 8"),
+    ];
+    for (old, new, wanted) in cases {
+        let text = turned(rt.alloc(), BULK, old, new)?;
+        let verdict = told(rt.alloc(), &text)?;
+        assert_eq!(rt; verdict.as_str(), wanted);
+    }
+    Ok(())
+}
+
+/// The text with the first place of some bytes turned to others.
+fn turned(alloc: Global, text: &[u8], old: &[u8], new: &[u8]) -> Result<Vec<u8>, NoMemory> {
+    let mut made = Vec::new(alloc);
+    for place in 0..text.len() {
+        if text[place..].starts_with(old) {
+            made.extend_from_slice(&text[..place])?;
+            made.extend_from_slice(new)?;
+            made.extend_from_slice(&text[place + old.len()..])?;
+            return Ok(made);
+        }
+    }
+    Ok(made)
+}
