@@ -2,6 +2,8 @@
 #![tactic(auto)]
 
 mod test;
+#[cfg(test)]
+mod tests;
 
 pub use test::{Passes, Tested, test_by};
 pub use trie_map::{
