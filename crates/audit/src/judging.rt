@@ -10,11 +10,11 @@ ghost use Rattle.journal.specs.Answers.{answered, asked_of};
 ghost use Rattle.audit.specs.Answers.{Answers, IsReplyTo, IsShownAs, IsTextOf, NoneAnswers, is_want};
 
 use crate::telling::part_told;
-use handles::{Call, CallReply, Reply, Table};
+use handles::{Call, CallReply, Table};
 use journal::Asked;
 use journal_text::ProgramAsked;
 use keys::ByteText;
-use questions::{ScriptQuery, listing_of};
+use questions::{ScriptQuery, listing_of, reply_shown};
 use script::{LineReply, push_reply};
 use std::alloc::Global;
 use std::sync::Arc;
@@ -147,12 +147,7 @@ fn reply_of(answer: &Result<CallReply<i64>, Refusal>) -> Result<Option<LineReply
     ensures memory { OnOk result (lacks_memory answer.now ≡ false) }
 {
     match answer {
-        Ok(CallReply::Unit) => Ok(Some(LineReply::Done)),
-        Ok(CallReply::Reply(Reply::Old(None))) => Ok(Some(LineReply::Absent)),
-        Ok(CallReply::Reply(Reply::Old(Some(value)))) => Ok(Some(LineReply::Found(**value))),
-        Ok(CallReply::Reply(Reply::Done(done))) => Ok(Some(LineReply::Truth(*done))),
-        Ok(CallReply::Reply(Reply::Size(pairs))) => Ok(Some(LineReply::Count(*pairs))),
-        Ok(CallReply::Reply(Reply::Cleared)) => Ok(Some(LineReply::Done)),
+        Ok(reply) => Ok(Some(reply_shown(reply))),
         Err(refusal) => refused(*refusal),
     }
 }

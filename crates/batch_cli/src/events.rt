@@ -8,10 +8,10 @@ ghost use Rattle.questions.specs.Program.{reply_to};
 ghost use Rattle.batch_cli.specs.Filing.{FilesAnswer, FilesOrElse, FilesReply};
 
 use crate::jobs::worked;
-use handles::{Call, CallReply, Reply};
+use handles::{Call, CallReply};
 use keys::ByteText;
 use locked_map::{Room, Seat, SharedMap};
-use questions::{Ask, ScriptQuery, ask_of, listing_of};
+use questions::{Ask, ScriptQuery, ask_of, listing_of, reply_shown};
 use script::{LineReply, Statement};
 use std::alloc::Global;
 use std::sync::{Arc, Wait};
@@ -105,12 +105,7 @@ fn reply_of(answer: &Result<CallReply<i64>, Refusal>) -> Result<LineReply, NoMem
     ensures unfiled { OnErr result (is_counted answer.now ≡ false) }
 {
     match answer {
-        Ok(CallReply::Unit) => Ok(LineReply::Done),
-        Ok(CallReply::Reply(Reply::Old(None))) => Ok(LineReply::Absent),
-        Ok(CallReply::Reply(Reply::Old(Some(value)))) => Ok(LineReply::Found(**value)),
-        Ok(CallReply::Reply(Reply::Done(done))) => Ok(LineReply::Truth(*done)),
-        Ok(CallReply::Reply(Reply::Size(pairs))) => Ok(LineReply::Count(*pairs)),
-        Ok(CallReply::Reply(Reply::Cleared)) => Ok(LineReply::Done),
+        Ok(reply) => Ok(reply_shown(reply)),
         Err(refusal) => refused(*refusal),
     }
 }

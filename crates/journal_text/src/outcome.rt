@@ -1,18 +1,15 @@
 //! The text of what is told.
 
-ghost use Rattle.std.specs.Prelude.{◌≡◌, ◌++◌, IfOk, OnOk, Some};
+ghost use Rattle.std.specs.Prelude.{◌≡◌, ◌++◌, IfOk, OnOk};
 ghost use Rattle.bulk_ops.specs.Told.{told_of};
-ghost use Rattle.handles.specs.Views.{call_outcome};
 ghost use Rattle.questions.specs.Program.{told_reply};
 ghost use Rattle.journal.specs.Answers.{outcome_told};
-ghost use Rattle.questions.specs.Program.{reply_to};
 ghost use Rattle.journal_text.specs.Calls.{outcome_text};
 
 use bulk_ops::Answer;
-use handles::{CallReply, Reply};
 use journal::Told;
 use keys::ByteText;
-use questions::listing_of;
+use questions::{listing_of, reply_shown};
 use script::{LineReply, MapKey, push_reply};
 use std::alloc::Global;
 use std::io::Write;
@@ -28,7 +25,7 @@ pub fn push_told(alloc: Global, out: &mut Vec<u8>, told: &ProgramTold) -> Result
 {
     let done = match told {
         Told::Frozen(job, _) => write!(out, "job {job}"),
-        Told::Reply(reply) => push_reply(out, &shown(reply)),
+        Told::Reply(reply) => push_reply(out, &reply_shown(reply)),
         Told::View(view) => push_reply(out, &LineReply::Pairs(listing_of(alloc, view)?)),
         Told::Answer(answer) => push_reply(out, &answer_shown(answer)?),
         Told::Abandoned => push_reply(out, &LineReply::Done),
@@ -37,20 +34,6 @@ pub fn push_told(alloc: Global, out: &mut Vec<u8>, told: &ProgramTold) -> Result
     match done {
         Ok(()) => Ok(()),
         Err(_) => Err(NoMemory),
-    }
-}
-
-/// The reply that shows what a call is answered.
-fn shown(reply: &CallReply<i64>) -> LineReply
-    ensures { reply_to (call_outcome reply.now) ≡ Some result }
-{
-    match reply {
-        CallReply::Unit => LineReply::Done,
-        CallReply::Reply(Reply::Old(None)) => LineReply::Absent,
-        CallReply::Reply(Reply::Old(Some(value))) => LineReply::Found(**value),
-        CallReply::Reply(Reply::Done(done)) => LineReply::Truth(*done),
-        CallReply::Reply(Reply::Size(pairs)) => LineReply::Count(*pairs),
-        CallReply::Reply(Reply::Cleared) => LineReply::Done,
     }
 }
 

@@ -16,4 +16,4 @@ pub use ask::{Ask, ask_of};
 pub use laws::{finishes_leave_one_state, finishes_tell_one_answer, requests_have_one_outcome};
 pub use listing::listing_of;
 pub use query::{ScriptPart, ScriptQuery};
-pub use telling::told;
+pub use telling::{reply_shown, told};
