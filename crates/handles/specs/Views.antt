@@ -92,12 +92,13 @@ abbrev pub outcome_of : {K V B : Type 0} → Result (CallReply V) Refusal → Ou
 outcome_of (Ok y) = call_outcome y
 outcome_of (Err e) = refused e
 
--- whether a command that is answered so leaves every map as it was: it reads alone, or what it was to write hung on a condition that did not hold
+-- whether a command that is answered so leaves every map: it reads alone, its condition did not hold, or the key that it was to remove was absent
 abbrev pub leaves_map : {K V : Type 0} → commands.Command K V → commands.Reply V → Bool
 leaves_map (commands.get k) y = true
 leaves_map commands.size y = true
 leaves_map (commands.put_if_absent k v) (commands.old (Some w)) = true
 leaves_map (commands.replace k v) (commands.old None) = true
+leaves_map (commands.remove k) (commands.old None) = true
 leaves_map (commands.replace_if k was v) (commands.done false) = true
 leaves_map (commands.remove_if k v) (commands.done false) = true
 leaves_map c y = false

@@ -34,19 +34,19 @@ impl<K: PathKey + Drop, V: Eq + Drop> Command<K, V> {
         }
     }
 
-    /// Whether the command, where it replies so, leaves the map as it was: it reads alone, or what it was to write hung
-    /// on a condition that did not hold.
+    /// Whether the command, where it replies so, leaves the map as it was: it reads alone, what it was to write hung on
+    /// a condition that did not hold, or the key that it was to remove was absent.
     pub(crate) fn leaves_map(&self, reply: &Reply<V>) -> bool
         ensures { result ≡ leaves_map (command_of self.now) (reply_of reply.now) }
     {
         match self {
             Command::Get(_) | Command::Size => true,
             Command::PutIfAbsent(_, _) => matches!(reply, Reply::Old(Some(_))),
-            Command::Replace(_, _) => matches!(reply, Reply::Old(None)),
+            Command::Replace(_, _) | Command::Remove(_) => matches!(reply, Reply::Old(None)),
             Command::ReplaceIf(_, _, _) | Command::RemoveIf(_, _) => {
                 matches!(reply, Reply::Done(false))
             }
-            Command::Put(_, _) | Command::Remove(_) | Command::Clear => false,
+            Command::Put(_, _) | Command::Clear => false,
         }
     }
 }

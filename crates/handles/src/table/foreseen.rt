@@ -1,6 +1,6 @@
 //! Calls that are made once their answers were foreseen.
 ghost use Rattle.std.specs.Prelude.{◌≡◌, OnErr, OnOk, false, true};
-ghost use Rattle.handles.specs.Machine.{Step};
+ghost use Rattle.handles.specs.Machine.{Step, takes_no_memory};
 ghost use Rattle.handles.specs.Views.{Foresees, call_outcome, is_counted, leaves_maps, machine, outcome_of, request_of};
 
 use super::{Table, lacks_memory};
@@ -13,7 +13,8 @@ use versions::{NoMemory, Refusal};
 
 impl<K: PathKey + Drop, V: Eq + Drop, Q: Asks<K, V> + Drop> Table<K, V, Q> {
     /// Makes the call as `serve` does, where this answer was foreseen: it is the outcome of the step. A call that is
-    /// answered so and leaves all maps is counted alone, with no second look at a map, and is never `NoMemory`.
+    /// answered so and leaves all maps is counted alone, with no second look at a map, and is never `NoMemory`. Nor is a
+    /// drop.
     pub fn serve_foreseen(
         &mut self,
         alloc: Global,
@@ -24,6 +25,7 @@ impl<K: PathKey + Drop, V: Eq + Drop, Q: Asks<K, V> + Drop> Table<K, V, Q> {
         requires counted { is_counted answer.now ≡ true }
         ensures step { OnOk result (Step (machine K.cmp V.eq Q.target_of Q.answered) self.old (request_of call) (outcome_of answer.now) self.new) }
         ensures memory { OnErr result (leaves_maps call answer.now ≡ false) }
+        ensures without { OnErr result (takes_no_memory (request_of {Q = Q} call) ≡ false) }
         ensures err { OnErr result (self.new ≡ self.old) }
     {
         if leaves_maps(&call, answer) {
@@ -37,6 +39,7 @@ impl<K: PathKey + Drop, V: Eq + Drop, Q: Asks<K, V> + Drop> Table<K, V, Q> {
     }
 
     // Counts the entry of a call that leaves all maps.
+    #[tactic(auto, using(crate::proofs::Leaves::leaves_same))]
     fn count(&mut self, call: &Call<K, V>, answer: &Result<CallReply<V>, Refusal>)
         requires foreseen { Foresees (machine K.cmp V.eq Q.target_of Q.answered) self.old (request_of call.now) call_outcome answer.now }
         requires counted { is_counted answer.now ≡ true }
