@@ -4,7 +4,7 @@ use Rattle.std.specs.declared.cmp.Ordering.{Ordering}
 use Rattle.std.specs.Ordering.{nat_cmp}
 use Rattle.std.specs.List.{list_any}
 use Rattle.versions.specs.Map.{Map, value_at, with_pair, without}
-use Rattle.versions.specs.Commands.{Command, Reply, after, reply, is_full, needs_no_memory}
+use Rattle.versions.specs.Commands.{Command, clear, Reply, after, reply, is_full, needs_no_memory}
 use Rattle.versions.specs.declared.refusal.Refusal.{Refusal}
 use Rattle.versions.specs.declared.refusal.Refusal.TheVariants.{NoHandle, Taken, Full, NoJob, Unfinished, TooManyJobs, JournalFull, NoMemory, BadNumber}
 use Rattle.handles.specs.declared.limits.Limits.{Limits}
@@ -116,6 +116,12 @@ module _ {K V Q : Type 0} where
   takes_no_memory (finish j) = true
   takes_no_memory (abandon j) = true
   takes_no_memory _ = false
+
+  -- the map that a drop or a clear of a live handle lets go
+  abbrev pub let_go : State K V Q → Request K V Q → Option (Map K V)
+  let_go s (drop_handle h) = map_at s h
+  let_go s (on h clear) = map_at s h
+  let_go s r = None
 
   -- how many entries may still be made besides the ends of the open jobs
   abbrev pub room : State K V Q → ℕ

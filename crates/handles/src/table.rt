@@ -1,9 +1,9 @@
 //! The table of handles.
-ghost use Rattle.std.specs.Prelude.{◌≡◌, ◌+◌, ◌<◌, ◌≤◌, ◌*◌, ◌^◌, IfOk, OnErr, Some, option_map, if◌then◌else◌, false, true};
+ghost use Rattle.std.specs.Prelude.{◌≡◌, ◌+◌, ◌<◌, ◌≤◌, ◌*◌, ◌^◌, IfOk, IfSome, OnErr, Some, option_map, if◌then◌else◌, false, true};
 ghost use Rattle.bulk_ops.specs.Answers as plain;
 ghost use Rattle.bulk_ops.specs.Told.{told_of};
 ghost use Rattle.handles.specs.Handles.{IsKept, live_from, maps_in};
-ghost use Rattle.handles.specs.Machine.{IsRunOfSome, Job, Run, abandon, drop_handle, finish, freeze, is_entry, job_at, nothing, on, open_handle, snapshot, view};
+ghost use Rattle.handles.specs.Machine.{IsRunOfSome, Job, Run, abandon, drop_handle, finish, freeze, is_entry, job_at, let_go, nothing, on, open_handle, snapshot, view};
 ghost use Rattle.handles.specs.Views.{AnswersWithoutMemory, IsDue, IsStep, call_outcome, command_of, finished_outcome, frozen_outcome, is_counted, lacks_memory, machine, outcomes_of, reply_outcome, request_of, requests_of, unit_outcome, view_outcome};
 
 use crate::call::Call;
@@ -100,6 +100,21 @@ impl<K: PathKey + Drop, V: Eq + Drop, Q: Asks<K, V> + Drop> Table<K, V, Q> {
         ensures kept { IsKept self.now.limits.pairs (2 * self.now.entries) result.now }
     {
         self.places.as_slice()
+    }
+
+    /// The map that the call is about to let go: that of a live handle which it drops or clears. Where the view is kept
+    /// until the call was made, the nodes of the map are freed with the view, and not by the call.
+    ///
+    /// It makes no entry and no request for memory. It is none too where the clone of a handle is refused.
+    pub fn taken_out(&self, call: &Call<K, V>) -> Option<View<K, V>>
+        ensures { IfSome result (λ map. let_go self.now (request_of call.now) ≡ Some map) }
+    {
+        match call {
+            Call::Drop(handle) | Call::On(handle, Command::Clear) => {
+                self.places.version(*handle)?.view().ok()
+            }
+            _ => None,
+        }
     }
 
     /// The query of the open job of the number, and the map that its freeze recorded. It makes no entry and takes no

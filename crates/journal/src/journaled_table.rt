@@ -1,9 +1,9 @@
 //! The table that keeps its journal.
-ghost use Rattle.std.specs.Prelude.{◌≡◌, ◌≤◌, ◌<◌, ◌+◌, ◌^◌, ◌⊎◌, ◌++◌, ◌∷◌, [], IfErr, IfOk, IsTrue, MatchResult, OnErr, OnOk, Some, filter, vec_capacity, vec_len};
+ghost use Rattle.std.specs.Prelude.{◌≡◌, ◌≤◌, ◌<◌, ◌+◌, ◌^◌, ◌⊎◌, ◌++◌, ◌∷◌, [], IfErr, IfOk, IfSome, IsTrue, MatchResult, OnErr, OnOk, Some, filter, vec_capacity, vec_len};
 ghost use Rattle.boxcar.specs.Table.{Shows};
 ghost use Rattle.bulk_ops.specs.Answers as plain;
 ghost use Rattle.bulk_ops.specs.Told.{told_of};
-ghost use Rattle.handles.specs.Machine.{Job, abandon, finish, freeze, made, nothing, view};
+ghost use Rattle.handles.specs.Machine.{Job, abandon, finish, freeze, let_go, made, nothing, view};
 ghost use Rattle.handles.specs.Views.{call_outcome, finished_outcome, frozen_outcome, machine, request_of, view_outcome};
 ghost use Rattle.journal.specs.Answers.{IsUnfiled, answered};
 ghost use Rattle.journal.specs.Journals.{IsLegal};
@@ -68,6 +68,16 @@ impl<K: PathKey + Drop, V: Eq + Drop, Q: Asks<K, V> + Drop, J: Room> JournaledTa
             freezes: Vec::new(alloc),
             room: PhantomData,
         })
+    }
+
+    /// The map that the call is about to let go: that of a live handle which it drops or clears. Where the view is kept
+    /// until the call was made, the nodes of the map are freed with the view, and not by the call.
+    ///
+    /// It makes no entry and no request for memory. It is none too where the clone of a handle is refused.
+    pub fn taken_out(&self, call: &Call<K, V>) -> Option<View<K, V>>
+        ensures { IfSome result (λ map. let_go self.now.state (request_of call.now) ≡ Some map) }
+    {
+        self.table.taken_out(call)
     }
 
     /// Makes the call, and files it.
