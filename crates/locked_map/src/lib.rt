@@ -6,6 +6,7 @@
 //! seat's list is what the journal has of the seat, and gives the journal. Views are read with no lock.
 #![tactic(auto)]
 
+mod bulk;
 mod clients;
 mod closed;
 mod closing;
@@ -22,4 +23,5 @@ pub use journal::{Asked, Entry, Journal, Room, Told};
 pub use lending::{MOST_SEATS, Use, with};
 pub use seat::Seat;
 pub use shared_map::SharedMap;
+pub use task_pool::{Crew, Free, Gate};
 pub use ticket::Ticket;
