@@ -8,3 +8,11 @@ pub mod EntryLemmas
 pub mod FinishLemmas
 pub mod SpaceLemmas
 pub mod TellingLemmas
+pub mod MapLemmas
+pub mod Room
+pub mod VerdictLemmas
+pub mod ByteLemmas
+pub mod AsciiLemmas
+pub mod KeyLemmas
+pub mod LegalRuns
+pub mod EndLemmas

@@ -3,6 +3,7 @@ use Prim.Native.Nat.{zero, suc}
 use Rattle.std.proofs.Common.{◌≡◌, ◌≢◌, Bool, true, false, ℕ, ◌+◌, ◌/◌, ◌%◌, ◌∙◌, length, List, [], ◌∷◌, ◌++◌, refl, sym, ap, subst, arith, append_assoc}
 use Rattle.std.specs.Prelude.{ℤ, pos, negsuc, ◌==◌, if◌then◌else◌, nat_lt}
 use Rattle.std.specs.Fmt.{decimal, signed_decimal, digit_glyph, digits, digits_onto}
+use Rattle.audit.proofs.ByteLemmas.{EachByte, each_digit}
 use Rattle.audit.specs.Telling.{IsSpaceless, IsFront, HasNoFront}
 
 space_inside : (xs ys : List ℕ) → IsSpaceless (xs ++ 32 ∷ ys) → ⊥
@@ -26,21 +27,12 @@ glyph_below : (b : Bool) (d : ℕ) → (if b then 48 + d else (if false then 55 
 glyph_below true d e = omega arith
 glyph_below false d e = omega arith
 
-onto_spaceless : (k n : ℕ) (acc : List ℕ) → IsSpaceless acc → IsSpaceless (digits_onto k 10 false n acc)
-onto_spaceless zero n acc h = h
-onto_spaceless (suc k) n acc h =
-    let more : IsSpaceless (digit_glyph false (n % 10) ∷ acc) = (glyph_below (nat_lt (n % 10) 10) (n % 10), h) in
-    elim (n / 10 == 0) as (λ b. IsSpaceless (if b then digit_glyph false (n % 10) ∷ acc else digits_onto k 10 false (n / 10) (digit_glyph false (n % 10) ∷ acc))) [
-      | true ↦ more
-      | false ↦ onto_spaceless k (n / 10) (digit_glyph false (n % 10) ∷ acc) more
-    ]
-
-spelled : (n : ℕ) → digits_onto 64 10 false n [] ≡ decimal n
-unfolding digits
-spelled n = refl
+spaceless : (w : List ℕ) → EachByte (λ b. b ≢ 32) w → IsSpaceless w
+spaceless [] h = tt
+spaceless (b ∷ w) h = (h.0, spaceless w h.1)
 
 decimal_spaceless : (n : ℕ) → IsSpaceless (decimal n)
-decimal_spaceless n = subst IsSpaceless (spelled n) (onto_spaceless 64 n [] tt)
+decimal_spaceless n = spaceless (decimal n) (each_digit (λ b. b ≢ 32) (λ d below. glyph_below (nat_lt d 10) d) n)
 
 pub signed_spaceless : (z : ℤ) → IsSpaceless (signed_decimal z)
 signed_spaceless (pos n) = decimal_spaceless n

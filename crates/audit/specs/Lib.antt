@@ -2,3 +2,4 @@ pub mod Verdicts
 pub mod Answers
 pub mod Reading
 pub mod Telling
+pub mod Runs

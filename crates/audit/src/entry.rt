@@ -1,6 +1,6 @@
 //! The lines of entries, and the last line.
 
-ghost use Rattle.std.specs.Prelude.{◌≡◌, ◌++◌, ◌∷◌, [], ◌↔◌, IfOk, IsTrue, List, MatchBool, MatchOption, ℕ};
+ghost use Rattle.std.specs.Prelude.{◌≡◌, ◌++◌, ◌∷◌, [], ◌↔◌, false, IfOk, IsTrue, List, MatchBool, MatchOption, ℕ};
 ghost use Rattle.journal_lines.specs.Lines.{end_line, ended};
 ghost use Rattle.audit.specs.Answers.{IsNext, IsNoneNext};
 
@@ -18,9 +18,21 @@ use versions::NoMemory;
 pub fn is_end(alloc: Global, entries: u64, line: &[u8]) -> Result<bool, NoMemory>
     ensures { IfOk result (λ yes. IsTrue yes ↔ (line.now ≡ ended (end_line entries))) }
 {
+    // Most lines are an entry's: the last one is spelled only for a line that begins as it does.
+    if !begins_as_end(line) {
+        return Ok(false);
+    }
     let mut last = last_line(alloc, entries)?.into_bytes();
     last.push(b'\n')?;
     Ok(last.as_slice() == line)
+}
+
+/// Whether the line begins as a last one does.
+#[tactic(auto, using(crate::proofs::EndLemmas::begins_so))]
+fn begins_as_end(line: &[u8]) -> bool
+    ensures { result ≡ false → (entries : ℕ) → line.now ≡ ended (end_line entries) → ⊥ }
+{
+    line.starts_with(b"{\"entries\":")
 }
 
 /// Makes the step of the next entry, if the line is that of one. If not, the table may be in another state.

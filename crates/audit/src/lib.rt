@@ -7,9 +7,11 @@
 mod auditing;
 mod entry;
 mod judging;
+mod laws;
 mod pairs;
 mod telling;
 mod verdict;
 
 pub use auditing::audit;
+pub use laws::{law_of_runs, law_of_statements, law_of_verdicts};
 pub use verdict::Verdict;
