@@ -2,8 +2,10 @@ pub mod Ends
 pub mod Filing
 pub mod Lines
 pub mod CommandLineLemmas
+pub mod OptionLemmas
 pub mod OneRun
 pub mod Merging
 pub mod Assembled
 pub mod RunOf
 pub mod OneClient
+pub mod Statuses

@@ -19,14 +19,14 @@ use Rattle.batch_cli.proofs.Assembled.{assembled, no_events_of}
 pub known_more : (lines : List CommandLine) (i : ℕ) (count new : ℕ) (line : CommandLine) → i < length lines → line ≡ slice_index_or lines i line → line.client < new → count ≤ new → All (λ l. l.client < count) (take i lines) → All (λ l. l.client < new) (take (i + 1) lines)
 known_more lines i count new line lt is below le all = All-more (λ l. l.client < new) lines i line lt (λ k d h. omega (arith, all k d h, le)) (subst (λ x. x.client < new) is below)
 
--- the clients have their places for numbers, and these lines
-abbrev pub AreClients : {C : Type 0} → (C → ℕ) → (C → List CommandLine) → List CommandLine → List C → Type 0
+-- the clients have their places for numbers, and this to do
+abbrev pub AreClients : {C A : Type 0} → (C → ℕ) → (C → A) → A → List C → Type 0
 AreClients {C} number asked lines clients = (k : ℕ) (c : C) → k < length clients → (number (slice_index_or clients k c) ≡ k) × (asked (slice_index_or clients k c) ≡ lines)
 
-pub no_clients : {C : Type 0} (number : C → ℕ) (asked : C → List CommandLine) (lines : List CommandLine) (clients : List C) → clients ≡ [] → AreClients number asked lines clients
+pub no_clients : {C A : Type 0} (number : C → ℕ) (asked : C → A) (lines : A) (clients : List C) → clients ≡ [] → AreClients number asked lines clients
 no_clients number asked lines clients none = rw none (λ k c l. absurd (omega arith))
 
-pub one_client_more : {C : Type 0} (number : C → ℕ) (asked : C → List CommandLine) (lines : List CommandLine) (clients new : List C) (c : C) → new ≡ clients ++ c ∷ [] → number c ≡ length clients → asked c ≡ lines → AreClients number asked lines clients → AreClients number asked lines new
+pub one_client_more : {C A : Type 0} (number : C → ℕ) (asked : C → A) (lines : A) (clients new : List C) (c : C) → new ≡ clients ++ c ∷ [] → number c ≡ length clients → asked c ≡ lines → AreClients number asked lines clients → AreClients number asked lines new
 one_client_more number asked lines clients new c is numbered asks h = rw is (listed_more (λ k x. (number x ≡ k) × (asked x ≡ lines)) clients c (numbered, asks) h)
 
 -- what a client gives, told of its number and of all lines

@@ -2,3 +2,4 @@ pub mod Events
 pub mod Filing
 pub mod Runs
 pub mod CommandLine
+pub mod Audits

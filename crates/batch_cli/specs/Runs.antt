@@ -1,10 +1,11 @@
 -- What is written for a script, and the journal of its run.
-use Rattle.std.specs.Prelude.{◌≡◌, ◌<◌, ◌==◌, ℕ, ℤ, Bool, true, false, All, List, [], ◌∷◌, ◌++◌, Option, cond, filter, length, map, set, slice_index_or}
+use Rattle.std.specs.Prelude.{◌≡◌, ◌<◌, ◌==◌, ℕ, ℤ, Bool, true, false, All, List, [], ◌∷◌, ◌++◌, Option, Some, None, cond, filter, length, map, set, slice_index_or}
 use Rattle.std.specs.Io.KnownBytes.{Appends}
 use Rattle.std.specs.List.{flat_map}
 use Rattle.journal.specs.Journals.{Entered, IsLegal, own}
 use Rattle.script.specs.Replies.{line_text}
 use Rattle.script.specs.Scripts.{Spells}
+use Rattle.journal_text.specs.Entries.{text_of_journal}
 use Rattle.batch_cli.specs.Events.{Event, Makes}
 use Rattle.questions.specs.Program.{largest, program, ProgramState, ProgramTold}
 use Rattle.questions.specs.Queries.{ScriptQuestion}
@@ -110,6 +111,15 @@ abbrev pub FindsNoPair : List CommandLine → Type 0
 FindsNoPair [] = Unit {0}
 FindsNoPair (line ∷ lines) = (is_find line.statement ≡ false) × FindsNoPair lines
 
--- the text spells a script, and a writer that held the old bytes has a text behind them that may be written for it
-abbrev pub RunsText : List ℕ → Option (List ℕ) → Option (List ℕ) → Type 0
-RunsText text old new = (script : List CommandLine) × Spells text script × (output : List ℕ) × IsOutputOf script output × Appends old new output
+-- the text spells a script, a run of it has this journal, and a writer that held the old bytes has its output behind them
+abbrev pub HasRun : List ℕ → List ProgramEntry → Option (List ℕ) → Option (List ℕ) → Type 0
+HasRun text journal old new = (script : List CommandLine) × Spells text script × (output : List ℕ) × IsRunOf script journal output × Appends old new output
+
+-- what is kept of a journal: its text where that is asked for, and else nothing
+abbrev pub IsKept : Bool → List ProgramEntry → Option (List ℕ) → Type 0
+IsKept true journal kept = kept ≡ Some (text_of_journal journal)
+IsKept false journal kept = kept ≡ None
+
+-- the text spells a script, a writer that held the old bytes has the output of a run behind them, and the journal of that very run is kept where it is asked for
+abbrev pub RunsText : List ℕ → Option (List ℕ) → Option (List ℕ) → Bool → Option (List ℕ) → Type 0
+RunsText text old new asked kept = (journal : List ProgramEntry) × HasRun text journal old new × IsKept asked journal kept

@@ -5,7 +5,15 @@ use thiserror::Error;
 /// What the words of a command line ask for.
 #[derive(Debug, Drop)]
 pub struct Options {
-    /// The script to run; none is standard input.
+    /// How many workers the crew of a bulk verb has, from 1 to 16.
+    pub workers: u32,
+    /// The crew's pieces are cut until they have at most so many pairs, from 1 to 65,536.
+    pub grain: u64,
+    /// A journal is to be audited in place of a script to be run.
+    pub audit: bool,
+    /// The file for the journal of the run, if one is wanted.
+    pub journal: Option<String>,
+    /// The script to run, or the journal to audit; none is standard input.
     pub file: Option<String>,
 }
 
@@ -19,9 +27,12 @@ pub enum ArgFault {
     #[error("{0}")]
     Parser(String),
     /// A word is no text. The program finds this before it has words to read.
-    #[error("error: invalid UTF-8 was detected in one or more arguments\n\nUsage: trierun [FILE]\n\nFor more information, try '--help'.\n")]
+    #[error("error: invalid UTF-8 was detected in one or more arguments\n\nUsage: trierun [OPTIONS] [FILE]\n\nFor more information, try '--help'.\n")]
     NotText,
-    /// Memory was refused.
+    /// An audit runs no script, so it has no journal to write. The text stands behind the program's name.
+    #[error("--audit takes no --journal")]
+    AuditJournal,
+    /// Memory was refused. The text stands behind the program's name.
     #[error("out of memory")]
     Memory,
 }

@@ -9,6 +9,7 @@ use script::{CommandLine, LineReply};
 use std::alloc::Global;
 use std::sync::Wait;
 use std::thread::Threads;
+use task_pool::Crew;
 use versions::NoMemory;
 
 /// The client of a number. It makes the events of its own lines among these, in their order.
@@ -16,17 +17,19 @@ use versions::NoMemory;
 pub struct ScriptClient<'a, G> {
     pub number: u32,
     pub lines: &'a [CommandLine],
+    pub crew: Crew,
     pub gate: &'a G,
 }
 
 impl<'a, G: LineGate> Client<ByteText, i64, ScriptQuery> for ScriptClient<'a, G> {
-    ghost use Rattle.std.specs.Prelude.{⊤, IfOk};
+    ghost use Rattle.std.specs.Prelude.{IfOk};
+    ghost use Rattle.batch_cli.specs.CommandLine.{AreInRange};
     ghost use Rattle.batch_cli.specs.Runs.{LinesMake, events_in, lines_by};
 
     /// The replies of its lines, in their order.
     type Out = Result<Vec<LineReply>, NoMemory>;
 
-    ghost needs = { λ _. ⊤ };
+    ghost needs = { λ c. AreInRange c.crew.workers c.crew.grain };
 
     ghost gives = { λ c entries out. IfOk out (λ replies. LinesMake (lines_by c.number c.lines.now) (events_in entries) replies.items) };
 
@@ -41,7 +44,7 @@ impl<'a, G: LineGate> Client<ByteText, i64, ScriptQuery> for ScriptClient<'a, G>
         for line in self.lines {
             if line.client == self.number {
                 self.gate.before(line.client, line.number);
-                replies.push(answer(rt, alloc, map, seat, &line.statement)?)?;
+                replies.push(answer(rt, alloc, map, seat, self.crew, &line.statement)?)?;
             }
         }
         Ok(replies)

@@ -5,6 +5,7 @@ ghost use Rattle.std.specs.Arc.{arc_value};
 ghost use Rattle.handles.specs.Machine.{is_entry, view};
 ghost use Rattle.handles.specs.Views.{is_counted, outcome_of, request_of};
 ghost use Rattle.questions.specs.Program.{reply_to};
+ghost use Rattle.batch_cli.specs.CommandLine.{AreInRange};
 ghost use Rattle.batch_cli.specs.Filing.{FilesAnswer, FilesOrElse, FilesReply};
 
 use crate::jobs::worked;
@@ -15,6 +16,8 @@ use questions::{Ask, ScriptQuery, ask_of, listing_of, reply_shown};
 use script::{LineReply, Statement};
 use std::alloc::Global;
 use std::sync::{Arc, Wait};
+use std::thread::Threads;
+use task_pool::Crew;
 use versions::{NoMemory, Refusal};
 
 /// The map of a program: its keys are the texts of a script's keys, and it is asked a script's questions.
@@ -24,19 +27,21 @@ pub type ProgramMap<J> = SharedMap<ByteText, i64, ScriptQuery, J>;
 pub type ProgramSeat<J> = Seat<ByteText, i64, ScriptQuery, J>;
 
 /// Makes the events of the statement, and gives the reply of its line.
-pub fn answer<J: Room, R: Wait>(
+pub fn answer<J: Room, R: Threads + Wait + Sync>(
     rt: &R,
     alloc: Global,
     map: &ProgramMap<J>,
     seat: &mut ProgramSeat<J>,
+    crew: Crew,
     statement: &Statement,
 ) -> Result<LineReply, NoMemory>
+    requires crew { AreInRange crew.workers crew.grain }
     ensures { IfOk result (λ reply. FilesAnswer seat.old statement.now reply seat.new) }
 {
     match ask_of(alloc, statement)? {
         Ask::Call(call) => served(rt, map, seat, call),
         Ask::View(handle) => listed(rt, alloc, map, seat, handle),
-        Ask::Job(handle, query) => worked(rt, alloc, map, seat, handle, query),
+        Ask::Job(handle, query) => worked(rt, alloc, map, seat, crew, handle, query),
         Ask::GetOrElse(handle, key, value) => found_or_stored(rt, map, seat, handle, key, value),
     }
 }

@@ -22,3 +22,16 @@ pub fn read_script<R: Read + Drop>(alloc: Global, reader: R) -> io::Result<Vec<u
     reader.take(MOST_BYTES).read_to_end(&mut bytes)?;
     Ok(bytes)
 }
+
+/// All bytes that the reader gives: the text of a journal has any length.
+///
+/// # Errors
+///
+/// The reader failed, or memory for the bytes was refused.
+pub fn read_journal<R: Read + Drop>(alloc: Global, mut reader: R) -> io::Result<Vec<u8>>
+    ensures { IfOk result (λ bytes. IfSome (R.remaining reader) (λ all. bytes.items ≡ all)) }
+{
+    let mut bytes = Vec::new(alloc);
+    reader.read_to_end(&mut bytes)?;
+    Ok(bytes)
+}

@@ -1,16 +1,19 @@
 //! The run of a script of clients, each on a thread of its own over one map, and the command line of the program.
 //!
 //! The crate `script` reads a script; [`run_script`] runs it, writes the replies and gives the journal, and [`execute`]
-//! reads and runs it and gives the status of the program. [`options`] reads the words of the command line, and
-//! [`read_script`] the bytes of a script.
+//! reads and runs it, or audits a journal, and gives the status of the program. [`options`] reads the words of the
+//! command line, [`read_script`] and [`read_journal`] the bytes that it names, and [`write_journal`] writes a journal's.
 #![tactic(auto)]
 
 mod arguments;
+mod auditing;
 mod client;
 mod events;
 mod gate;
+mod grammar;
 mod input;
 mod jobs;
+mod journaling;
 mod laws;
 mod merge;
 mod run;
@@ -20,7 +23,8 @@ mod words;
 pub use arguments::{ArgFault, Options};
 pub use client::ScriptClient;
 pub use gate::{Free, LineGate};
-pub use input::read_script;
+pub use input::{read_journal, read_script};
+pub use journaling::write_journal;
 pub use laws::script_has_one_output;
 pub use questions::ScriptQuery;
 pub use run::{Journal, RunFault, run_script};
@@ -30,4 +34,5 @@ pub use script::{
     text_has_one_script,
 };
 pub use status::execute;
+pub use task_pool::Crew;
 pub use words::options;

@@ -3,6 +3,7 @@
 ghost use Rattle.std.specs.Prelude.{◌≡◌, ◌<◌, ◌≤◌, All, IfOk, IsErrOf, List, slice_index_or, ℕ, vec_len};
 ghost use Rattle.std.specs.Io.KnownBytes.{Appends, Keeps};
 ghost use Rattle.script.specs.Statements.{IsLawfulLine};
+ghost use Rattle.batch_cli.specs.CommandLine.{AreInRange};
 ghost use Rattle.batch_cli.specs.Runs.{IsRunOf};
 
 use crate::client::ScriptClient;
@@ -17,6 +18,7 @@ use std::alloc::{AllocError, Global};
 use std::io::Write;
 use std::sync::Wait;
 use std::thread::Threads;
+use task_pool::Crew;
 use thiserror::Error;
 use versions::MOST_PAIRS;
 
@@ -45,7 +47,7 @@ const LARGEST: Limits = Limits {
 /// writes a line for each, in the order of all numbers: its number, a space and its reply. All replies are there before
 /// the first is written. It gives the journal of the run.
 ///
-/// A client asks the gate before each of its lines. The clients are those from 0 to the greatest number in the script;
+/// A crew of its own works each bulk verb. A client asks the gate before each of its lines. The clients are those from 0 to the greatest number in the script;
 /// one without a line ends at once. A client whose thread cannot be started runs on the caller's after the others.
 ///
 /// # Errors
@@ -55,6 +57,7 @@ pub fn run_script<R, W, G>(
     rt: &R,
     alloc: Global,
     script: &Script,
+    crew: Crew,
     writer: &mut W,
     gate: &G,
 ) -> Result<Journal, RunFault>
@@ -62,10 +65,11 @@ where
     R: Threads + Wait + Sync,
     W: Write,
     G: LineGate + Sync,
+    requires crew { AreInRange crew.workers crew.grain }
     ensures ok { IfOk result (λ journal. (text : List ℕ) × IsRunOf script.now journal text × Appends (W.contents writer.old) (W.contents writer.new) text) }
     ensures memory { IsErrOf result RunFault.Memory → Keeps (W.contents writer.old) (W.contents writer.new) }
 {
-    let Ok((replies, journal)) = replies_to(rt, alloc, script.lines(), gate) else {
+    let Ok((replies, journal)) = replies_to(rt, alloc, script.lines(), crew, gate) else {
         // A run is not torn, and so it has no fault of that name.
         return Err(RunFault::Memory);
     };
@@ -80,12 +84,14 @@ fn replies_to<R: Threads + Wait + Sync, G: LineGate + Sync>(
     rt: &R,
     alloc: Global,
     lines: &[CommandLine],
+    crew: Crew,
     gate: &G,
 ) -> Result<(Vec<u8>, Journal), NoJournal>
-    requires { All IsLawfulLine lines.now }
+    requires lines { All IsLawfulLine lines.now }
+    requires crew { AreInRange crew.workers crew.grain }
     ensures { IfOk result (λ run. IsRunOf lines.now run.1 run.0.items) }
 {
-    let clients = clients_of(alloc, lines, gate)?;
+    let clients = clients_of(alloc, lines, crew, gate)?;
     let (outs, closed) = with_clients(rt, alloc, LARGEST, clients)?;
     let replies = all_of(alloc, outs)?;
     let text = replies_in_order(alloc, lines, replies.as_slice())?;
@@ -96,10 +102,12 @@ fn replies_to<R: Threads + Wait + Sync, G: LineGate + Sync>(
 fn clients_of<'a, G: LineGate>(
     alloc: Global,
     lines: &'a [CommandLine],
+    crew: Crew,
     gate: &'a G,
 ) -> Result<Vec<ScriptClient<'a, G>>, AllocError>
     requires { All IsLawfulLine lines.now }
     ensures each { IfOk result (λ clients. (k : ℕ) (c : _) → k < vec_len clients → ((slice_index_or clients.items k c).number ≡ k) × ((slice_index_or clients.items k c).lines.now ≡ lines.now)) }
+    ensures crews { IfOk result (λ clients. (k : ℕ) (c : _) → k < vec_len clients → (slice_index_or clients.items k c).crew ≡ crew) }
     ensures all { IfOk result (λ clients. All (λ line. line.client < vec_len clients) lines.now) }
     ensures most { IfOk result (λ clients. vec_len clients ≤ MOST_SEATS) }
 {
@@ -109,6 +117,7 @@ fn clients_of<'a, G: LineGate>(
         clients.push(ScriptClient {
             number,
             lines,
+            crew,
             gate,
         })?;
     }

@@ -1,99 +1,130 @@
-//! From the bytes of a script to the status of the program.
+//! From the bytes of a script or a journal to the status of the program.
 
-ghost use Rattle.std.specs.Prelude.{◌≡◌, ◌≤◌, ℕ, List, None};
+ghost use Rattle.std.specs.Prelude.{◌≡◌, ◌≢◌, ◌≤◌, IfErr, IfOk, List, None, false, is_some, option_map, true, ℕ};
 ghost use Rattle.std.specs.Io.KnownBytes.{Appends, Keeps};
-ghost use Rattle.batch_cli.specs.Runs.{IsOutputOf, RunsText};
+ghost use Rattle.batch_cli.specs.Audits.{TellsVerdict};
+ghost use Rattle.batch_cli.specs.CommandLine.{AreInRange};
+ghost use Rattle.batch_cli.specs.Runs.{HasRun, IsRunOf, RunsText};
 ghost use Rattle.script.specs.Scripts.{HasFault};
 
 use crate::arguments::Options;
+use crate::auditing::audited;
 use crate::gate::Free;
-use crate::run::run_script;
+use crate::journaling::kept;
+use crate::run::{Journal, run_script};
 use script::{Script, ScriptFault, parse_script};
 use std::alloc::Global;
 use std::fmt::Display;
 use std::io::Write;
 use std::sync::Wait;
 use std::thread::Threads;
+use task_pool::Crew;
 
 /// Done.
-const DONE: u8 = 0;
+pub const DONE: u8 = 0;
 
-/// Memory or the output failed.
+/// Memory, the output or a file failed.
 const FAILED: u8 = 1;
 
 /// The script was refused.
 const REFUSED: u8 = 2;
 
-/// Runs the script that the text spells. The replies go to `out`, and why it failed goes to `err` as one line, if
-/// that takes it.
+/// So many rounds of a worker find no piece before it ends.
+const PATIENCE: u32 = 1_000;
+
+/// Runs the script that the text spells, with the crews that the options name; or audits the text as a journal's, if
+/// they ask for that. The replies or the verdict go to `out`, and why it failed goes to `err` as one line, if that takes
+/// it.
 ///
 /// The first part of what it gives is the status of the program: 0 where it is done, 1 where memory or the output
-/// failed, and 2 where the script has a fault, of which nothing was run then. The second is the text of the journal;
-/// no option asks for one yet, so it is none.
+/// failed, 2 where the script has a fault, of which nothing was run then, and 3 where the text is that of no legal
+/// journal. The second is the text of the journal of the run, where the options name a file for it.
 pub fn execute<R: Threads + Wait + Sync, W: Write, E: Write>(
     rt: &R,
     alloc: Global,
-    _options: &Options,
+    options: &Options,
     text: &[u8],
     out: &mut W,
     err: &mut E,
 ) -> (u8, Option<Vec<u8>>)
-    ensures done { result.0 ≡ 0 → RunsText text.now (W.contents out.old) (W.contents out.new) }
+    requires crew { AreInRange options.now.workers options.now.grain }
+    ensures done { result.0 ≡ 0 → options.now.audit ≡ false → RunsText text.now (W.contents out.old) (W.contents out.new) (is_some options.now.journal) (option_map (λ kept. kept.items) result.1) }
     ensures refused { result.0 ≡ 2 → HasFault text.now }
     ensures nothing_run { result.0 ≡ 2 → Keeps (W.contents out.old) (W.contents out.new) }
-    ensures statuses { result.0 ≤ 2 }
-    ensures journal { result.1 ≡ None }
+    ensures audited { options.now.audit ≡ true → result.0 ≢ 1 → TellsVerdict text.now result.0 (W.contents out.old) (W.contents out.new) }
+    ensures bad { result.0 ≡ 3 → options.now.audit ≡ true }
+    ensures audit_keeps_none { options.now.audit ≡ true → result.1 ≡ None }
+    ensures failure_keeps_none { result.0 ≢ 0 → result.1 ≡ None }
+    ensures statuses { result.0 ≤ 3 }
 {
-    (status_of(rt, alloc, text, out, err), None)
+    if options.audit {
+        return (audited(alloc, text, out, err), None);
+    }
+    match ran(rt, alloc, crew_of(options), text, out, err) {
+        Ok(journal) => kept(alloc, options.journal.is_some(), &journal, err),
+        Err(status) => (status, None),
+    }
 }
 
-/// Reads and runs the script, and gives the status.
-fn status_of<R: Threads + Wait + Sync, W: Write, E: Write>(
+/// The crew of each bulk verb.
+fn crew_of(options: &Options) -> Crew
+    ensures { (result.workers ≡ options.now.workers) × (result.grain ≡ options.now.grain) }
+{
+    Crew {
+        workers: options.workers,
+        grain: options.grain,
+        patience: PATIENCE,
+    }
+}
+
+/// Reads and runs the script, and gives the journal of the run; or the status where it fails.
+fn ran<R: Threads + Wait + Sync, W: Write, E: Write>(
     rt: &R,
     alloc: Global,
+    crew: Crew,
     text: &[u8],
     out: &mut W,
     err: &mut E,
-) -> u8
-    ensures done { result ≡ 0 → RunsText text.now (W.contents out.old) (W.contents out.new) }
-    ensures refused { result ≡ 2 → HasFault text.now }
-    ensures nothing_run { result ≡ 2 → Keeps (W.contents out.old) (W.contents out.new) }
-    ensures statuses { result ≤ 2 }
+) -> Result<Journal, u8>
+    requires crew { AreInRange crew.workers crew.grain }
+    ensures done { IfOk result (λ journal. HasRun text.now journal (W.contents out.old) (W.contents out.new)) }
+    ensures refused { IfErr result (λ status. status ≡ 2 → HasFault text.now × Keeps (W.contents out.old) (W.contents out.new)) }
+    ensures statuses { IfErr result (λ status. (1 ≤ status) × (status ≤ 2)) }
 {
     match parse_script(alloc, text) {
-        Ok(script) => run(rt, alloc, &script, out, err),
-        Err(ScriptFault::Memory) => {
-            tell(err, &ScriptFault::Memory);
-            FAILED
-        }
+        Ok(script) => run(rt, alloc, crew, &script, out, err),
+        Err(ScriptFault::Memory) => Err(failed(err, &ScriptFault::Memory)),
         Err(fault) => {
             let _ = writeln!(err, "{fault}");
-            REFUSED
+            Err(REFUSED)
         }
     }
 }
 
-/// Runs the script, and gives the status.
+/// Runs the script, and gives the journal of the run; or the status where it fails.
 fn run<R: Threads + Wait + Sync, W: Write, E: Write>(
     rt: &R,
     alloc: Global,
+    crew: Crew,
     script: &Script,
     out: &mut W,
     err: &mut E,
-) -> u8
-    ensures done { result ≡ 0 → (output : List ℕ) × IsOutputOf script.now output × Appends (W.contents out.old) (W.contents out.new) output }
-    ensures statuses { result ≤ 1 }
+) -> Result<Journal, u8>
+    requires crew { AreInRange crew.workers crew.grain }
+    ensures done { IfOk result (λ journal. (output : List ℕ) × IsRunOf script.now journal output × Appends (W.contents out.old) (W.contents out.new) output) }
+    ensures failed { IfErr result (λ status. status ≡ 1) }
 {
-    match run_script(rt, alloc, script, out, &Free) {
-        Ok(_journal) => DONE,
-        Err(fault) => {
-            tell(err, &fault);
-            FAILED
-        }
+    match run_script(rt, alloc, script, crew, out, &Free) {
+        Ok(journal) => Ok(journal),
+        Err(fault) => Err(failed(err, &fault)),
     }
 }
 
-/// Writes why the program failed, behind its name. Where standard error fails there is nowhere to say so.
-fn tell<E: Write, D: Display>(err: &mut E, reason: &D) {
+/// Writes why the program failed, behind its name, and gives the status. Where standard error fails there is nowhere to
+/// say so.
+pub fn failed<E: Write, D: Display>(err: &mut E, reason: &D) -> u8
+    ensures { result ≡ 1 }
+{
     let _ = writeln!(err, "trierun: {reason}");
+    FAILED
 }

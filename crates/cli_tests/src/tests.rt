@@ -1,5 +1,6 @@
 //! What scripts print and what their journals have, by hand. Most scripts with their replies are cases of the built
 //! program, which `tests/programs` compares.
+mod audits;
 mod clients;
 mod command_line;
 mod contention;
@@ -11,13 +12,31 @@ mod journals;
 mod memory;
 mod scripts;
 
-use batch_cli::{Journal, LineGate, Options, execute, parse_script, run_script};
+use batch_cli::{Crew, Journal, LineGate, Options, execute, parse_script, run_script};
 use std::alloc::{AllocError, Global};
 use std::fmt::Debug;
 use std::process::Abort;
 use std::sync::Wait;
 use std::test::Fail;
 use std::thread::Threads;
+
+/// The crew of the bulk verbs. It takes the smallest pieces that there are, so that small maps have several.
+const CREW: Crew = Crew {
+    workers: 2,
+    grain: 1,
+    patience: 1_000,
+};
+
+/// The options of a run with that crew.
+fn plain() -> Options {
+    Options {
+        workers: 2,
+        grain: 1,
+        audit: false,
+        journal: None,
+        file: None,
+    }
+}
 
 /// The status of a script, and what it writes to standard output and standard error.
 fn executed<R: AllocGlobal + Threads + Wait + Sync>(
@@ -27,8 +46,7 @@ fn executed<R: AllocGlobal + Threads + Wait + Sync>(
     let alloc = rt.alloc();
     let mut out = Vec::new(alloc);
     let mut err = Vec::new(alloc);
-    let options = Options { file: None };
-    let (status, journal) = execute(rt, alloc, &options, script, &mut out, &mut err);
+    let (status, journal) = execute(rt, alloc, &plain(), script, &mut out, &mut err);
     drop(journal);
     Ok((status, text(alloc, &out)?, text(alloc, &err)?))
 }
@@ -42,7 +60,7 @@ fn ran<R: AllocGlobal + Threads + Wait + Sync, G: LineGate + Sync>(
     let alloc = rt.alloc();
     let script = parse_script(alloc, script)?;
     let mut out = Vec::new(alloc);
-    let journal = run_script(rt, alloc, &script, &mut out, gate)?;
+    let journal = run_script(rt, alloc, &script, CREW, &mut out, gate)?;
     Ok((text(alloc, &out)?, journal))
 }
 

@@ -1,8 +1,13 @@
-//! Runs a script of clients on a table of maps, and prints the reply to each line.
+//! Runs a script of clients on a table of maps, and prints the reply to each line; or audits the journal of a run.
 #![tactic(auto)]
 
-use batch_cli::{ArgFault, Options, RunFault, execute, options, read_script};
-use std::alloc::AllocError;
+ghost use Rattle.std.specs.Prelude.{IfOk};
+ghost use Rattle.batch_cli.specs.CommandLine.{AreInRange};
+
+use batch_cli::{
+    ArgFault, Options, RunFault, execute, options, read_journal, read_script, write_journal,
+};
+use std::alloc::{AllocError, Global};
 use std::fmt::Display;
 use std::fs::File;
 use std::io::{Read, Write};
@@ -35,7 +40,9 @@ fn status<R: Runtime + AllocGlobal + Threads + Wait + Sync>(rt: &R) -> u8 {
 }
 
 /// The options that the words after the program's name give.
-fn chosen<R: Runtime + AllocGlobal>(rt: &R) -> Result<Options, ArgFault> {
+fn chosen<R: Runtime + AllocGlobal>(rt: &R) -> Result<Options, ArgFault>
+    ensures { IfOk result (λ options. AreInRange options.workers options.grain) }
+{
     let arguments = arguments(rt)?;
     let words: Result<Vec<&str>, AllocError> = arguments
         .iter()
@@ -68,17 +75,23 @@ fn refuse<R: Runtime + AllocGlobal>(rt: &R, fault: &ArgFault) -> u8 {
             let _ = eprint!(rt; "{fault}");
             REFUSED
         }
+        ArgFault::AuditJournal => {
+            tell(rt, fault);
+            REFUSED
+        }
         ArgFault::Memory => fail(rt, fault),
     }
 }
 
-/// Runs the script that the options name.
-fn run<R: Runtime + AllocGlobal + Threads + Wait + Sync>(rt: &R, options: &Options) -> u8 {
+/// Runs the script that the options name, and writes the journal of the run; or audits a journal.
+fn run<R: Runtime + AllocGlobal + Threads + Wait + Sync>(rt: &R, options: &Options) -> u8
+    requires { AreInRange options.now.workers options.now.grain }
+{
     let text = match input(rt, options) {
         Ok(text) => text,
         Err(error) => return unread(rt, options, &error),
     };
-    let (status, _journal) = execute(
+    let (status, journal) = execute(
         rt,
         rt.alloc(),
         options,
@@ -86,7 +99,10 @@ fn run<R: Runtime + AllocGlobal + Threads + Wait + Sync>(rt: &R, options: &Optio
         &mut io::writer(rt),
         &mut StandardError(rt),
     );
-    status
+    match (&options.journal, journal) {
+        (Some(name), Some(journal)) => write_journal(rt, name, &journal, &mut StandardError(rt)),
+        _ => status,
+    }
 }
 
 /// Standard error as a writer, which keeps nothing back.
@@ -112,8 +128,17 @@ impl<R: Runtime> Write for StandardError<'_, R> {
 /// The bytes of the file, or of standard input where none is named.
 fn input<R: Runtime + AllocGlobal>(rt: &R, options: &Options) -> io::Result<Vec<u8>> {
     match &options.file {
-        Some(name) => read_script(rt.alloc(), File::open(rt, name.as_str())?),
-        None => read_script(rt.alloc(), rt.reader()),
+        Some(name) => bytes_of(rt.alloc(), options, File::open(rt, name.as_str())?),
+        None => bytes_of(rt.alloc(), options, rt.reader()),
+    }
+}
+
+/// The bytes that the reader gives: a journal's are read whole, and a script's as far as they matter.
+fn bytes_of<T: Read + Drop>(alloc: Global, options: &Options, reader: T) -> io::Result<Vec<u8>> {
+    if options.audit {
+        read_journal(alloc, reader)
+    } else {
+        read_script(alloc, reader)
     }
 }
 
@@ -128,8 +153,13 @@ fn unread<R: Runtime + AllocGlobal>(rt: &R, options: &Options, error: &io::Error
     }
 }
 
-/// Prints why the program failed, behind its name.
+/// Prints why the program failed, behind its name, and gives the status.
 fn fail<R: Runtime, D: Display + Drop>(rt: &R, reason: D) -> u8 {
-    let _ = eprintln!(rt; "trierun: {reason}");
+    tell(rt, reason);
     FAILED
+}
+
+/// Prints the reason behind the program's name.
+fn tell<R: Runtime, D: Display + Drop>(rt: &R, reason: D) {
+    let _ = eprintln!(rt; "trierun: {reason}");
 }

@@ -1,17 +1,24 @@
 //! The journals of runs: their text, and that it is legal.
 use crate::tests::told;
-use batch_cli::{Free, parse_script, run_script};
+use batch_cli::{Crew, Free, parse_script, run_script};
 use journal_text::journal_text;
 use std::sync::Wait;
 use std::test::Fail;
 use std::thread::Threads;
+
+// The crew of the bulk verbs.
+const CREW: Crew = Crew {
+    workers: 2,
+    grain: 1,
+    patience: 1_000,
+};
 
 /// The text of the journal of the script's run.
 fn written<R: AllocGlobal + Threads + Wait + Sync>(rt: &R, script: &[u8]) -> Result<Vec<u8>, Fail> {
     let alloc = rt.alloc();
     let script = parse_script(alloc, script)?;
     let mut out = Vec::new(alloc);
-    let journal = run_script(rt, alloc, &script, &mut out, &Free)?;
+    let journal = run_script(rt, alloc, &script, CREW, &mut out, &Free)?;
     Ok(journal_text(alloc, &journal)?)
 }
 

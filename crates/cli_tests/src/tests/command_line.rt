@@ -1,65 +1,109 @@
-//! What the words of a command line give.
-use batch_cli::{ArgFault, options};
+//! What the words of a command line give. Texts of help and of refusals are cases of the built program.
+use super::assert_text;
+use batch_cli::{ArgFault, Options, options};
+use std::alloc::{AllocError, Global};
 use std::test::Fail;
 
-/// The words' file, or the text for standard output or standard error.
-fn said(alloc: std::alloc::Global, words: &[&str]) -> Result<String, Fail> {
-    let said = match options(alloc, words) {
-        Ok(options) => match options.file {
-            Some(file) => format!(in alloc; "file {file}")?,
-            None => String::from_str(alloc, "no file")?,
-        },
-        Err(ArgFault::Help(text)) => format!(in alloc; "help\n{text}")?,
-        Err(ArgFault::Parser(text)) => format!(in alloc; "parser\n{text}")?,
-        Err(ArgFault::NotText) => String::from_str(alloc, "no text")?,
-        Err(ArgFault::Memory) => String::from_str(alloc, "memory")?,
-    };
-    Ok(said)
+/// A name that is given, or none.
+fn named(name: &Option<String>) -> &str {
+    match name {
+        Some(name) => name.as_str(),
+        None => "none",
+    }
+}
+
+/// The words' options.
+fn shown(alloc: Global, options: &Options) -> Result<String, AllocError> {
+    format!(in alloc;
+        "{} workers, grain {}, audit {}, journal {}, file {}",
+        options.workers,
+        options.grain,
+        options.audit,
+        named(&options.journal),
+        named(&options.file)
+    )
+}
+
+/// The words' options, or the first line of what is told of them.
+fn said(alloc: Global, words: &[&str]) -> Result<String, AllocError> {
+    match options(alloc, words) {
+        Ok(options) => shown(alloc, &options),
+        Err(ArgFault::Help(text)) => first_line(alloc, "help", &text),
+        Err(ArgFault::Parser(text)) => first_line(alloc, "parser", &text),
+        Err(ArgFault::NotText) => String::from_str(alloc, "no text"),
+        Err(ArgFault::AuditJournal) => String::from_str(alloc, "audit with journal"),
+        Err(ArgFault::Memory) => String::from_str(alloc, "memory"),
+    }
+}
+
+/// The first line of the text, behind the word.
+fn first_line(alloc: Global, word: &str, text: &str) -> Result<String, AllocError> {
+    format!(in alloc; "{word}: {}", text.lines().next().unwrap_or(""))
 }
 
 #[test]
-fn one_word_is_the_file(rt: HostRuntime) -> Result<(), Fail> {
-    let alloc = rt.alloc();
-    assert_eq!(rt; said(alloc, &[])?.as_str(), "no file");
-    assert_eq!(rt; said(alloc, &["first.trie"])?.as_str(), "file first.trie");
-    assert_eq!(rt; said(alloc, &["--", "--help"])?.as_str(), "file --help");
-    Ok(())
-}
-
-#[test]
-fn help_is_a_text(rt: HostRuntime) -> Result<(), Fail> {
-    let help = "help\n\
-        Runs a script of clients on a table of maps, and prints the reply to each line\n\
-        \n\
-        Usage: trierun [FILE]\n\
-        \n\
-        Arguments:\n  \
-          [FILE]  The script to run, by docs/SCRIPT.md; without it, standard input is read\n\
-        \n\
-        Options:\n  \
-          -h, --help  Print help\n";
-    assert_eq!(rt; said(rt.alloc(), &["--help"])?.as_str(), help);
-    assert_eq!(rt; said(rt.alloc(), &["-h"])?.as_str(), help);
+fn words_give_the_options(rt: HostRuntime) -> Result<(), Fail> {
+    let cases: [(&[&str], &str); 9] = [
+        (
+            &[],
+            "4 workers, grain 1024, audit false, journal none, file none",
+        ),
+        (
+            &["a.trie"],
+            "4 workers, grain 1024, audit false, journal none, file a.trie",
+        ),
+        (
+            &["--", "--help"],
+            "4 workers, grain 1024, audit false, journal none, file --help",
+        ),
+        (
+            &["--workers", "1", "--grain=1"],
+            "1 workers, grain 1, audit false, journal none, file none",
+        ),
+        (
+            &["a", "--grain", "65536", "--workers=16", "--journal", "b"],
+            "16 workers, grain 65536, audit false, journal b, file a",
+        ),
+        (
+            &["--audit", "b"],
+            "4 workers, grain 1024, audit true, journal none, file b",
+        ),
+        (&["--audit", "--journal", "b"], "audit with journal"),
+        (
+            &["--audit", "--journal", "b", "--workers", "0"],
+            "parser: error: invalid value '0' for '--workers <N>': 0 is not in 1..=16",
+        ),
+        (
+            &["--help"],
+            "help: Runs a script of clients on a table of maps, and prints the reply to each line",
+        ),
+    ];
+    for (words, wanted) in cases {
+        assert_text(&rt, said(rt.alloc(), words)?.as_str(), wanted);
+    }
     Ok(())
 }
 
 #[test]
 fn other_words_are_refused(rt: HostRuntime) -> Result<(), Fail> {
-    let second = "parser\n\
-        error: unexpected argument 'b' found\n\
-        \n\
-        Usage: trierun [FILE]\n\
-        \n\
-        For more information, try '--help'.\n";
-    assert_eq!(rt; said(rt.alloc(), &["a", "b"])?.as_str(), second);
-    let unknown = "parser\n\
-        error: unexpected argument '--nope' found\n\
-        \n  \
-          tip: to pass '--nope' as a value, use '-- --nope'\n\
-        \n\
-        Usage: trierun [FILE]\n\
-        \n\
-        For more information, try '--help'.\n";
-    assert_eq!(rt; said(rt.alloc(), &["--nope"])?.as_str(), unknown);
+    let cases: [(&[&str], &str); 8] = [
+        (&["--workers", "17"], "'17' for '--workers <N>': 17 is not in 1..=16"),
+        (&["--workers", "x"], "'x' for '--workers <N>': invalid digit found in string"),
+        (&["--workers=-1"], "'-1' for '--workers <N>': -1 is not in 1..=16"),
+        (&["--grain", "0"], "'0' for '--grain <N>': 0 is not in 1..=65536"),
+        (&["--grain", "65537"], "'65537' for '--grain <N>': 65537 is not in 1..=65536"),
+        (&["--grain", "4294967297"], "'4294967297' for '--grain <N>': 4294967297 is not in 1..=65536"),
+        (
+            &["--grain", "18446744073709551617"],
+            "'18446744073709551617' for '--grain <N>': number too large to fit in target type",
+        ),
+        (&["--grain="], "'' for '--grain <N>': cannot parse integer from empty string"),
+    ];
+    for (words, wanted) in cases {
+        let wanted = format!(in rt.alloc(); "parser: error: invalid value {wanted}")?;
+        assert_text(&rt, said(rt.alloc(), words)?.as_str(), wanted.as_str());
+    }
+    let second = said(rt.alloc(), &["a", "b"])?;
+    assert_text(&rt, second.as_str(), "parser: error: unexpected argument 'b' found");
     Ok(())
 }

@@ -1,5 +1,5 @@
 //! Which entries of the journal a statement makes.
-use super::assert_text;
+use super::{CREW, assert_text};
 use super::entries::entries_of;
 use batch_cli::{Free, ScriptClient, parse_script, script_has_one_output, text_has_one_script};
 use handles::Limits;
@@ -30,6 +30,7 @@ fn ends_with<R: AllocGlobal + Abort + Threads + Wait + Sync>(
     clients.push(ScriptClient {
         number: 0,
         lines: script.lines(),
+        crew: CREW,
         gate: &gate,
     })?;
     assert!(rt; clients.len() <= MOST_SEATS as usize);

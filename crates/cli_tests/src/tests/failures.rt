@@ -1,7 +1,8 @@
 //! Writers and readers that fail.
-use super::{executed, text};
+use super::{CREW, executed, plain, text};
 use batch_cli::{
-    ArgFault, Free, Options, RunFault, ScriptFault, execute, parse_script, read_script, run_script,
+    ArgFault, Free, RunFault, ScriptFault, execute, parse_script, read_journal, read_script,
+    run_script,
 };
 use std::io;
 use std::io::{Read, Write};
@@ -61,7 +62,7 @@ fn a_writer_that_fails_fails_the_run(rt: HostRuntime) -> Result<(), Fail> {
             most,
         };
         let mut err = Vec::new(alloc);
-        let options = Options { file: None };
+        let options = plain();
         let (status, _) = execute(&rt, alloc, &options, b"0 open 1\n", &mut out, &mut err);
         assert_eq!(rt; status, 1);
         assert_eq!(rt;
@@ -69,6 +70,22 @@ fn a_writer_that_fails_fails_the_run(rt: HostRuntime) -> Result<(), Fail> {
             "trierun: cannot write output\n"
         );
         assert_eq!(rt; out.held.len(), most);
+    }
+    Ok(())
+}
+
+// Whatever it takes first, the run fails; with room for all it does not.
+#[test]
+fn a_writer_that_fails_at_any_write_fails_the_run(rt: HostRuntime) -> Result<(), Fail> {
+    let alloc = rt.alloc();
+    let script = parse_script(alloc, b"0 open 1\n0 size 1")?;
+    for writes in 0..5 {
+        let mut out = Disk {
+            held: Vec::new(alloc),
+            most: 3 * writes,
+        };
+        let ran = run_script(&rt, alloc, &script, CREW, &mut out, &Free);
+        assert!(rt; matches!(ran, Err(RunFault::Write)), "after {writes} writes");
     }
     Ok(())
 }
@@ -81,7 +98,7 @@ fn a_writer_that_has_room_gets_all(rt: HostRuntime) -> Result<(), Fail> {
         held: Vec::new(alloc),
         most: 100,
     };
-    let journal = run_script(&rt, alloc, &script, &mut out, &Free)?;
+    let journal = run_script(&rt, alloc, &script, CREW, &mut out, &Free)?;
     assert_eq!(rt; journal.len(), 2);
     assert_eq!(rt; text(alloc, &out.held)?.as_str(), "1 ok\n2 count 0\n");
     Ok(())
@@ -95,7 +112,7 @@ fn standard_error_that_fails_changes_no_status(rt: HostRuntime) -> Result<(), Fa
         held: Vec::new(alloc),
         most: 0,
     };
-    let options = Options { file: None };
+    let options = plain();
     let (status, _) = execute(&rt, alloc, &options, b"0", &mut out, &mut err);
     assert_eq!(rt; status, 2);
     assert_eq!(rt; out.len(), 0);
@@ -109,6 +126,11 @@ fn a_reader_that_fails_fails_the_reading(rt: HostRuntime) -> Result<(), Fail> {
         left: 9,
     };
     assert!(rt; read_script(rt.alloc(), torn).is_err());
+    let torn = Torn {
+        byte: b'{',
+        left: 9,
+    };
+    assert!(rt; read_journal(rt.alloc(), torn).is_err());
     Ok(())
 }
 
@@ -119,6 +141,8 @@ fn no_more_is_read_than_a_script_may_have(rt: HostRuntime) -> Result<(), Fail> {
     assert_eq!(rt; all.len(), 65_536 * 257 + 1);
     let few = read_script(alloc, b"0 open 1\n".as_slice())?;
     assert_eq!(rt; few.as_slice(), b"0 open 1\n".as_slice());
+    let long = read_journal(alloc, io::repeat(b'{').take(16_900_000))?;
+    assert_eq!(rt; long.len(), 16_900_000);
     Ok(())
 }
 
@@ -126,15 +150,16 @@ fn no_more_is_read_than_a_script_may_have(rt: HostRuntime) -> Result<(), Fail> {
 fn faults_show_as_they_are_printed(rt: HostRuntime) -> Result<(), Fail> {
     let alloc = rt.alloc();
     let shown = format!(in alloc;
-        "{}, {}, {}, {}",
+        "{}, {}, {}, {}, {}",
         ScriptFault::Memory,
         RunFault::Memory,
         RunFault::Write,
-        ArgFault::Memory
+        ArgFault::Memory,
+        ArgFault::AuditJournal
     )?;
     assert_eq!(rt;
         shown.as_str(),
-        "out of memory, out of memory, cannot write output, out of memory"
+        "out of memory, out of memory, cannot write output, out of memory, --audit takes no --journal"
     );
     let help = String::from_str(alloc, "Usage")?;
     let shown = format!(in alloc; "{}", ArgFault::Help(help))?;

@@ -1,8 +1,6 @@
 //! Runs with no memory, with a little, and with none from some line on.
-use super::assert_is;
-use batch_cli::{
-    Free, Journal, LineGate, Options, RunFault, Script, execute, parse_script, run_script,
-};
+use super::{CREW, assert_is, plain};
+use batch_cli::{Free, Journal, LineGate, RunFault, Script, execute, parse_script, run_script};
 use std::alloc::Global;
 use std::io;
 use std::io::Write;
@@ -73,7 +71,7 @@ fn blank() -> Page {
 #[test]
 fn want_of_memory_is_told_in_one_line(rt: HostRuntime) -> Result<(), Fail> {
     let alloc = rt.alloc();
-    let options = Options { file: None };
+    let options = plain();
     let taken = take_all(alloc)?;
     let (mut out, mut err) = (blank(), blank());
     let (of_a_line, _) = execute(&rt, alloc, &options, b"0 open 1", &mut out, &mut err);
@@ -105,7 +103,7 @@ fn refused_and_run<R: Threads + Wait + Sync>(
 ) -> Result<(u32, Journal), Fail> {
     let mut shortage = Shortage::new(alloc)?;
     for refused in 0..TRIES {
-        match run_script(rt, alloc, script, page, &Free) {
+        match run_script(rt, alloc, script, CREW, page, &Free) {
             Ok(journal) => return Ok((refused, journal)),
             Err(RunFault::Memory) => shortage.give(alloc, STEP)?,
             Err(RunFault::Write) => return Err(Fail::new("the page is full")),
@@ -163,7 +161,7 @@ fn is_run_until<R: Threads + Wait + Sync>(
         taken: OnceLock::new(),
     };
     let mut page = blank();
-    match run_script(rt, alloc, script, &mut page, &gate) {
+    match run_script(rt, alloc, script, CREW, &mut page, &gate) {
         Ok(journal) if page.text() == REPLIES && journal.len() == ENTRIES => Some(true),
         Err(RunFault::Memory) if page.used == 0 => Some(false),
         _ => None,

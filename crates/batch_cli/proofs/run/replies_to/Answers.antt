@@ -1,9 +1,16 @@
 use Rattle.std.proofs.Common.{rules, ◌≡◌, ◌<◌, ◌∙◌, length, map, ap, Ok, subst, sym, vec_len}
 use Rattle.std.specs.Prelude.{All}
 use Rattle.std.proofs.lemmas.List.{length-map}
+use Rattle.task_pool.specs.declared.crew.Crew.{Crew}
+use Rattle.batch_cli.specs.CommandLine.{AreInRange}
 use Rattle.batch_cli.specs.Runs.{AreMerged, AreRepliesTo}
 use Rattle.batch_cli.proofs.RunOf.{each_made, replied, run_of}
 use Rattle.batch_cli.proofs.run.replies_to.Goals as goal
+
+pub with_clients-requires-clause-needs : goal.with_clients-requires-clause-needs
+with_clients-requires-clause-needs g c = λ lifetimes lives k client lt.
+    let begun : length c.in_ok-clients.clients.items ≡ vec_len c.in_ok-clients.clients = search rules in
+    subst (λ (crew : Crew). AreInRange crew.workers crew.grain) (sym (c.in_ok-clients.ensures.crews k client (subst (λ n. k < n) begun lt))) c.requires.crew
 
 pub replies_in_order-requires : goal.replies_in_order-requires
 replies_in_order-requires g c =
