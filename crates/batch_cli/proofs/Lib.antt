@@ -9,3 +9,4 @@ pub mod Assembled
 pub mod RunOf
 pub mod OneClient
 pub mod Statuses
+pub mod LegalTexts

@@ -21,7 +21,7 @@ abbrev HasNoOther : ℕ → ℕ → List ProgramEntry → Type 0
 HasNoOther c from es = (k : ℕ) → k ≢ c → events_in (own k from es) ≡ []
 
 -- what an entry asked, and what it was told
-abbrev event_in : ProgramEntry → Event
+abbrev pub event_in : ProgramEntry → Event
 event_in e = (e.request, e.outcome)
 
 -- where all lines are one client's, so are those behind the first
@@ -51,15 +51,15 @@ beside_other c k (l ∷ lines) (a ∷ answers) other all =
     ∙ beside_other c k lines answers other (all_after c l lines all)
 
 -- an entry of the seat is the first of its entries
-own_first : (k from : ℕ) (e : ProgramEntry) (es : List ProgramEntry) → (e.seat == k) ≡ true → events_in (own k from (e ∷ es)) ≡ event_in e ∷ events_in (own k (from + 1) es)
+pub own_first : (k from : ℕ) (e : ProgramEntry) (es : List ProgramEntry) → (e.seat == k) ≡ true → events_in (own k from (e ∷ es)) ≡ event_in e ∷ events_in (own k (from + 1) es)
 own_first k from e es is = ap (λ (b : Bool). events_in (cond b ((from, e) ∷ own k (from + 1) es) (own k (from + 1) es))) is
 
 -- an entry of another seat is none of them
-own_skips : (k from : ℕ) (e : ProgramEntry) (es : List ProgramEntry) → (e.seat == k) ≡ false → events_in (own k from (e ∷ es)) ≡ events_in (own k (from + 1) es)
+pub own_skips : (k from : ℕ) (e : ProgramEntry) (es : List ProgramEntry) → (e.seat == k) ≡ false → events_in (own k from (e ∷ es)) ≡ events_in (own k (from + 1) es)
 own_skips k from e es is = ap (λ (b : Bool). events_in (cond b ((from, e) ∷ own k (from + 1) es) (own k (from + 1) es))) is
 
 -- a seat that has no entry has none behind the first
-none_later : (b : Bool) (k from : ℕ) (e : ProgramEntry) (es : List ProgramEntry) → (e.seat == k) ≡ b → events_in (own k from (e ∷ es)) ≡ [] → events_in (own k (from + 1) es) ≡ []
+pub none_later : (b : Bool) (k from : ℕ) (e : ProgramEntry) (es : List ProgramEntry) → (e.seat == k) ≡ b → events_in (own k from (e ∷ es)) ≡ [] → events_in (own k (from + 1) es) ≡ []
 none_later true k from e es is none = let some : event_in e ∷ events_in (own k (from + 1) es) ≡ [] = sym (own_first k from e es is) ∙ none in cc
 none_later false k from e es is none = sym (own_skips k from e es is) ∙ none
 

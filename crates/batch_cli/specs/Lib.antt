@@ -3,3 +3,4 @@ pub mod Filing
 pub mod Runs
 pub mod CommandLine
 pub mod Audits
+pub mod Legality

@@ -1,9 +1,11 @@
 //! Laws of scripts and of their runs. Each function says one, and does nothing.
 
 ghost use Rattle.std.specs.Prelude.{◌≡◌, ℕ, List};
+ghost use Rattle.batch_cli.specs.Legality.{RunsHaveLegalTexts};
 ghost use Rattle.batch_cli.specs.Runs.{FindsNoPair, HasOneClient, IsOutputOf};
 ghost use Rattle.script.specs.declared.statement.CommandLine.{CommandLine};
 
+use audit::{law_of_runs, law_of_statements};
 use handles::law_of_freezes;
 use keys::ByteText;
 use questions::{ScriptQuery, finishes_tell_one_answer, requests_have_one_outcome};
@@ -16,4 +18,12 @@ pub fn script_has_one_output()
     law_of_freezes::<ByteText, i64, ScriptQuery>();
     requests_have_one_outcome();
     finishes_tell_one_answer();
+}
+
+/// The text of the journal of a run is legal: `audit` says so of it, or that memory was refused.
+pub fn run_has_legal_text()
+    ensures { RunsHaveLegalTexts }
+{
+    law_of_runs();
+    law_of_statements();
 }

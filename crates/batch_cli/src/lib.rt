@@ -25,7 +25,7 @@ pub use client::ScriptClient;
 pub use gate::{Free, LineGate};
 pub use input::{read_journal, read_script};
 pub use journaling::write_journal;
-pub use laws::script_has_one_output;
+pub use laws::{run_has_legal_text, script_has_one_output};
 pub use questions::ScriptQuery;
 pub use run::{Journal, RunFault, run_script};
 pub use script::{
