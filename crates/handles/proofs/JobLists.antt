@@ -1,5 +1,5 @@
 -- The open jobs in a vector, as a map from their numbers.
-use Rattle.std.proofs.Common.{◌≡◌, ℕ, ◌+◌, ◌≤◌, Bool, true, false, not, cond, List, [], ◌∷◌, ◌++◌, refl, ap, ◌∙◌, filter, arith}
+use Rattle.std.proofs.Common.{◌≡◌, ℕ, ◌+◌, ◌≤◌, Bool, true, false, not, cond, ◌==◌, List, map, [], ◌∷◌, ◌++◌, refl, ap, ◌∙◌, filter, arith}
 use Rattle.std.specs.declared.cmp.Ordering.{Ordering}
 use Rattle.std.specs.declared.cmp.Ordering.TheVariants.{Greater}
 use Rattle.std.specs.Ordering.{nat_cmp}
@@ -10,18 +10,26 @@ use Rattle.handles.specs.Machine.{Job}
 use Rattle.handles.specs.declared.jobs.OpenJob.{OpenJob}
 use Rattle.handles.specs.Jobs.{AllBelow, job_of, jobs_of, other_job}
 
-module _ {K V Q : Type 0} where
-  both : (b : Bool) (o : OpenJob K V Q) (os : List (OpenJob K V Q)) (js : Map ℕ (Job K V Q)) → jobs_of os ≡ js → jobs_of (cond b (o ∷ os) os) ≡ cond b (job_of o ∷ js) js
-  both true o os js e = ap (λ (r : Map ℕ (Job K V Q)). job_of o ∷ r) e
-  both false o os js e = e
+module _ {X Y : Type 0} (number : X → ℕ) (shown : X → Y) where
+  abbrev numbered : X → ℕ × Y
+  numbered x = (number x, shown x)
 
+  both : (b : Bool) (x : X) (xs : List X) (m : Map ℕ Y) → map numbered xs ≡ m → map numbered (cond b (x ∷ xs) xs) ≡ cond b (numbered x ∷ m) m
+  both true x xs m e = ap (λ (r : Map ℕ Y). numbered x ∷ r) e
+  both false x xs m e = e
+
+  -- of things under numbers, to keep those of other numbers is to remove the number
+  pub without-numbered : (n : ℕ) (xs : List X) → map numbered (filter (λ x. not (number x == n)) xs) ≡ without nat_cmp (map numbered xs) n
+  without-numbered n [] = refl
+  without-numbered n (x ∷ xs) =
+      let same : not (number x == n) ≡ is_other nat_cmp n (number x) = ap not (unsigned_ties (number x) n ∙ (eq_by_cmp_equiv nat_cmp_total).symm (number x) n) in
+      let rest = without nat_cmp (map numbered xs) n in
+      both (not (number x == n)) x (filter (λ y. not (number y == n)) xs) rest (without-numbered n xs) ∙ ap (λ (b : Bool). cond b (numbered x ∷ rest) rest) same
+
+module _ {K V Q : Type 0} where
   -- to keep the other jobs is to remove the number
   pub jobs_of-filter : (n : ℕ) (os : List (OpenJob K V Q)) → jobs_of (filter (other_job n) os) ≡ without nat_cmp (jobs_of os) n
-  jobs_of-filter n [] = refl
-  jobs_of-filter n (o ∷ os) =
-      let same : other_job n o ≡ is_other nat_cmp n o.number = ap not (unsigned_ties o.number n ∙ (eq_by_cmp_equiv nat_cmp_total).symm o.number n) in
-      let rest = without nat_cmp (jobs_of os) n in
-      both (other_job n o) o (filter (other_job n) os) rest (jobs_of-filter n os) ∙ ap (λ (b : Bool). cond b (job_of o ∷ rest) rest) same
+  jobs_of-filter = without-numbered (λ (o : OpenJob K V Q). o.number) (λ o. (job_of o).1)
 
   -- to put a job behind those of lower numbers is to map its number
   pub jobs_of-push : (o : OpenJob K V Q) (os : List (OpenJob K V Q)) → AllBelow o.number os → jobs_of (os ++ o ∷ []) ≡ with_pair nat_cmp (jobs_of os) o.number (job_of o).1

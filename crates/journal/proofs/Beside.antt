@@ -26,10 +26,10 @@ use Rattle.journal.proofs.Refusing.{both_ways, open_has_no_refusal, open_may_fin
 use Rattle.journal.proofs.Runs.{open_still}
 
 -- what stands at a number after one is put or taken away
-at_put : {X : Type 0} (m : Map ℕ X) (j q : ℕ) (x : X) → value_at nat_cmp (with_pair nat_cmp m j x) q ≡ cond (eq_by_cmp nat_cmp q j) (Some x) (value_at nat_cmp m q)
+pub at_put : {X : Type 0} (m : Map ℕ X) (j q : ℕ) (x : X) → value_at nat_cmp (with_pair nat_cmp m j x) q ≡ cond (eq_by_cmp nat_cmp q j) (Some x) (value_at nat_cmp m q)
 at_put m j q x = find-put nat_cmp nat_cmp_total q j x m
 
-at_without : {X : Type 0} (m : Map ℕ X) (j q : ℕ) → value_at nat_cmp (without nat_cmp m j) q ≡ cond (map.is_other nat_cmp j q) (value_at nat_cmp m q) None
+pub at_without : {X : Type 0} (m : Map ℕ X) (j q : ℕ) → value_at nat_cmp (without nat_cmp m j) q ≡ cond (map.is_other nat_cmp j q) (value_at nat_cmp m q) None
 at_without m j q = find-where_key nat_cmp (map.is_other nat_cmp j) q (λ x e. ap (map.is_other nat_cmp j) (sym (nat_cmp-IsAntisymmetric q x e))) m
 
 apart : (q j : ℕ) → (q == j) ≡ false → eq_by_cmp nat_cmp q j ≡ false

@@ -12,22 +12,23 @@ use Rattle.handles.specs.Views.{frozen_outcome}
 use Rattle.journal.specs.Answers.{answered}
 use Rattle.journal.specs.Journals.{Entered, is_filed}
 use Rattle.journal.specs.Tokens.{entry_at, entries_of}
-use Rattle.journal.specs.Kept.{Standing, Files, AllOpen, WasOpenedBy, is_other}
+use Rattle.journal.specs.Kept.{Standing, Files, AllOpen, WasOpenedBy, is_other, openers_after}
 use Rattle.journal.specs.declared.frozen.Frozen.{Frozen}
 use Rattle.journal.proofs.Beside.{frozen_still}
 
 module _ {K V Q A I : Type 0} (kind : Kind K V Q A (plain.Told K V I)) (t : Shelves) where
   -- one more event, as the table and its journal show it
   pub files_event : (s u : State K V Q) (ts ts' : List (Where (Entered K V Q (plain.Told K V I)))) (a m : Where (Entered K V Q (plain.Told K V I)))
-      (seat : ℕ) (r : Request K V Q) (o : Outcome K V (plain.Told K V I)) (at : ℕ) (old : Standing K V Q (plain.Told K V I))
-      → record { state = s; journal = entries_of ts } ≡ old → ts' ≡ ts ++ m ∷ [] → m ≡ a → Shows t a → entry_at a ≡ record { seat = seat; request = r; outcome = o }
-      → at ≡ length ts → is_filed o ≡ true → Step kind s r o u → Files kind t old seat r o a at (record { state = u; journal = entries_of ts' })
-  files_event s u ts ts' a m seat r o at old view is same shows entry place filed step =
-      subst (λ (x : Standing K V Q (plain.Told K V I)). Files kind t x seat r o a at (record { state = u; journal = entries_of ts' })) view record {
+      (seat : ℕ) (r : Request K V Q) (o : Outcome K V (plain.Told K V I)) (at : ℕ) (old : Standing K V Q (plain.Told K V I)) (os os' : Map ℕ ℕ)
+      → record { state = s; journal = entries_of ts; openers = os } ≡ old → ts' ≡ ts ++ m ∷ [] → m ≡ a → Shows t a → entry_at a ≡ record { seat = seat; request = r; outcome = o }
+      → at ≡ length ts → is_filed o ≡ true → Step kind s r o u → os' ≡ openers_after os r o a.index → Files kind t old seat r o a at (record { state = u; journal = entries_of ts'; openers = os' })
+  files_event s u ts ts' a m seat r o at old os os' view is same shows entry place filed step openers =
+      subst (λ (x : Standing K V Q (plain.Told K V I)). Files kind t x seat r o a at (record { state = u; journal = entries_of ts'; openers = os' })) view record {
         shown = shows;
         entry = entry;
         place = place ∙ sym (length-map ts entry_at);
         journal = ap entries_of is ∙ map-append entry_at ts (m ∷ []) ∙ ap (λ w. entries_of ts ++ w.value ∷ []) same;
+        openers = openers;
         step = step;
         filed = filed;
       }

@@ -12,7 +12,7 @@ use Rattle.handles.specs.declared.limits.Limits.{Limits}
 use Rattle.handles.specs.Machine.{Kind, State, Request, Outcome, Step, Run, nothing}
 use Rattle.journal.specs.Journals.{Entered, IsLegal, is_filed, is_filed_in, request_in, outcome_in, requests_in, outcomes_in}
 use Rattle.journal.specs.Tokens.{entry_at, entries_of, AllShown}
-use Rattle.journal.specs.Kept.{IsKept, AllOpen}
+use Rattle.journal.specs.Kept.{IsKept, AllOpen, EachHasItsToken}
 use Rattle.journal.specs.declared.frozen.Frozen.{Frozen}
 use Rattle.journal.proofs.Limits.{limits_kept}
 
@@ -43,8 +43,8 @@ module _ {K V Q A I : Type 0} (kind : Kind K V Q A (plain.Told K V I)) (t : Shel
   pub kept_more : (s u : State K V Q) (ts ts' : List (Where (Entered K V Q (plain.Told K V I)))) (fs fs' : List (Frozen K V Q I)) (a : Where (Entered K V Q (plain.Told K V I)))
       (seat : ℕ) (r : Request K V Q) (o : Outcome K V (plain.Told K V I))
       → ts' ≡ ts ++ a ∷ [] → IsKept kind t s ts fs → Shows t a → entry_at a ≡ record { seat = seat; request = r; outcome = o }
-      → is_filed o ≡ true → Step kind s r o u → AllOpen t u fs' → IsKept kind t u ts' fs'
-  kept_more s u ts ts' fs fs' a seat r o is kept shows entry filed step beside =
+      → is_filed o ≡ true → Step kind s r o u → AllOpen t u fs' → EachHasItsToken u fs' → IsKept kind t u ts' fs'
+  kept_more s u ts ts' fs fs' a seat r o is kept shows entry filed step beside each =
       let filed' : is_filed (entry_at a).outcome ≡ true = ap (λ e. is_filed e.outcome) entry ∙ filed in
       let step' : Step kind s (entry_at a).request (entry_at a).outcome u = subst (λ (e : Entered K V Q (plain.Told K V I)). Step kind s e.request e.outcome u) (sym entry) step in
       let more : IsLegal kind s.limits (entries_of ts ++ entry_at a ∷ []) u = legal_more kind s.limits s u (entries_of ts) (entry_at a) kept.legal filed' step' in
@@ -54,6 +54,7 @@ module _ {K V Q A I : Type 0} (kind : Kind K V Q A (plain.Told K V I)) (t : Shel
         shown = All-append (λ (b : Where (Entered K V Q (plain.Told K V I))). Shows t b) ts (a ∷ []) kept.shown (one_shown a shows);
         legal = legal';
         beside = beside;
+        each = each;
       }
 
 module _ {K V Q I : Type 0} (t : Shelves) where

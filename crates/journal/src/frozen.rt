@@ -1,6 +1,8 @@
 //! The tokens beside open jobs.
-ghost use Rattle.std.specs.Prelude.{◌≡◌, ◌≤◌, Contains, IfSome, filter, vec_capacity, vec_len};
-ghost use Rattle.journal.specs.Kept.{is_other};
+ghost use Rattle.std.specs.Prelude.{◌≡◌, ◌≤◌, Contains, IfSome, filter, option_map, vec_capacity, vec_len};
+ghost use Rattle.std.specs.Ordering.{nat_cmp};
+ghost use Rattle.journal.specs.Kept.{is_other, openers_of};
+ghost use Rattle.versions.specs.Map.{value_at};
 
 use crate::room::Token;
 use hash_path::PathKey;
@@ -19,6 +21,7 @@ pub(crate) fn beside<K: PathKey, V, Q, I>(
 ) -> Option<&Frozen<K, V, Q, I>>
     ensures number { IfSome result (λ frozen. frozen.now.number ≡ number) }
     ensures there { IfSome result (λ frozen. Contains freezes.now frozen.now) }
+    ensures index { option_map (λ frozen. frozen.now.token.index) result ≡ value_at nat_cmp (openers_of freezes.now) number }
 {
     for frozen in freezes {
         if frozen.number == number {

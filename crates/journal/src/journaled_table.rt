@@ -1,5 +1,5 @@
 //! The table that keeps its journal.
-ghost use Rattle.std.specs.Prelude.{◌≡◌, ◌≤◌, ◌<◌, ◌+◌, ◌^◌, ◌⊎◌, ◌++◌, ◌∷◌, [], IfErr, IfOk, IfSome, IsTrue, MatchResult, OnErr, OnOk, Some, filter, vec_capacity, vec_len};
+ghost use Rattle.std.specs.Prelude.{◌≡◌, ◌↔◌, ◌≤◌, ◌<◌, ◌+◌, ◌^◌, ◌⊎◌, ◌++◌, ◌∷◌, [], IfErr, IfOk, IfSome, IsErrAnd, IsTrue, MatchResult, OnErr, OnOk, Some, false, filter, vec_capacity, vec_len};
 ghost use Rattle.boxcar.specs.Table.{Shows};
 ghost use Rattle.bulk_ops.specs.Answers as plain;
 ghost use Rattle.bulk_ops.specs.Told.{told_of};
@@ -7,7 +7,7 @@ ghost use Rattle.handles.specs.Machine.{Job, abandon, finish, freeze, let_go, ma
 ghost use Rattle.handles.specs.Views.{call_outcome, finished_outcome, frozen_outcome, machine, request_of, view_outcome};
 ghost use Rattle.journal.specs.Answers.{IsUnfiled, answered};
 ghost use Rattle.journal.specs.Journals.{IsLegal};
-ghost use Rattle.journal.specs.Kept.{Files, WasOpenedBy, is_other, opened_by};
+ghost use Rattle.journal.specs.Kept.{Files, IsAnothers, WasOpenedBy, is_other, opened_by, opener_at};
 ghost use Rattle.journal.specs.Tokens.{AllShown, entries_of};
 
 mod filed_calls;
@@ -43,12 +43,12 @@ pub struct JournaledTable<K: PathKey, V: Eq, Q: Asks<K, V>, J: Room> {
 impl<K: PathKey, V: Eq, Q: Asks<K, V>, J: Room> Model for JournaledTable<K, V, Q, J> {
     ghost use Rattle.bulk_ops.specs.Answers as plain;
     ghost use Rattle.handles.specs.Views.{machine};
-    ghost use Rattle.journal.specs.Kept.{IsKept, Standing};
+    ghost use Rattle.journal.specs.Kept.{IsKept, Standing, openers_of};
     ghost use Rattle.journal.specs.Tokens.{entries_of};
 
     ghost Value = { Standing K V Q (plain.Told K V Q.Item) };
 
-    ghost view = { λ l. record { state = l.table; journal = entries_of l.journal.items } };
+    ghost view = { λ l. record { state = l.table; journal = entries_of l.journal.items; openers = openers_of l.freezes.items } };
 
     ghost invariant = { λ l. IsKept (machine K.cmp V.eq Q.target_of Q.answered) J.table l.table l.journal.items l.freezes.items };
 }
@@ -60,7 +60,7 @@ impl<K: PathKey + Drop, V: Eq + Drop, Q: Asks<K, V> + Drop, J: Room> JournaledTa
         requires most_pairs { limits.pairs ≤ MOST_PAIRS }
         requires least_entries { 2 ≤ limits.entries }
         requires most_entries { limits.entries ≤ MOST_ENTRIES }
-        ensures { IfOk result (λ l. l ≡ record { state = nothing limits; journal = [] }) }
+        ensures { IfOk result (λ l. l ≡ record { state = nothing limits; journal = []; openers = [] }) }
     {
         Ok(JournaledTable {
             table: Table::new(alloc, limits)?,
@@ -181,6 +181,7 @@ impl<K: PathKey + Drop, V: Eq + Drop, Q: Asks<K, V> + Drop, J: Room> JournaledTa
         ensures opened { OnOk result (WasOpenedBy self.old.state job opener.now.value) }
         ensures room { OnOk result (IsTrue caller.has_room) }
         ensures unfiled { IfErr result (λ e. (e ≡ Refusal.NoJob) ⊎ (e ≡ Refusal.NoMemory)) }
+        ensures exact { IsErrAnd result (λ e. e ≡ Refusal.NoJob) ↔ IsAnothers self.old job opener.now.index }
         ensures due { IfErr result (λ e. e ≡ Refusal.NoMemory → WasOpenedBy self.old.state job opener.now.value) }
         ensures err { OnErr result (self.new ≡ self.old) }
     {
@@ -225,6 +226,7 @@ impl<K: PathKey + Drop, V: Eq + Drop, Q: Asks<K, V> + Drop, J: Room> JournaledTa
         ensures room { OnOk result (IsTrue caller.has_room) }
         ensures told { IfOk result (λ e. told_of e.answer ≡ plain.told (Q.answer_of part)) }
         ensures unfiled { IfErr result (λ e. (e.0 ≡ Refusal.NoJob) ⊎ (e.0 ≡ Refusal.NoMemory)) }
+        ensures exact { IsErrAnd result (λ e. e.0 ≡ Refusal.NoJob) ↔ IsAnothers self.old job opener.now.index }
         ensures due { IfErr result (λ e. e.0 ≡ Refusal.NoMemory → WasOpenedBy self.old.state job opener.now.value) }
         ensures back { IfErr result (λ e. e.1 ≡ part) }
         ensures err { OnErr result (self.new ≡ self.old) }
@@ -273,7 +275,9 @@ impl<K: PathKey + Drop, V: Eq + Drop, Q: Asks<K, V> + Drop, J: Room> JournaledTa
     ) -> bool
         requires table { entries.now ≡ J.table }
         requires shown { Shows J.table opener.now }
-        ensures { IsTrue result → WasOpenedBy self.now.state job opener.now.value }
+        ensures opened { IsTrue result → WasOpenedBy self.now.state job opener.now.value }
+        ensures here { IsTrue result → opener_at self.now job ≡ Some opener.now.index }
+        ensures another { result ≡ false → IsAnothers self.now job opener.now.index }
     {
         let Some(frozen) = beside(&self.freezes, job) else {
             return false;

@@ -4,10 +4,12 @@ use Rattle.bulk_ops.specs.Answers as plain
 use Rattle.handles.specs.Machine.{Request, Step}
 use Rattle.handles.specs.Views.{Foresees, call_outcome, machine, request_of}
 use Rattle.journal.specs.Answers.{answered}
+use Rattle.journal.specs.Kept.{openers_of}
 use Rattle.journal.specs.Tokens.{entry_at}
 use Rattle.journal.proofs.Foresight.{outcome_answered, filed_as_counted, call_is_filed, call_opens_no_job, call_names_no_job}
 use Rattle.journal.proofs.Runs.{kept_more, open_still}
 use Rattle.journal.proofs.Events.{files_event}
+use Rattle.journal.proofs.Openers.{each_still, call_keeps_openers}
 use Rattle.journal.proofs.journaled_table.JournaledTable.file_call.Goals as goal
 
 pub serve_foreseen-requires-clause-foreseen : goal.serve_foreseen-requires-clause-foreseen
@@ -28,7 +30,7 @@ invariant_of-self-2 g c =
     let jobs = c.law_of_open_jobs.ensures l.table c.serve_foreseen.new.self r (answered call_outcome c.args.answer) (call_opens_no_job _ c.args.call) (call_names_no_job _ c.args.call) step in
     kept_more kind g.J.Room.table l.table c.serve_foreseen.new.self l.journal.items c.push_reserved.new.self.items l.freezes.items l.freezes.items c.in_ok-token.mine c.args.caller.seat r (answered call_outcome c.args.answer)
     is c.self.invariant shows entry (filed_as_counted kind call_outcome c.args.answer (call_is_filed g.row.K.Denot g.row.V.Denot (plain.Told g.row.K.Denot g.row.V.Denot g.row.Q-Item.Denot)) c.requires.counted) step
-    (open_still g.J.Room.table l.table c.serve_foreseen.new.self l.freezes.items jobs c.self.invariant.beside)
+    (open_still g.J.Room.table l.table c.serve_foreseen.new.self l.freezes.items jobs c.self.invariant.beside) (each_still l.table c.serve_foreseen.new.self l.freezes.items jobs c.self.invariant.each)
 
 pub returns-clause-filed : goal.returns-clause-filed
 returns-clause-filed g c =
@@ -39,5 +41,6 @@ returns-clause-filed g c =
     let shows : Shows g.J.Room.table c.in_ok-token.token = search rules in
     let entry : entry_at c.in_ok-token.token ≡ record { seat = c.args.caller.seat; request = r; outcome = answered call_outcome c.args.answer } = search rules in
     let is : c.push_reserved.new.self.items ≡ l.journal.items ++ c.in_ok-token.mine ∷ [] = search rules in
-    files_event kind g.J.Room.table l.table c.serve_foreseen.new.self l.journal.items c.push_reserved.new.self.items c.in_ok-token.token c.in_ok-token.mine c.args.caller.seat r (answered call_outcome c.args.answer) _ c.args.self.now
+    files_event kind g.J.Room.table l.table c.serve_foreseen.new.self l.journal.items c.push_reserved.new.self.items c.in_ok-token.token c.in_ok-token.mine c.args.caller.seat r (answered call_outcome c.args.answer) _ c.args.self.now (openers_of l.freezes.items) (openers_of l.freezes.items)
     c.self.view_is is c.in_ok-token.ensures.same shows entry (search rules) (filed_as_counted kind call_outcome c.args.answer (call_is_filed g.row.K.Denot g.row.V.Denot (plain.Told g.row.K.Denot g.row.V.Denot g.row.Q-Item.Denot)) c.requires.counted) step
+    (sym (call_keeps_openers _ (openers_of l.freezes.items) c.args.call (answered call_outcome c.args.answer) c.in_ok-token.token.index))

@@ -4,10 +4,12 @@ use Rattle.boxcar.specs.Table.{Shows}
 use Rattle.handles.specs.Machine.{Request, Step, freeze}
 use Rattle.handles.specs.Views.{Foresees, machine, frozen_outcome, lacks_memory}
 use Rattle.journal.specs.Answers.{answered}
+use Rattle.journal.specs.Kept.{openers_of}
 use Rattle.journal.specs.Tokens.{entry_at}
 use Rattle.journal.proofs.Foresight.{step_as_foreseen, filed_as_counted}
 use Rattle.journal.proofs.Runs.{kept_more}
 use Rattle.journal.proofs.Events.{files_event, frozen_after}
+use Rattle.journal.proofs.Openers.{each_frozen, openers_frozen}
 use Rattle.journal.proofs.journaled_table.JournaledTable.file_freeze.Goals as goal
 
 pub invariant_of-self-2 : goal.invariant_of-self-2
@@ -23,8 +25,10 @@ invariant_of-self-2 g c =
     let is : c.push_reserved.new.self.items ≡ l.journal.items ++ c.in_ok-token.mine ∷ [] = search rules in
     let beside = frozen_after kind g.J.Room.table l.table c.freeze.new.self c.args.handle c.args.caller.seat (arc_value c.args.query) c.args.answer l.freezes.items _ c.set_beside.new.freezes.items (λ n. record { number = n; token = c.again.result })
     c.law_of_freezes.ensures (λ n. refl) (λ n. search rules) (λ n. search rules) step c.set_beside.ensures (search rules) c.self.invariant.beside in
+    let each = each_frozen kind l.table c.freeze.new.self c.args.handle (arc_value c.args.query) c.args.answer l.freezes.items _ c.set_beside.new.freezes.items (λ n. record { number = n; token = c.again.result })
+    (λ n. refl) step c.set_beside.ensures (search rules) c.self.invariant.each in
     kept_more kind g.J.Room.table l.table c.freeze.new.self l.journal.items c.push_reserved.new.self.items l.freezes.items c.set_beside.new.freezes.items c.in_ok-token.mine c.args.caller.seat r (answered frozen_outcome c.args.answer)
-    is c.self.invariant shows entry (filed_as_counted kind frozen_outcome c.args.answer (λ x. refl) c.requires.counted) step beside
+    is c.self.invariant shows entry (filed_as_counted kind frozen_outcome c.args.answer (λ x. refl) c.requires.counted) step beside each
 
 pub returns-clause-filed : goal.returns-clause-filed
 returns-clause-filed g c =
@@ -37,5 +41,6 @@ returns-clause-filed g c =
     let shows : Shows g.J.Room.table c.in_ok-token.token = search rules in
     let entry : entry_at c.in_ok-token.token ≡ record { seat = c.args.caller.seat; request = r; outcome = answered frozen_outcome c.args.answer } = search rules in
     let is : c.push_reserved.new.self.items ≡ l.journal.items ++ c.in_ok-token.mine ∷ [] = search rules in
-    files_event kind g.J.Room.table l.table c.freeze.new.self l.journal.items c.push_reserved.new.self.items c.in_ok-token.token c.in_ok-token.mine c.args.caller.seat r (answered frozen_outcome c.args.answer) _ c.args.self.now
+    files_event kind g.J.Room.table l.table c.freeze.new.self l.journal.items c.push_reserved.new.self.items c.in_ok-token.token c.in_ok-token.mine c.args.caller.seat r (answered frozen_outcome c.args.answer) _ c.args.self.now (openers_of l.freezes.items) (openers_of c.set_beside.new.freezes.items)
     c.self.view_is is c.in_ok-token.ensures.same shows entry (search rules) (filed_as_counted kind frozen_outcome c.args.answer (λ x. refl) c.requires.counted) step
+    (openers_frozen kind c.args.handle (arc_value c.args.query) c.args.answer l.freezes.items _ c.set_beside.new.freezes.items c.again.result c.in_ok-token.token (search rules) c.set_beside.ensures (search rules))

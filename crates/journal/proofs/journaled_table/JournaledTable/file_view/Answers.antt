@@ -3,10 +3,12 @@ use Rattle.boxcar.specs.Table.{Shows}
 use Rattle.handles.specs.Machine.{Request, Step, view}
 use Rattle.handles.specs.Views.{Foresees, machine, view_outcome, lacks_memory}
 use Rattle.journal.specs.Answers.{answered}
+use Rattle.journal.specs.Kept.{openers_of}
 use Rattle.journal.specs.Tokens.{entry_at}
 use Rattle.journal.proofs.Foresight.{step_as_foreseen, filed_as_counted}
 use Rattle.journal.proofs.Runs.{kept_more, open_still}
 use Rattle.journal.proofs.Events.{files_event}
+use Rattle.journal.proofs.Openers.{each_still}
 use Rattle.journal.proofs.journaled_table.JournaledTable.file_view.Goals as goal
 
 pub invariant_of-self-2 : goal.invariant_of-self-2
@@ -23,7 +25,7 @@ invariant_of-self-2 g c =
     let jobs = c.law_of_open_jobs.ensures l.table c.view.new.self r (answered view_outcome c.args.answer) refl refl step in
     kept_more kind g.J.Room.table l.table c.view.new.self l.journal.items c.push_reserved.new.self.items l.freezes.items l.freezes.items c.in_ok-token.mine c.args.caller.seat r (answered view_outcome c.args.answer)
     is c.self.invariant shows entry (filed_as_counted kind view_outcome c.args.answer (λ m. refl) c.requires.counted) step
-    (open_still g.J.Room.table l.table c.view.new.self l.freezes.items jobs c.self.invariant.beside)
+    (open_still g.J.Room.table l.table c.view.new.self l.freezes.items jobs c.self.invariant.beside) (each_still l.table c.view.new.self l.freezes.items jobs c.self.invariant.each)
 
 pub returns-clause-filed : goal.returns-clause-filed
 returns-clause-filed g c =
@@ -36,5 +38,5 @@ returns-clause-filed g c =
     let shows : Shows g.J.Room.table c.in_ok-token.token = search rules in
     let entry : entry_at c.in_ok-token.token ≡ record { seat = c.args.caller.seat; request = r; outcome = answered view_outcome c.args.answer } = search rules in
     let is : c.push_reserved.new.self.items ≡ l.journal.items ++ c.in_ok-token.mine ∷ [] = search rules in
-    files_event kind g.J.Room.table l.table c.view.new.self l.journal.items c.push_reserved.new.self.items c.in_ok-token.token c.in_ok-token.mine c.args.caller.seat r (answered view_outcome c.args.answer) _ c.args.self.now
-    c.self.view_is is c.in_ok-token.ensures.same shows entry (search rules) (filed_as_counted kind view_outcome c.args.answer (λ m. refl) c.requires.counted) step
+    files_event kind g.J.Room.table l.table c.view.new.self l.journal.items c.push_reserved.new.self.items c.in_ok-token.token c.in_ok-token.mine c.args.caller.seat r (answered view_outcome c.args.answer) _ c.args.self.now (openers_of l.freezes.items) (openers_of l.freezes.items)
+    c.self.view_is is c.in_ok-token.ensures.same shows entry (search rules) (filed_as_counted kind view_outcome c.args.answer (λ m. refl) c.requires.counted) step refl

@@ -16,8 +16,8 @@ agrees-requires g c =
       same,
     )
 
-pub returns : goal.returns
-returns g c holds =
+pub returns-clause-opened : goal.returns-clause-opened
+returns-clause-opened g c holds =
     let f = c.in-Some.frozen.now in
     let beside = found_open g.J.Room.table c.self.inside.table c.self.inside.freezes.items f c.self.invariant.beside (subst (λ fs. Contains fs f) c.deref.ensures.value c.in-Some.ensures.there) in
     subst (λ s. WasOpenedBy s.state c.args.job c.args.opener.now.value) c.self.view_is (opened_as c.self.inside.table f.number c.args.job (entry_at f.token) c.args.opener.now.value c.in-Some.ensures.number c.agrees.ensures beside.opener)
