@@ -58,7 +58,7 @@ impl<K: PathKey + Drop, V: Eq + Drop, Q: Asks<K, V> + Drop, J: Room> SharedMap<K
         })
     }
 
-    /// Makes the call.
+    /// Makes the call. The map that it drops or clears is freed once the lock is released.
     pub fn call<R: Wait>(
         &self,
         rt: &R,
@@ -69,10 +69,12 @@ impl<K: PathKey + Drop, V: Eq + Drop, Q: Asks<K, V> + Drop, J: Room> SharedMap<K
         ensures told { IfOk result (λ reply. MayBeTold (machine K.cmp V.eq Q.target_of Q.answered) (request_of call) (call_outcome reply)) }
     {
         let caller = Caller::new(seat.number, &mut seat.list);
-        let made = self
-            .table
-            .lock(rt)
-            .call(rt, self.alloc, &self.entries, caller, call);
+        let mut table = self.table.lock(rt);
+        let let_go = table.taken_out(&call);
+        let made = table.call(rt, self.alloc, &self.entries, caller, call);
+        drop(table);
+        // The nodes of a map that is dropped or cleared are freed here, with no lock held.
+        drop(let_go);
         match made {
             Ok(event) => file(&mut seat.list, &mut seat.floor, event),
             Err(refusal) => {
