@@ -1,6 +1,6 @@
 -- What a call keeps, whatever it is answered, and which parts answer an open job.
 use Rattle.std.proofs.Common.{◌≡◌, ◌≢◌, ℕ, true, false, refl, sym, subst, Option, Some, None}
-use Rattle.std.specs.Prelude.{Result, Ok, Err, IfOk, OnErr}
+use Rattle.std.specs.Prelude.{Result, Ok, Err, IfOk, IfSome, OnErr}
 use Rattle.versions.specs.Commands.{Command}
 use Rattle.versions.specs.Map.{Map}
 use Rattle.versions.specs.declared.refusal.Refusal.{Refusal}
@@ -77,6 +77,15 @@ module _ {K V Q A B : Type 0} (kind : Kind K V Q A B) where
   open_after_freeze law s t h q p same (Err e) step = tt
 
 module _ {K V Q P : Type 0} (answers : Q → Map K V → P → Type 0) where
+  -- a part that answers the open job, if there is one, answers whatever job is open
+  pub answers_job : (o : Option (Job K V Q)) (part : P) → IfSome o (λ j. answers j.query j.frozen part) → (j : Job K V Q) → o ≡ Some j → answers j.query j.frozen part
+  answers_job o part holds j is = subst (λ (p : Option (Job K V Q)). IfSome p (λ k. answers k.query k.frozen part)) is holds
+
+  -- a part that answers the query and the map of the open job answers the open job
+  pub answers_shown : {E : Type 0} (o : Option (Job K V Q)) (q : Q) (m : Map K V) (made : Result P E) → Some (record { query = q; frozen = m }) ≡ o → IfOk made (λ part. answers q m part)
+      → IfOk made (λ part. IfSome o (λ j. answers j.query j.frozen part))
+  answers_shown o q m made is holds = subst (λ (p : Option (Job K V Q)). IfOk made (λ part. IfSome p (λ j. answers j.query j.frozen part))) is holds
+
   -- a part that answers a query for a map answers whatever job is open with that query and that map
   pub answers_open : (o : Option (Job K V Q)) (q : Q) (m : Map K V) (part : P) → o ≡ Some (record { query = q; frozen = m }) → answers q m part
       → (j : Job K V Q) → o ≡ Some j → answers j.query j.frozen part

@@ -3,4 +3,10 @@
 #![tactic(auto)]
 
 #[cfg(test)]
+mod asking;
+#[cfg(test)]
+mod steps;
+#[cfg(test)]
 mod tests;
+#[cfg(test)]
+mod told;

@@ -1,99 +1,93 @@
 //! Calls that make no request for memory, with every request refused.
-use super::asking::{
-    self, Shown, abandon, close, count_of, filter_of, freeze, opened, plainly, with_four, worked,
-};
-use super::{
-    assert_is, call, drop_handle, entries, of_path, open, put, snapshot, some, view, with_handle,
-};
-use handles::{CallReply, Command, Reply};
+
+use super::foresight::{no_memory, with_four};
+use super::{Row, assert_entries, assert_is, assert_rows, step};
+use crate::asking::{Ask, Asking};
+use crate::steps::{Act, Do, Prepared, close, part_of, take};
+use crate::told::{Told, finish_told};
 use std::alloc::Global;
-use std::sync::Arc;
-use std::test::Fail;
-use test_keys::{ChosenKey, take_all};
+use std::panic::Expect;
+use std::process::Abort;
 use versions::Refusal;
 
-// A get and a put of the key 97, which share it, so that the get gives no memory back.
-fn get_and_put(
-    alloc: Global,
-) -> Result<(Command<ChosenKey, i64>, Command<ChosenKey, i64>), Refusal> {
-    let key = of_path(alloc, 97)?;
-    let again = Arc::try_clone(&key)?;
-    Ok((Command::Get(key), Command::Put(again, Arc::new(alloc, 6)?)))
+// The steps of rows.
+fn steps_of(rt: &impl Abort, alloc: Global, rows: &[Row]) -> Vec<Prepared> {
+    let mut steps = Vec::new(alloc);
+    for (what, _) in rows {
+        steps.push(step(rt, alloc, *what)).expect(rt, "no room");
+    }
+    steps
 }
 
-#[test]
-fn a_snapshot_a_view_a_get_and_a_drop_make_no_request(rt: HostRuntime) -> Result<(), Fail> {
-    let alloc = rt.alloc();
-    let mut table = with_handle(alloc)?;
-    put(alloc, &mut table, 1, 97, 5)?;
-    let (get, again) = get_and_put(alloc)?;
-    let five = some(alloc, 5);
-
-    let taken = take_all(alloc)?;
-    let opened = open(alloc, &mut table, 3);
-    let copied = snapshot(&mut table, 1, 2);
-    let found = call(alloc, &mut table, 2, get);
-    let size = call(alloc, &mut table, 2, Command::Size);
-    let viewed = view(&mut table, 2);
-    let closed = view(&mut table, 3);
-    let before = call(alloc, &mut table, 1, again);
-    let dropped = drop_handle(&mut table, 2);
-    drop(taken);
-
-    assert_is(&rt, opened, Err(Refusal::NoMemory));
-    assert_is(&rt, copied, Ok(()));
-    assert_is(&rt, found, five);
-    assert_is(&rt, size, Ok(Reply::Size(1)));
-    assert_is(&rt, before, Err(Refusal::NoMemory));
-    assert_is(&rt, viewed.is_ok(), true);
-    assert_is(&rt, closed.err(), Some(Refusal::NoHandle));
-    assert_is(&rt, dropped, Ok(()));
-    assert_is(&rt, entries(&table), 8);
-    assert_is(&rt, open(alloc, &mut table, 3), Ok(()));
-    Ok(())
+// The steps, of which none is a finish, are told this with every request for memory refused.
+fn assert_without(rt: &impl Abort, alloc: Global, table: &mut Asking, rows: &[Row]) {
+    let steps = steps_of(rt, alloc, rows);
+    let _taken = no_memory(rt, alloc);
+    for (step, (_, want)) in steps.iter().zip(rows) {
+        assert_is(rt, take(alloc, table, step), *want);
+    }
 }
 
+const ON_HANDLES: [Row; 8] = [
+    (Do::Open(3), Told::Refused(Refusal::NoMemory)),
+    (Do::Snapshot(1, 2), Told::Unit),
+    (Do::On(2, Act::Get(97)), Told::Old(Some(4))),
+    (Do::On(2, Act::Size), Told::Size(1)),
+    (Do::View(2), Told::Viewed(1, Some(4))),
+    (Do::View(3), Told::Refused(Refusal::NoHandle)),
+    (Do::On(1, Act::Put(97, 6)), Told::Refused(Refusal::NoMemory)),
+    (Do::Drop(2), Told::Unit),
+];
+
 #[test]
-fn a_finish_and_a_refused_freeze_make_no_request(rt: HostRuntime) -> Result<(), Fail> {
-    let alloc = rt.alloc();
-    let mut table = with_four(alloc)?;
-    let filter = filter_of(alloc, 4, 5)?;
-    let (job, view) = freeze(&mut table, 1, &filter)?;
-    let query = &*filter;
-    let part = worked(alloc, &view, query)?;
-
-    let taken = take_all(alloc)?;
-    let told = close(&mut table, job, &view, query, part);
-    let not_live = opened(&mut table, 7, &filter);
-    let reserved = opened(&mut table, 1, &filter);
-    drop(taken);
-
-    assert_is(&rt, told.map(plainly), Ok(Shown::Made(1)));
-    assert_is(&rt, not_live, Err(Refusal::NoHandle));
-    assert_is(&rt, reserved, Err(Refusal::Taken));
-    assert_is(&rt, entries(&table), 6);
-    let four = Ok(CallReply::Reply(Reply::Old(Some(Arc::new(alloc, 4)?))));
-    assert_is(&rt, asking::get(alloc, &mut table, 5, 97), four);
-    Ok(())
+fn a_snapshot_a_view_a_get_and_a_drop_make_no_request(rt: HostRuntime) {
+    let mut table = with_four(&rt, rt.alloc());
+    assert_without(&rt, rt.alloc(), &mut table, &ON_HANDLES);
+    assert_entries(&rt, &table, 8);
+    assert_rows(&rt, rt.alloc(), &mut table, &[(Do::Open(3), Told::Unit)]);
 }
 
+const ON_JOBS: [Row; 4] = [
+    (Do::Freeze(1, Ask::Count(4, 4)), Told::Frozen(0, 1, Some(4))),
+    (
+        Do::Freeze(7, Ask::Count(4, 4)),
+        Told::Refused(Refusal::NoHandle),
+    ),
+    (Do::Abandon(0), Told::Unit),
+    (Do::Abandon(0), Told::Refused(Refusal::NoJob)),
+];
+
 #[test]
-fn a_freeze_and_an_abandon_make_no_request(rt: HostRuntime) -> Result<(), Fail> {
-    let alloc = rt.alloc();
-    let mut table = with_four(alloc)?;
-    let count = count_of(alloc, 4)?;
+fn a_freeze_and_an_abandon_make_no_request(rt: HostRuntime) {
+    let mut table = with_four(&rt, rt.alloc());
+    assert_without(&rt, rt.alloc(), &mut table, &ON_JOBS);
+    assert_entries(&rt, &table, 5);
+}
 
-    let taken = take_all(alloc)?;
-    let frozen = opened(&mut table, 1, &count);
-    let not_live = opened(&mut table, 7, &count);
-    let abandoned = abandon(&mut table, 0);
-    let again = abandon(&mut table, 0);
+const MAKES_5: Ask = Ask::Filter(4, 4, 5);
+
+// The job makes a map with so many pairs, with every request for memory refused.
+fn assert_made(rt: &impl Abort, alloc: Global, table: &mut Asking, job: u64, pairs: u64) {
+    let part = part_of(alloc, table, job).expect(rt, "no part");
+    let taken = no_memory(rt, alloc);
+    let told = finish_told(&close(table, job, part));
     drop(taken);
+    assert_is(rt, told, Told::Made(pairs));
+}
 
-    assert_is(&rt, frozen, Ok((0, 1)));
-    assert_is(&rt, not_live, Err(Refusal::NoHandle));
-    assert_is(&rt, abandoned, Ok(()));
-    assert_is(&rt, again, Err(Refusal::NoJob));
-    assert_is(&rt, entries(&table), 5);
-    Ok(())
+const TAKEN: [Row; 2] = [
+    (Do::Freeze(7, MAKES_5), Told::Refused(Refusal::NoHandle)),
+    (Do::Freeze(1, MAKES_5), Told::Refused(Refusal::Taken)),
+];
+
+#[test]
+fn a_finish_and_a_refused_freeze_make_no_request(rt: HostRuntime) {
+    let mut table = with_four(&rt, rt.alloc());
+    let rows = [(Do::Freeze(1, MAKES_5), Told::Frozen(0, 1, Some(4)))];
+    assert_rows(&rt, rt.alloc(), &mut table, &rows);
+    assert_made(&rt, rt.alloc(), &mut table, 0, 1);
+    assert_without(&rt, rt.alloc(), &mut table, &TAKEN);
+    assert_entries(&rt, &table, 6);
+    let rows = [(Do::On(5, Act::Get(97)), Told::Old(Some(4)))];
+    assert_rows(&rt, rt.alloc(), &mut table, &rows);
 }

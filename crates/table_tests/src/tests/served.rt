@@ -2,17 +2,19 @@
 ghost use Rattle.std.specs.Prelude.{◌≡◌};
 ghost use Rattle.handles.specs.Views.{is_counted};
 
-use super::asking::{Asked, Asking, with_four};
-use super::foresight::{CALLS, SMALL, drawn_handle, drawn_service, state_of};
-use super::{assert_is, entries, of_path};
+use super::foresight::{CALLS, SMALL, drawn_call, no_memory, state_of, with_four};
+use super::{assert_entries, assert_is, step, table_of};
+use crate::asking::{Asked, Asking};
+use crate::steps::{Act, Do, Prepared, take};
+use crate::told::{Told, call_told};
 use bulk_ops::Asks;
-use handles::{Call, CallReply, Command, Table};
+use handles::{Call, CallReply, Table};
 use hash_path::PathKey;
 use std::alloc::Global;
-use std::sync::Arc;
-use std::test::Fail;
-use test_keys::{ChosenKey, Random, take_all};
-use versions::{Refusal, View};
+use std::panic::Expect;
+use std::process::Abort;
+use test_keys::{ChosenKey, Random};
+use versions::Refusal;
 
 // Whether a call that is answered so is an entry.
 fn is_counted<T>(answer: &Result<T, Refusal>) -> bool
@@ -37,96 +39,65 @@ fn served<K: PathKey + Drop, V: Eq + Drop, Q: Asks<K, V> + Drop>(
     answer
 }
 
+// Makes a call so, which shares its key and values. No other step is made.
+fn serve(alloc: Global, table: &mut Asking, step: &Prepared) -> Told {
+    let Prepared::Call(call) = step else {
+        return Told::Refused(Refusal::NoJob);
+    };
+    match call.try_clone::<Asked>() {
+        Ok(call) => call_told(&served(alloc, table, call)),
+        Err(_) => Told::Refused(Refusal::NoMemory),
+    }
+}
+
 #[test]
-fn a_call_is_made_as_it_was_foreseen(rt: HostRuntime) -> Result<(), Fail> {
-    let alloc = rt.alloc();
-    let mut table = Asking::new(alloc, SMALL)?;
-    let mut plain = Asking::new(alloc, SMALL)?;
+fn a_call_is_made_as_it_was_foreseen(rt: HostRuntime) {
+    let mut table = table_of(&rt, rt.alloc(), SMALL);
+    let mut plain = table_of(&rt, rt.alloc(), SMALL);
     let mut random = Random(2027);
     for _ in 0..CALLS {
-        let handle = drawn_handle(&mut random);
-        let call = drawn_service(alloc, &mut random, handle)?;
-        let answer = served(alloc, &mut table, call.try_clone::<Asked>()?);
-        assert_is(&rt, answer, plain.serve(alloc, call));
+        let drawn = step(&rt, rt.alloc(), drawn_call(&mut random));
+        let told = serve(rt.alloc(), &mut table, &drawn);
+        assert_is(&rt, told, take(rt.alloc(), &mut plain, &drawn));
         assert_is(&rt, state_of(&table), state_of(&plain));
     }
-    assert_is(&rt, entries(&table), SMALL.entries - 1);
-    Ok(())
+    assert_entries(&rt, &table, SMALL.entries - 1);
 }
 
-// A command that leaves a map of the key 97 with the value 4: a get, a size, or a write whose condition does not hold.
-fn leaving(alloc: Global, number: u32) -> Result<Command<ChosenKey, i64>, Refusal> {
-    let key = of_path(alloc, 97)?;
-    let five = Arc::new(alloc, 5)?;
-    Ok(match number {
-        0 => Command::Get(key),
-        1 => Command::Size,
-        2 => Command::PutIfAbsent(key, five),
-        3 => Command::Replace(of_path(alloc, 98)?, five),
-        4 => Command::ReplaceIf(key, Arc::try_clone(&five)?, five),
-        _ => Command::RemoveIf(key, five),
-    })
-}
+// What leaves a map of the key 97 with the value 4: a get, a size, and writes whose condition does not hold.
+const LEAVING: [(Act, Told); 6] = [
+    (Act::Get(97), Told::Old(Some(4))),
+    (Act::Size, Told::Size(1)),
+    (Act::PutIfAbsent(97, 5), Told::Old(Some(4))),
+    (Act::Replace(98, 5), Told::Old(None)),
+    (Act::ReplaceIf(97, 5, 5), Told::Done(false)),
+    (Act::RemoveIf(97, 5), Told::Done(false)),
+];
 
-// All six.
-fn all_leaving(alloc: Global) -> Result<Vec<Command<ChosenKey, i64>>, Refusal> {
-    let mut commands = Vec::new(alloc);
-    for number in 0..6 {
-        commands.push(leaving(alloc, number)?)?;
-    }
-    Ok(commands)
-}
-
-// How many of the commands on the handle want memory. Each is made as a copy, so that none gives memory back.
-fn wanting(
-    alloc: Global,
-    table: &mut Asking,
-    handle: u32,
-    commands: &Vec<Command<ChosenKey, i64>>,
-) -> Result<u32, Refusal> {
-    let mut wanting = 0u32;
-    for command in commands {
-        let call = Call::On(handle, command.try_clone()?);
-        if served(alloc, table, call) == Err(Refusal::NoMemory) {
-            wanting = wanting.wrapping_add(1);
-        }
-    }
-    Ok(wanting)
-}
-
-// A view of handle 1, which shares its nodes, so that each write has to copy some.
-fn viewed(table: &mut Asking) -> Result<View<ChosenKey, i64>, Refusal> {
-    table.view(1)
-}
-
-// A put of a key that is not there.
-fn new_put(alloc: Global) -> Result<Command<ChosenKey, i64>, Refusal> {
-    Ok(Command::Put(of_path(alloc, 98)?, Arc::new(alloc, 5)?))
+// The call is told this with every request for memory refused, and gives none back.
+fn assert_served(rt: &impl Abort, alloc: Global, table: &mut Asking, what: Do, want: Told) {
+    let step = step(rt, alloc, what);
+    let taken = no_memory(rt, alloc);
+    let told = serve(alloc, table, &step);
+    drop(taken);
+    assert_is(rt, told, want);
 }
 
 #[test]
-fn what_leaves_the_maps_makes_no_request(rt: HostRuntime) -> Result<(), Fail> {
-    let alloc = rt.alloc();
-    let mut table = with_four(alloc)?;
-    let view = viewed(&mut table)?;
-    let before = state_of(&table);
-    let commands = all_leaving(alloc)?;
-    let new = new_put(alloc)?;
-
-    let taken = take_all(alloc)?;
-    let put = served(alloc, &mut table, Call::On(1, new));
-    let wanted = wanting(alloc, &mut table, 1, &commands);
-    let refused = wanting(alloc, &mut table, 7, &commands);
-    drop(taken);
-
-    assert_is(&rt, put, Err(Refusal::NoMemory));
-    assert_is(&rt, (wanted, refused), (Ok(0), Ok(0)));
-    let (made, live, pairs, stamps) = before;
-    assert_is(
-        &rt,
-        state_of(&table),
-        (made.wrapping_add(12), live, pairs, stamps),
-    );
+fn what_leaves_the_maps_makes_no_request(rt: HostRuntime) {
+    let mut table = with_four(&rt, rt.alloc());
+    // a view shares the nodes, so that each write has to copy some
+    let view = table.view(1).expect(&rt, "no view");
+    let (made, live, pairs, stamps) = state_of(&table);
+    let no_memory = Told::Refused(Refusal::NoMemory);
+    let new = Do::On(1, Act::Put(98, 5));
+    assert_served(&rt, rt.alloc(), &mut table, new, no_memory);
+    for (act, want) in LEAVING {
+        let on_none = Told::Refused(Refusal::NoHandle);
+        assert_served(&rt, rt.alloc(), &mut table, Do::On(1, act), want);
+        assert_served(&rt, rt.alloc(), &mut table, Do::On(7, act), on_none);
+    }
+    let after = (made.wrapping_add(12), live, pairs, stamps);
+    assert_is(&rt, state_of(&table), after);
     assert_is(&rt, view.len(), 1);
-    Ok(())
 }

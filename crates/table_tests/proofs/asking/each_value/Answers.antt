@@ -1,5 +1,5 @@
 use Rattle.std.proofs.Common.{Some}
-use Rattle.table_tests.proofs.tests.asking.each_value.Goals as goal
+use Rattle.table_tests.proofs.asking.each_value.Goals as goal
 
 pub new-requires : goal.new-requires
 new-requires c = ((λ k v. (v, (Some v, Some v))), λ k v r is. is)
