@@ -12,6 +12,8 @@ mod journals;
 mod memory;
 mod scripts;
 
+ghost use Rattle.batch_cli.specs.CommandLine.{AreInRange};
+
 use batch_cli::{Crew, Journal, LineGate, Options, execute, parse_script, run_script};
 use std::alloc::{AllocError, Global};
 use std::fmt::Debug;
@@ -28,7 +30,9 @@ const CREW: Crew = Crew {
 };
 
 /// The options of a run with that crew.
-fn plain() -> Options {
+fn plain() -> Options
+    ensures { AreInRange result.workers result.grain }
+{
     Options {
         workers: 2,
         grain: 1,

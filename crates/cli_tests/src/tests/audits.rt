@@ -1,4 +1,8 @@
 //! Runs whose journal is wanted, and audits.
+
+ghost use Rattle.std.specs.Prelude.{IfOk};
+ghost use Rattle.batch_cli.specs.CommandLine.{AreInRange};
+
 use super::{assert_is, assert_text, plain, text};
 use batch_cli::{Options, execute, write_journal};
 use std::alloc::{AllocError, Global};
@@ -17,7 +21,9 @@ const JOURNAL: &str = "{\"call\":\"open 1\",\"entry\":1,\"reply\":\"ok\",\"seat\
 ";
 
 /// The options of a run whose journal is wanted.
-fn journalled(alloc: Global) -> Result<Options, AllocError> {
+fn journalled(alloc: Global) -> Result<Options, AllocError>
+    ensures { IfOk result (λ options. AreInRange options.workers options.grain) }
+{
     Ok(Options {
         journal: Some(String::from_str(alloc, "j")?),
         ..plain()
@@ -25,7 +31,9 @@ fn journalled(alloc: Global) -> Result<Options, AllocError> {
 }
 
 /// The options of an audit.
-fn auditing() -> Options {
+fn auditing() -> Options
+    ensures { AreInRange result.workers result.grain }
+{
     Options {
         audit: true,
         ..plain()
@@ -39,7 +47,11 @@ fn a_run_keeps_its_journal(rt: HostRuntime) -> Result<(), Fail> {
     let options = journalled(alloc)?;
     let (status, journal) = execute(&rt, alloc, &options, SCRIPT, &mut out, &mut err);
     assert_is(&rt, (status, err.len()), (0, 0));
-    assert_text(&rt, text(alloc, &out)?.as_str(), "1 ok\n2 none\n3 some 5\n4 some 7\n");
+    assert_text(
+        &rt,
+        text(alloc, &out)?.as_str(),
+        "1 ok\n2 none\n3 some 5\n4 some 7\n",
+    );
     let journal = journal.unwrap_or(Vec::new(alloc));
     assert_text(&rt, text(alloc, &journal)?.as_str(), JOURNAL);
     Ok(())
@@ -82,7 +94,11 @@ fn verdict_with<R: AllocGlobal + Threads + Wait + Sync>(
 
 #[test]
 fn a_journal_is_audited(rt: HostRuntime) -> Result<(), Fail> {
-    assert_text(&rt, verdict(&rt, JOURNAL.as_bytes())?.as_str(), "legal 4\n0 false");
+    assert_text(
+        &rt,
+        verdict(&rt, JOURNAL.as_bytes())?.as_str(),
+        "legal 4\n0 false",
+    );
     let third = verdict_with(&rt, "some 5", "some 6")?;
     assert_text(&rt, third.as_str(), "bad 3\n3 false");
     let last = verdict_with(&rt, "{\"entries\":4}\n", "")?;

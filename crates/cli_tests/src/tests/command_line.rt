@@ -87,23 +87,48 @@ fn words_give_the_options(rt: HostRuntime) -> Result<(), Fail> {
 #[test]
 fn other_words_are_refused(rt: HostRuntime) -> Result<(), Fail> {
     let cases: [(&[&str], &str); 8] = [
-        (&["--workers", "17"], "'17' for '--workers <N>': 17 is not in 1..=16"),
-        (&["--workers", "x"], "'x' for '--workers <N>': invalid digit found in string"),
-        (&["--workers=-1"], "'-1' for '--workers <N>': -1 is not in 1..=16"),
-        (&["--grain", "0"], "'0' for '--grain <N>': 0 is not in 1..=65536"),
-        (&["--grain", "65537"], "'65537' for '--grain <N>': 65537 is not in 1..=65536"),
-        (&["--grain", "4294967297"], "'4294967297' for '--grain <N>': 4294967297 is not in 1..=65536"),
+        (
+            &["--workers", "17"],
+            "'17' for '--workers <N>': 17 is not in 1..=16",
+        ),
+        (
+            &["--workers", "x"],
+            "'x' for '--workers <N>': invalid digit found in string",
+        ),
+        (
+            &["--workers=-1"],
+            "'-1' for '--workers <N>': -1 is not in 1..=16",
+        ),
+        (
+            &["--grain", "0"],
+            "'0' for '--grain <N>': 0 is not in 1..=65536",
+        ),
+        (
+            &["--grain", "65537"],
+            "'65537' for '--grain <N>': 65537 is not in 1..=65536",
+        ),
+        (
+            &["--grain", "4294967297"],
+            "'4294967297' for '--grain <N>': 4294967297 is not in 1..=65536",
+        ),
         (
             &["--grain", "18446744073709551617"],
             "'18446744073709551617' for '--grain <N>': number too large to fit in target type",
         ),
-        (&["--grain="], "'' for '--grain <N>': cannot parse integer from empty string"),
+        (
+            &["--grain="],
+            "'' for '--grain <N>': cannot parse integer from empty string",
+        ),
     ];
     for (words, wanted) in cases {
         let wanted = format!(in rt.alloc(); "parser: error: invalid value {wanted}")?;
         assert_text(&rt, said(rt.alloc(), words)?.as_str(), wanted.as_str());
     }
     let second = said(rt.alloc(), &["a", "b"])?;
-    assert_text(&rt, second.as_str(), "parser: error: unexpected argument 'b' found");
+    assert_text(
+        &rt,
+        second.as_str(),
+        "parser: error: unexpected argument 'b' found",
+    );
     Ok(())
 }

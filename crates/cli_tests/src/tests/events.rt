@@ -1,6 +1,6 @@
 //! Which entries of the journal a statement makes.
-use super::{CREW, assert_text};
 use super::entries::entries_of;
+use super::{CREW, assert_text};
 use batch_cli::{Free, ScriptClient, parse_script, script_has_one_output, text_has_one_script};
 use handles::Limits;
 use locked_map::{MOST_SEATS, with_clients};
