@@ -3,7 +3,10 @@ use audit::{Verdict, audit};
 use std::alloc::Global;
 use versions::NoMemory;
 
+mod changed;
 mod hostile;
+mod memory;
+mod model;
 mod rows;
 mod runs;
 

@@ -30,7 +30,7 @@ fn hostile_lines_are_bad(rt: HostRuntime) -> Result<(), Fail> {
         (
             b"{\"call\":\"",
             b"a",
-            1_000_000,
+            10_000_000,
             b"\",\"entry\":1,\"reply\":\"ok\",\"seat\":0}\n",
         ),
         (

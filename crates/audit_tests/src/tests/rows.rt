@@ -5,7 +5,7 @@ use std::test::Fail;
 use versions::NoMemory;
 
 /// A journal of four entries.
-const FIRST: &[u8] = b"{\"call\":\"open 1\",\"entry\":1,\"reply\":\"ok\",\"seat\":0}
+pub(super) const FIRST: &[u8] = b"{\"call\":\"open 1\",\"entry\":1,\"reply\":\"ok\",\"seat\":0}
 {\"call\":\"put 1 a 5\",\"entry\":2,\"reply\":\"none\",\"seat\":0}
 {\"call\":\"put 1 a 7\",\"entry\":3,\"reply\":\"some 5\",\"seat\":0}
 {\"call\":\"get 1 a\",\"entry\":4,\"reply\":\"some 7\",\"seat\":0}
@@ -13,7 +13,7 @@ const FIRST: &[u8] = b"{\"call\":\"open 1\",\"entry\":1,\"reply\":\"ok\",\"seat\
 ";
 
 /// A journal of a bulk verb with a target, of each kind of event, and of a find that two pairs could answer.
-const BULK: &[u8] = b"{\"call\":\"open 1\",\"entry\":1,\"reply\":\"ok\",\"seat\":0}
+pub(super) const BULK: &[u8] = b"{\"call\":\"open 1\",\"entry\":1,\"reply\":\"ok\",\"seat\":0}
 {\"call\":\"put 1 a\\\"\\\\=b 4\",\"entry\":2,\"reply\":\"none\",\"seat\":63}
 {\"call\":\"put 1 c -9223372036854775808\",\"entry\":3,\"reply\":\"none\",\"seat\":0}
 {\"call\":\"freeze filter 1 even 2\",\"entry\":4,\"reply\":\"job 0\",\"seat\":0}
@@ -79,7 +79,19 @@ fn cut(alloc: Global, beginning: &[u8]) -> Result<String, NoMemory> {
 /// Each line in the place of another one of the journal of four entries, and the line that it spoils.
 #[test]
 fn wrong_lines_are_bad(rt: HostRuntime) -> Result<(), Fail> {
-    let cases: [(&[u8], &[u8], &str); 27] = [
+    let cases: [(&[u8], &[u8], &str); 34] = [
+        (
+            b"\"call\":\"put 1 a 7\",\"entry\":3",
+            b"\"entry\":3,\"call\":\"put 1 a 7\"",
+            "bad 3",
+        ),
+        (b"\"entry\":3", b"\"entry\":3.0", "bad 3"),
+        (b"\"entry\":3", b"\"entry\":3,\"more\":3", "bad 3"),
+        (b"put 1 a 7", b"put 1 a -0", "bad 3"),
+        (b"put 1 a 7", b"put 1 a 9223372036854775808", "bad 3"),
+        // the same key, and only the one way to write it leads to a good line
+        (b"put 1 a 5", b"put 1 \\u0022 5", "bad 2"),
+        (b"put 1 a 5", b"put 1 \\\" 5", "bad 3"),
         (b"\"some 5\"", b"\"some 6\"", "bad 3"),
         (b"\"some 7\"", b"\"some 5\"", "bad 4"),
         (b"\"none\"", b"\"some 5\"", "bad 2"),
@@ -169,6 +181,37 @@ fn wrong_replies_are_bad(rt: HostRuntime) -> Result<(), Fail> {
     ];
     for (old, new, wanted) in cases {
         let text = turned(rt.alloc(), BULK, old, new)?;
+        let verdict = told(rt.alloc(), &text)?;
+        assert_eq!(rt; verdict.as_str(), wanted);
+    }
+    Ok(())
+}
+
+/// A journal of a find, whose map is that of its freeze.
+const FOUND: &[u8] = b"{\"call\":\"open 1\",\"entry\":1,\"reply\":\"ok\",\"seat\":0}
+{\"call\":\"put 1 a 1\",\"entry\":2,\"reply\":\"none\",\"seat\":0}
+{\"call\":\"put 1 b 2\",\"entry\":3,\"reply\":\"none\",\"seat\":0}
+{\"call\":\"freeze find 1 even\",\"entry\":4,\"reply\":\"job 0\",\"seat\":0}
+{\"call\":\"put 1 c 4\",\"entry\":5,\"reply\":\"none\",\"seat\":1}
+{\"call\":\"open 2\",\"entry\":6,\"reply\":\"ok\",\"seat\":1}
+{\"call\":\"put 2 d 6\",\"entry\":7,\"reply\":\"none\",\"seat\":1}
+{\"call\":\"finish 0\",\"entry\":8,\"reply\":\"pair b 2\",\"seat\":0}
+{\"entries\":8}
+";
+
+/// What a find may not tell: a pair that does not pass, one that came later, one of another map, and that there is none.
+#[test]
+fn other_pairs_are_bad(rt: HostRuntime) -> Result<(), Fail> {
+    let cases: [(&[u8], &str); 6] = [
+        (b"pair b 2", "legal 8"),
+        (b"pair a 1", "bad 8"),
+        (b"pair c 4", "bad 8"),
+        (b"pair d 6", "bad 8"),
+        (b"pair b 4", "bad 8"),
+        (b"none", "bad 8"),
+    ];
+    for (new, wanted) in cases {
+        let text = turned(rt.alloc(), FOUND, b"pair b 2", new)?;
         let verdict = told(rt.alloc(), &text)?;
         assert_eq!(rt; verdict.as_str(), wanted);
     }

@@ -6,15 +6,18 @@ use std::sync::Wait;
 use std::test::Fail;
 use std::thread::Threads;
 
-// The crew of the bulk verbs.
-const CREW: Crew = Crew {
+/// The crew of the bulk verbs.
+pub(super) const CREW: Crew = Crew {
     workers: 2,
     grain: 1,
     patience: 1_000,
 };
 
 /// The text of the journal of the script's run.
-fn written<R: AllocGlobal + Threads + Wait + Sync>(rt: &R, script: &[u8]) -> Result<Vec<u8>, Fail> {
+pub(super) fn written<R: AllocGlobal + Threads + Wait + Sync>(
+    rt: &R,
+    script: &[u8],
+) -> Result<Vec<u8>, Fail> {
     let alloc = rt.alloc();
     let script = parse_script(alloc, script)?;
     let mut out = Vec::new(alloc);

@@ -1,0 +1,64 @@
+//! Audits with no memory, with a little, and so on.
+use crate::tests::rows::BULK;
+use crate::tests::runs::CREW;
+use audit::{Verdict, audit};
+use batch_cli::{Free, parse_script, run_script};
+use journal_text::{ProgramJournal, journal_text};
+use std::alloc::Global;
+use std::test::Fail;
+use test_keys::Shortage;
+
+/// How many bytes are given after each refusal, and how often it is tried at most.
+const STEP: usize = 32;
+
+const TRIES: u32 = 4_096;
+
+/// How often the audit was refused memory, and its verdict then.
+fn audited(alloc: Global, text: &[u8]) -> Result<(u32, Verdict), Fail> {
+    let mut shortage = Shortage::new(alloc)?;
+    for refused in 0..TRIES {
+        match audit(alloc, text) {
+            Ok(verdict) => return Ok((refused, verdict)),
+            Err(_) => shortage.give(alloc, STEP)?,
+        }
+    }
+    Err(Fail::new("memory is never enough"))
+}
+
+/// How often the text of the journal was refused memory, and the text then.
+fn spelled(alloc: Global, journal: &ProgramJournal) -> Result<(u32, Vec<u8>), Fail> {
+    let mut shortage = Shortage::new(alloc)?;
+    for refused in 0..TRIES {
+        match journal_text(alloc, journal) {
+            Ok(text) => return Ok((refused, text)),
+            Err(_) => shortage.give(alloc, STEP)?,
+        }
+    }
+    Err(Fail::new("memory is never enough"))
+}
+
+/// With each try a request more is met. It catches want of memory that is taken for a line that spoils the text.
+#[test]
+fn an_audit_is_refused_at_each_request(rt: HostRuntime) -> Result<(), Fail> {
+    let (refused, verdict) = audited(rt.alloc(), BULK)?;
+    assert!(rt; refused > 0);
+    assert_eq!(rt; verdict, Verdict::Legal(16));
+    Ok(())
+}
+
+/// It catches a line that is lost where memory is wanting.
+#[test]
+fn a_text_is_refused_at_each_request(rt: HostRuntime) -> Result<(), Fail> {
+    let alloc = rt.alloc();
+    let script = parse_script(
+        alloc,
+        b"0 open 1\n1 put 1 a 4\n0 list 1\n0 filter 1 even 2\n",
+    )?;
+    let mut out = Vec::new(alloc);
+    let journal = run_script(&rt, alloc, &script, CREW, &mut out, &Free)?;
+    let ample = journal_text(alloc, &journal)?;
+    let (refused, text) = spelled(alloc, &journal)?;
+    assert!(rt; refused > 0);
+    assert_eq!(rt; text.as_slice(), ample.as_slice());
+    Ok(())
+}
