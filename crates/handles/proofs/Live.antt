@@ -2,7 +2,7 @@
 use Rattle.std.proofs.Common.{◌≡◌, ℕ, ◌+◌, ◌<◌, ◌≤◌, List, [], ◌∷◌, ◌++◌, length, Option, Some, None, cond, not, refl, ap, sym, ◌∙◌, suc, zero, arith, map, get_or}
 use Rattle.std.proofs.Math.ListN.{get_or-eq_default}
 use Rattle.std.proofs.lemmas.List.{length-map}
-use Rattle.std.specs.Prelude.{slice_set, unwrap_or, IsSome, is_some, false}
+use Rattle.std.specs.Prelude.{slice_set, unwrap_or, IsSome, is_some, false, option_map}
 use Rattle.std.specs.declared.cmp.Ordering.{Ordering}
 use Rattle.std.specs.declared.cmp.Ordering.TheVariants.{Less, Equal, Greater}
 use Rattle.std.specs.Ordering.{nat_cmp, is_eq}
@@ -10,7 +10,7 @@ use Rattle.std.specs.Cmp.{nat_cmp_is}
 use Rattle.std.specs.FinMap.Entries.{by_order}
 use Rattle.versions.specs.Contents.{Contents}
 use Rattle.versions.specs.Map.{Map, value_at, with_pair, without}
-use Rattle.handles.specs.Handles.{live_from, maps_in, map_in, version_in}
+use Rattle.handles.specs.Handles.{entries_of, live_from, maps_in, map_in, stamp_of, stamps_in, version_in}
 
 module _ {M : Type 0} where
   -- nothing stands before the first number
@@ -99,6 +99,26 @@ map-slice_set f [] i x = refl
 map-slice_set f (y ∷ xs) zero x = refl
 map-slice_set f (y ∷ xs) (suc i) x = ap (λ (r : List _). f y ∷ r) (map-slice_set f xs i x)
 
+module _ {K V M : Type 0} (shown : Contents K V → M) where
+  -- what is shown of a version that is written stands under the number of its place
+  with_shown : (k : ℕ) (v : Contents K V) (places : List (Option (Contents K V))) → k < length places
+      → live_from 0 (map (option_map shown) (slice_set places k (Some v))) ≡ with_pair nat_cmp (live_from 0 (map (option_map shown) places)) k (shown v)
+  with_shown k v places h =
+      ap (live_from 0) (map-slice_set (option_map shown) places k (Some v))
+      ∙ with_place 0 k k (shown v) (map (option_map shown) places) (omega arith) (simp length-map h)
+
+  without_shown : (k : ℕ) (places : List (Option (Contents K V))) → k < length places
+      → live_from 0 (map (option_map shown) (slice_set places k None)) ≡ without nat_cmp (live_from 0 (map (option_map shown) places)) k
+  without_shown k places h =
+      ap (live_from 0) (map-slice_set (option_map shown) places k None)
+      ∙ without_place 0 k k (map (option_map shown) places) (omega arith) (simp length-map h)
+
+  -- an empty place more shows nothing
+  pub none_more : (n : ℕ) (places : List (Option (Contents K V))) → live_from n (map (option_map shown) (places ++ None ∷ [])) ≡ live_from n (map (option_map shown) places)
+  none_more n [] = refl
+  none_more n (None ∷ ps) = none_more (n + 1) ps
+  none_more n (Some v ∷ ps) = ap (λ (r : Map ℕ M). (n, shown v) ∷ r) (none_more (n + 1) ps)
+
 module _ {K V : Type 0} where
   get_or-maps : (places : List (Option (Contents K V))) (k : ℕ) → get_or (maps_in places) k None ≡ map_in (version_in places k)
   get_or-maps [] k = refl
@@ -136,14 +156,16 @@ module _ {K V : Type 0} where
       ] refl live
 
   pub with_version : (k : ℕ) (v : Contents K V) (places : List (Option (Contents K V))) → k < length places → live_from 0 (maps_in (slice_set places k (Some v))) ≡ with_pair nat_cmp (live_from 0 (maps_in places)) k v.entries
-  with_version k v places h =
-      ap (live_from 0) (map-slice_set map_in places k (Some v))
-      ∙ with_place 0 k k v.entries (maps_in places) (omega arith) (simp length-map h)
+  with_version k v places h = with_shown entries_of k v places h
+
+  pub with_stamp : (k : ℕ) (v : Contents K V) (places : List (Option (Contents K V))) → k < length places → live_from 0 (stamps_in (slice_set places k (Some v))) ≡ with_pair nat_cmp (live_from 0 (stamps_in places)) k v.stamp
+  with_stamp k v places h = with_shown stamp_of k v places h
 
   pub without_version : (k : ℕ) (places : List (Option (Contents K V))) → k < length places → live_from 0 (maps_in (slice_set places k None)) ≡ without nat_cmp (live_from 0 (maps_in places)) k
-  without_version k places h =
-      ap (live_from 0) (map-slice_set map_in places k None)
-      ∙ without_place 0 k k (maps_in places) (omega arith) (simp length-map h)
+  without_version k places h = without_shown entries_of k places h
+
+  pub without_stamp : (k : ℕ) (places : List (Option (Contents K V))) → k < length places → live_from 0 (stamps_in (slice_set places k None)) ≡ without nat_cmp (live_from 0 (stamps_in places)) k
+  without_stamp k places h = without_shown stamp_of k places h
 
   -- a version that is written with the map that stood there
   pub same_maps : (k : ℕ) (places : List (Option (Contents K V))) (v w : Contents K V) → version_in places k ≡ Some v → w.entries ≡ v.entries → maps_in (slice_set places k (Some w)) ≡ maps_in places
@@ -151,9 +173,3 @@ module _ {K V : Type 0} where
   same_maps zero (p ∷ ps) v w e same =
       ap (λ (m : Option (Map K V)). m ∷ maps_in ps) (ap (λ (es : Map K V). Some es) same ∙ sym (ap map_in e))
   same_maps (suc k) (p ∷ ps) v w e same = ap (λ (ms : List (Option (Map K V))). map_in p ∷ ms) (same_maps k ps v w e same)
-
-  -- an empty place more shows nothing
-  pub none_more : (n : ℕ) (places : List (Option (Contents K V))) → live_from n (maps_in (places ++ None ∷ [])) ≡ live_from n (maps_in places)
-  none_more n [] = refl
-  none_more n (None ∷ ps) = none_more (n + 1) ps
-  none_more n (Some v ∷ ps) = ap (λ (r : Map ℕ (Map K V)). (n, v.entries) ∷ r) (none_more (n + 1) ps)

@@ -22,6 +22,14 @@ map_in place = option_map entries_of place
 abbrev pub maps_in : {K V : Type 0} → List (Option (Contents K V)) → List (Option (Map K V))
 maps_in places = map map_in places
 
+-- the stamp of a version
+abbrev pub stamp_of : {K V : Type 0} → Contents K V → ℕ
+stamp_of v = v.stamp
+
+-- the stamps of the versions in the places
+abbrev pub stamps_in : {K V : Type 0} → List (Option (Contents K V)) → List (Option ℕ)
+stamps_in places = map (option_map stamp_of) places
+
 -- the version in the place of a handle, if there is one
 abbrev pub version_in : {K V : Type 0} → List (Option (Contents K V)) → ℕ → Option (Contents K V)
 version_in places h = slice_index_or places h None
@@ -38,11 +46,12 @@ pub record IsKept {K V : Type 0} (limit issued : ℕ) (places : List (Option (Co
   pub each : (h : ℕ) (v : Contents K V) → version_in places h ≡ Some v → IsWithin limit issued v
   pub apart : (h k : ℕ) (v w : Contents K V) → version_in places h ≡ Some v → version_in places k ≡ Some w → v.stamp ≡ w.stamp → h ≡ k
 
--- what contracts see of the places: the map of each live handle number, the limit of each map, and how many stamps were issued
+-- what contracts see of the places: the map of each live handle number, the limit of each map, how many stamps were issued, and the stamp of each live handle's version
 pub record Held (K V : Type 0) : Type 0 where
   pub live : Map ℕ (Map K V)
   pub limit : ℕ
   pub issued : ℕ
+  pub stamps : Map ℕ ℕ
 
 -- the places have the maps of the state's live handles, and its limit on pairs
 pub record AreThoseOf {K V Q : Type 0} (s : State K V Q) (places : Held K V) : Type 0 where

@@ -53,6 +53,11 @@ abbrev pub live_with_made : {K V : Type 0} → Map ℕ (Map K V) → Option ℕ 
 live_with_made live (Some to) (Some v) = with_pair nat_cmp live to v.entries
 live_with_made live target made = live
 
+-- the stamps once the target, if there is one, has the map that was made, with this stamp
+abbrev pub stamps_with_made : {K V : Type 0} → Map ℕ ℕ → ℕ → Option ℕ → Option (Contents K V) → Map ℕ ℕ
+stamps_with_made stamps stamp (Some to) (Some v) = with_pair nat_cmp stamps to stamp
+stamps_with_made stamps stamp target made = stamps
+
 -- what was made has no generation's stamp
 abbrev pub IsLoose : {K V : Type 0} → Option (Contents K V) → Type 0
 IsLoose None = Unit {0}

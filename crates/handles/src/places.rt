@@ -1,8 +1,8 @@
 //! The places of a table, each of which has a version where its handle is live.
 ghost use Rattle.std.specs.Prelude.{◌≡◌, ◌<◌, ◌≤◌, ◌+◌, ◌^◌, length, [], IfErr, IfOk, IfSome, IsSome, Err, None, OnErr, OnOk, false, true, option_map, unwrap_or};
 ghost use Rattle.std.specs.Ordering.{nat_cmp};
-ghost use Rattle.handles.specs.Handles.{IsKept, live_from, maps_in};
-ghost use Rattle.handles.specs.Jobs.{FitsIn, IsLoose, IsPlace, live_with_made};
+ghost use Rattle.handles.specs.Handles.{IsKept, live_from, maps_in, stamps_in};
+ghost use Rattle.handles.specs.Jobs.{FitsIn, IsLoose, IsPlace, live_with_made, stamps_with_made};
 ghost use Rattle.handles.specs.Views.{command_of, lacks_memory, reply_of};
 ghost use Rattle.versions.specs.Commands.{after, is_full, needs_no_memory, reply};
 ghost use Rattle.versions.specs.Map.{value_at, with_pair, without};
@@ -33,12 +33,12 @@ pub struct Places<K: PathKey, V> {
 
 impl<K: PathKey, V> Model for Places<K, V> {
     ghost use Rattle.std.specs.Prelude.{◌≤◌};
-    ghost use Rattle.handles.specs.Handles.{Held, IsKept, live_from, maps_in};
+    ghost use Rattle.handles.specs.Handles.{Held, IsKept, live_from, maps_in, stamps_in};
     ghost use Rattle.versions.specs.declared.version.TheConstants.{MOST_PAIRS};
 
     ghost Value = { Held K V };
 
-    ghost view = { λ p. record { live = live_from 0 (maps_in p.versions.items); limit = p.limit; issued = p.source } };
+    ghost view = { λ p. record { live = live_from 0 (maps_in p.versions.items); limit = p.limit; issued = p.source; stamps = live_from 0 (stamps_in p.versions.items) } };
 
     ghost invariant = { λ p. IsKept p.limit p.source p.versions.items × (1 ≤ p.limit) × (p.limit ≤ MOST_PAIRS) };
 }
@@ -48,7 +48,7 @@ impl<K: PathKey + Drop, V: Eq + Drop> Places<K, V> {
     pub fn new(alloc: Global, limit: u64) -> Result<Places<K, V>, NoMemory>
         requires least { 1 ≤ limit }
         requires most { limit ≤ MOST_PAIRS }
-        ensures { IfOk result (λ places. places ≡ record { live = []; limit = limit; issued = 0 }) }
+        ensures { IfOk result (λ places. places ≡ record { live = []; limit = limit; issued = 0; stamps = [] }) }
     {
         let mut versions = Vec::with_capacity(alloc, HANDLES)?;
         'places: while versions.len() < HANDLES {
@@ -64,6 +64,7 @@ impl<K: PathKey + Drop, V: Eq + Drop> Places<K, V> {
     /// The places one after another.
     pub fn as_slice(&self) -> &[Option<Version<K, V>>]
         ensures live { live_from 0 (maps_in result.now) ≡ self.now.live }
+        ensures stamps { live_from 0 (stamps_in result.now) ≡ self.now.stamps }
         ensures kept { IsKept self.now.limit self.now.issued result.now }
     {
         self.versions.as_slice()
@@ -122,7 +123,7 @@ impl<K: PathKey + Drop, V: Eq + Drop> Places<K, V> {
     /// Closes the handle: it is not live then.
     pub fn close(&mut self, handle: u32)
         requires { handle < 1024 }
-        ensures { self.new ≡ record self.old { live = without nat_cmp self.old.live handle } }
+        ensures { self.new ≡ record self.old { live = without nat_cmp self.old.live handle; stamps = without nat_cmp self.old.stamps handle } }
     {
         self.versions[handle as usize] = None;
     }
@@ -150,13 +151,14 @@ impl<K: PathKey + Drop, V: Eq + Drop> Places<K, V> {
     }
 
     /// Opens the target, if there is one, with the map that was made for it: it gets the limit of all the versions, and
-    /// a stamp that was not issued. It takes no memory and copies no node.
+    /// the stamp that the source issues next. It takes no memory and copies no node.
     pub fn settle(&mut self, target: Option<u32>, made: Option<Version<K, V>>)
         requires place { IsPlace target }
         requires loose { IsLoose made }
         requires fits { FitsIn self.old.limit made }
         requires room { self.old.issued < 2 ^ 63 }
         ensures live { self.new.live ≡ live_with_made self.old.live target made }
+        ensures fresh { self.new.stamps ≡ stamps_with_made self.old.stamps (self.old.issued + 1) target made }
         ensures limit { self.new.limit ≡ self.old.limit }
         ensures issued { self.new.issued ≤ self.old.issued + 1 }
     {

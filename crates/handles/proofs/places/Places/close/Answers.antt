@@ -1,7 +1,7 @@
 use Rattle.std.proofs.Common.{ap, ◌∙◌, arith}
 use Rattle.std.specs.Ordering.{nat_cmp}
 use Rattle.versions.specs.Map.{without}
-use Rattle.handles.proofs.Live.{without_version}
+use Rattle.handles.proofs.Live.{without_stamp, without_version}
 use Rattle.handles.proofs.Kept.{unset_kept}
 use Rattle.handles.proofs.places.Places.close.Goals as goal
 
@@ -14,4 +14,5 @@ returns g c = λ i. record {
   live = (without_version c.args.handle c.self.inside.versions.items (omega (arith, c.self.invariant.0.count, c.requires)) ∙ ap (λ p. without nat_cmp p.live c.args.handle) c.self.view_is) i;
   limit = (c.self.view_is i).limit;
   issued = (c.self.view_is i).issued;
+  stamps = (without_stamp c.args.handle c.self.inside.versions.items (omega (arith, c.self.invariant.0.count, c.requires)) ∙ ap (λ p. without nat_cmp p.stamps c.args.handle) c.self.view_is) i;
 }

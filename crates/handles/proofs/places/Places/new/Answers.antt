@@ -1,5 +1,5 @@
 use Rattle.std.proofs.Common.{rules, ◌≡◌, ◌++◌, ◌∷◌, [], None, ◌∙◌, ap}
-use Rattle.handles.specs.Handles.{live_from, maps_in, version_in}
+use Rattle.handles.specs.Handles.{entries_of, live_from, maps_in, stamp_of, stamps_in, version_in}
 use Rattle.handles.proofs.Live.{none_more}
 use Rattle.handles.proofs.Kept.{none_added}
 use Rattle.handles.proofs.places.Places.new.Goals as goal
@@ -8,7 +8,8 @@ pub places-preserved : goal.places-preserved
 places-preserved g c =
     let longer : c.push.new.self.items ≡ c.places.versions.items ++ None ∷ [] = search rules in
     record {
-      live = ap (λ vs. live_from 0 (maps_in vs)) longer ∙ none_more 0 c.places.versions.items ∙ c.places.invariant.live;
+      live = ap (λ vs. live_from 0 (maps_in vs)) longer ∙ none_more entries_of 0 c.places.versions.items ∙ c.places.invariant.live;
+      stamps = ap (λ vs. live_from 0 (stamps_in vs)) longer ∙ none_more stamp_of 0 c.places.versions.items ∙ c.places.invariant.stamps;
       count = search rules;
       none = λ h. ap (λ vs. version_in vs h) longer ∙ none_added c.places.versions.items c.places.invariant.none h;
     }

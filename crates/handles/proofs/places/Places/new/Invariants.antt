@@ -1,10 +1,11 @@
 use Rattle.std.proofs.Common.{◌≡◌, ◌≤◌, ◌-◌, ℕ, length, [], None}
-use Rattle.handles.specs.Handles.{live_from, maps_in, version_in}
+use Rattle.handles.specs.Handles.{live_from, maps_in, stamps_in, version_in}
 use Rattle.handles.proofs.places.Places.new.Given as goal
 
 abbrev pub invariant-places : goal.invariant-places
 invariant-places g l = record {
   live : live_from 0 (maps_in l.versions.items) ≡ [];
+  stamps : live_from 0 (stamps_in l.versions.items) ≡ [];
   count : length l.versions.items ≤ 1024;
   none : (h : ℕ) → version_in l.versions.items h ≡ None;
 }

@@ -1,8 +1,9 @@
-use Rattle.std.proofs.Common.{subst, sym, ◌∙◌, arith}
+use Rattle.std.proofs.Common.{◌+◌, ap, subst, sym, ◌∙◌, arith}
 use Rattle.std.specs.Ordering.{nat_cmp}
 use Rattle.versions.specs.Map.{with_pair}
-use Rattle.handles.specs.Jobs.{IsPlace, live_with_made}
-use Rattle.handles.proofs.Live.{with_version}
+use Rattle.handles.specs.Handles.{Held}
+use Rattle.handles.specs.Jobs.{IsPlace, live_with_made, stamps_with_made}
+use Rattle.handles.proofs.Live.{with_stamp, with_version}
 use Rattle.handles.proofs.Kept.{set_fresh}
 use Rattle.handles.proofs.places.Places.settle.Goals as goal
 
@@ -21,3 +22,11 @@ returns-in-Some-Some-clause-live g c =
     with_version c.in-Some-Some.to c.restamp.new.self c.self.inside.versions.items (omega (arith, c.self.invariant.0.count, place))
     ∙ (λ i. with_pair nat_cmp (c.self.view_is i).live c.in-Some-Some.to (same i))
     ∙ (λ i. live_with_made c.args.self.now.live (sym c.in-Some-Some.is-0 i) (sym c.in-Some-Some.is-1 i))
+
+pub returns-in-Some-Some-clause-fresh : goal.returns-in-Some-Some-clause-fresh
+returns-in-Some-Some-clause-fresh g c =
+    let place = subst IsPlace c.in-Some-Some.is-0 c.requires.place in
+    let next = c.restamp.ensures.stamp ∙ ap (λ (p : Held g.row.K.Denot g.row.V.Denot). p.issued + 1) c.self.view_is in
+    with_stamp c.in-Some-Some.to c.restamp.new.self c.self.inside.versions.items (omega (arith, c.self.invariant.0.count, place))
+    ∙ (λ i. with_pair nat_cmp (c.self.view_is i).stamps c.in-Some-Some.to (next i))
+    ∙ (λ i. stamps_with_made c.args.self.now.stamps (c.args.self.now.issued + 1) (sym c.in-Some-Some.is-0 i) (sym c.in-Some-Some.is-1 i))
