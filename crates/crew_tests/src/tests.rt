@@ -1,9 +1,10 @@
 //! What crews answer of maps with chosen path words, and which intervals they report.
 mod gates;
 mod many;
+mod memory;
 mod rows;
 
-use bulk_ops::{PairFn, Query, Stored, StoredTest};
+use bulk_ops::{PairFn, Part, Query, Stored, StoredTest};
 use combiner::Sum;
 use iter::Interval;
 use std::alloc::Global;
@@ -71,6 +72,23 @@ fn filled(alloc: Global, pairs: u32, one_word: bool) -> Result<Map, Refusal> {
 fn seen(rt: &impl Abort, alloc: Global, pairs: u32, one_word: bool) -> Seen {
     let map = filled(alloc, pairs, one_word).expect(rt, "no map");
     map.view().expect(rt, "no view")
+}
+
+// The number of a part that has one.
+fn number<I>(part: &Part<ChosenKey, u64, I>) -> Option<u64> {
+    match part {
+        Part::Number(number) => Some(*number),
+        _ => None,
+    }
+}
+
+// How many intervals each of the lists from a place on has, added up.
+fn count_from(lists: &[Vec<Interval>], place: usize) -> usize {
+    let mut count = 0usize;
+    for list in lists.iter().skip(place) {
+        count = count.wrapping_add(list.len());
+    }
+    count
 }
 
 // How many intervals a report lists, in how many lists, and whether two of them share a position.

@@ -1,27 +1,8 @@
 //! What reports list where there is little to cut.
-use super::{Asked, all, assert_is, listed, seen};
-use bulk_ops::Part;
+use super::{Asked, all, assert_is, count_from, listed, number, seen};
 use iter::Interval;
 use std::test::*;
 use task_pool::{Crew, Free, run_crew};
-use test_keys::ChosenKey;
-
-// The number of a part that has one.
-fn number<I>(part: &Part<ChosenKey, u64, I>) -> Option<u64> {
-    match part {
-        Part::Number(number) => Some(*number),
-        _ => None,
-    }
-}
-
-// How many intervals each of the lists from a place on has, added up.
-fn count_from(lists: &[Vec<Interval>], place: usize) -> usize {
-    let mut count = 0usize;
-    for list in lists.iter().skip(place) {
-        count = count.wrapping_add(list.len());
-    }
-    count
-}
 
 // A crew of two on an empty view works one interval, the whole, and its part is the unit.
 #[test]

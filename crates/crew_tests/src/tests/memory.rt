@@ -1,0 +1,131 @@
+//! Counts where memory is wanting: at each request of a caller that works alone, since no thread can be started then, and
+//! from some piece on, while threads work.
+use super::{Asked, Seen, all, assert_is, count_from, listed, number, seen};
+use hash_path::Bound;
+use std::alloc::Global;
+use std::sync::atomic::{AtomicU32, Ordering};
+use std::sync::{OnceLock, Wait};
+use std::test::Fail;
+use std::thread::Threads;
+use task_pool::{Crew, Free, Gate, run_crew};
+use test_keys::{Shortage, take_all};
+use trie_node::NoMemory;
+
+// How many pairs are counted. Each is a piece of its own.
+const PAIRS: u32 = 64;
+
+const CREW: Crew = Crew {
+    workers: 2,
+    grain: 1,
+    patience: 1000,
+};
+
+// How many bytes are given after each refusal.
+const STEP: usize = 16;
+
+// How often a count is tried at most.
+const TRIES: u32 = 7_680;
+
+// The number that was counted, how many intervals are listed, and how many of them the caller worked.
+type Counted = (Option<u64>, usize, usize);
+
+// What the crew's count of all pairs comes to.
+fn counted<G: Gate + Sync, R: Threads + Wait + Sync>(
+    rt: &R,
+    alloc: Global,
+    view: &Seen,
+    gate: &G,
+) -> Result<Counted, NoMemory> {
+    let report = run_crew(rt, alloc, view, &Asked::Count(all()), CREW, gate)?;
+    let (intervals, _, _) = listed(&report);
+    let callers = count_from(&report.lists, 2);
+    Ok((number(&report.part), intervals, callers))
+}
+
+// Counts with no memory, with a little, and so on, until memory is not wanting: how often it was, and what was counted.
+fn refused_and_counted<R: Threads + Wait + Sync>(
+    rt: &R,
+    alloc: Global,
+    view: &Seen,
+) -> Result<(u32, Counted), Fail> {
+    let mut shortage = Shortage::new(alloc)?;
+    for refused in 0..TRIES {
+        match counted(rt, alloc, view, &Free) {
+            Ok(counted) => return Ok((refused, counted)),
+            Err(NoMemory) => shortage.give(alloc, STEP)?,
+        }
+    }
+    Err(Fail::new("memory is never enough"))
+}
+
+// With each try a request more is met. No thread gets a stack of what little there is, so the pieces of both workers are
+// left to the caller. It catches a count of some of the pairs, and pieces that are lost with a worker.
+#[test]
+fn a_count_is_refused_at_each_request(rt: HostRuntime) -> Result<(), Fail> {
+    let alloc = rt.alloc();
+    let view = seen(&rt, alloc, PAIRS, false);
+    let (refused, counted) = refused_and_counted(&rt, alloc, &view)?;
+    assert!(rt; refused > 0);
+    assert_is(&rt, counted, (Some(64), 64, 64));
+    Ok(())
+}
+
+// Takes all memory before the piece of a number is worked, by whichever thread, and keeps it. The first piece that is
+// begun has the number 0.
+#[derive(Drop)]
+struct Taker {
+    alloc: Global,
+    at: u32,
+    begun: AtomicU32,
+    taken: OnceLock<Vec<Vec<u8>>>,
+}
+
+impl Gate for Taker {
+    fn before(&self, _worker: u32, _lo: Bound, _hi: Bound) {
+        if self.begun.fetch_add(1, Ordering::SeqCst) == self.at {
+            if let Ok(taken) = take_all(self.alloc) {
+                let _ = self.taken.try_set(taken);
+            }
+        }
+    }
+}
+
+// Whether all pairs are counted where memory is wanting from the piece on, or nothing where it is another number.
+fn is_counted_until<R: Threads + Wait + Sync>(
+    rt: &R,
+    alloc: Global,
+    view: &Seen,
+    at: u32,
+) -> Option<bool> {
+    let gate = Taker {
+        alloc,
+        at,
+        begun: AtomicU32::new(0),
+        taken: OnceLock::new(),
+    };
+    match counted(rt, alloc, view, &gate) {
+        Ok((Some(64), _, _)) => Some(true),
+        Ok(_) => None,
+        Err(NoMemory) => Some(false),
+    }
+}
+
+// It catches a worker whose want of memory is taken for a piece that it has worked. The thread that begins the first piece
+// has no room for its interval yet, so some of the counts are refused.
+#[test]
+fn memory_is_wanting_from_some_piece_on(rt: HostRuntime) -> Result<(), Fail> {
+    let alloc = rt.alloc();
+    let view = seen(&rt, alloc, PAIRS, false);
+    let mut refused = 0u32;
+    for at in 0..PAIRS {
+        let told = is_counted_until(&rt, alloc, &view, at);
+        assert!(rt; told.is_some(), "from piece {at} on");
+        if told == Some(false) {
+            refused = refused.wrapping_add(1);
+        }
+    }
+    assert!(rt; refused > 0);
+    let beyond = is_counted_until(&rt, alloc, &view, PAIRS);
+    assert_is(&rt, beyond, Some(true));
+    Ok(())
+}
