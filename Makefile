@@ -4,7 +4,7 @@ SCRIPT ?= examples/first.trie
 PREFIX ?= /usr/local
 PROGRAM := crates/trierun/out/trierun
 
-.PHONY: help try run build check test install bench clean
+.PHONY: help try run build check test soak install bench clean
 
 help: ## Lists the targets.
 	@grep -E '^[a-z]+: .*## ' Makefile | sed -E 's/^([a-z]+):.*## /\1\t/' | expand -t 10
@@ -24,6 +24,9 @@ check: ## Proves what changed since the last check; no tests, no edits.
 
 test: ## The gate: every proof from nothing, the edits that must be refused, all tests and programs.
 	@tests/gate
+
+soak: build ## Runs the program on random scripts for a minute, and audits each journal; the gate does not.
+	@tests/soak $(PROGRAM)
 
 install: build ## Puts the program's binary into PREFIX/bin.
 	@install -d $(DESTDIR)$(PREFIX)/bin
