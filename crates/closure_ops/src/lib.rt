@@ -1,0 +1,11 @@
+//! Operations on whole maps over plain closures.
+//!
+//! A query keeps each closure beside the fact that it means something (`bulk_ops::Stored`). An operation of this crate
+//! takes the closure as it is, with no fact beside it. What it promises is exact for each meaning that the closure has.
+#![tactic(auto)]
+
+mod closure;
+mod counts;
+
+pub use closure::answer_at;
+pub use counts::Counts;
