@@ -9,6 +9,7 @@ mod blank;
 mod closure;
 mod columns;
 mod crew;
+mod crew_questions;
 mod joining;
 mod keeps;
 mod origin;

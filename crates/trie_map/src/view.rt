@@ -9,13 +9,14 @@ use crate::columns::{Keys, Values};
 use crate::crew::within_limits;
 use crate::keeps::{Anything, Keeps};
 use bulk_ops::{Answer, Asks, ask};
+use combiner::Bulk;
 use hash_path::PathKey;
 use iter::Pairs;
 use std::alloc::Global;
 use std::marker::{Model, PhantomData};
 use std::sync::{Arc, Wait};
 use std::thread::Threads;
-use task_pool::{Crew, ask_crew};
+use task_pool::{Crew, Free, ask_crew, run_crew};
 use trie_node::{NoMemory, walk_lists_map};
 use versions::Version;
 
@@ -175,5 +176,19 @@ impl<K: PathKey + Drop + Send + Sync, V: Drop + Send + Sync, P: Keeps<K, V>> Vie
     {
         let view = self.plain.try_clone()?;
         ask_crew(rt, self.alloc, view, query, within_limits(crew))
+    }
+
+    /// The part of all pairs, worked by a crew as `query_by` works a query, for any operation on maps.
+    pub(crate) fn worked_by<R, B>(&self, rt: &R, bulk: &B, crew: Crew) -> Result<B::Part, NoMemory>
+    where
+        R: Threads + Wait + Sync,
+        B: Bulk<K, V> + Sync,
+        B::Part: Send,
+        requires { B.ready bulk.now }
+        ensures { IfOk result (λ part. B.answers bulk.now self.now part) }
+    {
+        let crew = within_limits(crew);
+        let report = run_crew(rt, self.alloc, &self.plain, bulk, crew, &Free)?;
+        Ok(report.part)
     }
 }

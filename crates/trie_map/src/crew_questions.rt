@@ -1,0 +1,46 @@
+//! Questions about all pairs, by plain closures, that a crew answers.
+ghost use Rattle.std.specs.Prelude.{◌≡◌, ◌≤◌, Bool, IfOk, length};
+ghost use Rattle.bulk_ops.specs.Answers.{passing};
+ghost use Rattle.bulk_ops.specs.Meanings.{MayAnswer, Means};
+ghost use Rattle.trie_map.specs.Rules.{AllKeep};
+ghost use Rattle.versions.specs.Map.{Map};
+
+use crate::keeps::Keeps;
+use crate::trie_map::TrieMap;
+use crate::view::View;
+use closure_ops::Counts;
+use hash_path::PathKey;
+use std::sync::Wait;
+use std::thread::Threads;
+use task_pool::Crew;
+use trie_node::NoMemory;
+
+/// Each question promises what its like of one thread does (`count`), and is worked as `query_by` works a query. The
+/// closure runs on the threads of the crew, several at once.
+impl<K: PathKey + Drop + Send + Sync, V: Drop + Send + Sync, P: Keeps<K, V>> View<K, V, P> {
+    /// How many pairs pass the test, counted by a crew.
+    pub fn count_by<R, F>(&self, rt: &R, test: F, crew: Crew) -> Result<u64, NoMemory>
+    where
+        R: Threads + Wait + Sync,
+        F: Fn(&K, &V) -> bool + Sync,
+        requires callable { F.IsAlwaysCallable test }
+        ensures count { IfOk result (λ count. (p : K → V → Bool) → Means (MayAnswer F.Fn test) p → count ≡ length (passing p self.now)) }
+        ensures few { IfOk result (λ count. count ≤ length self.now) }
+    {
+        self.worked_by(rt, &Counts { test }, crew)
+    }
+}
+
+/// Each question takes a view, and a crew works it there: nobody waits for the crew.
+impl<K: PathKey + Drop + Send + Sync, V: Drop + Send + Sync, P: Keeps<K, V>> TrieMap<K, V, P> {
+    /// How many pairs pass the test, of the map as it stands at one moment of the call, counted by a crew over a view.
+    pub fn count_by<R, F>(&self, rt: &R, test: F, crew: Crew) -> Result<u64, NoMemory>
+    where
+        R: Threads + Wait + Sync,
+        F: Fn(&K, &V) -> bool + Sync,
+        requires callable { F.IsAlwaysCallable test }
+        ensures { IfOk result (λ count. (m : Map K V) × AllKeep K.cmp P.holds m × ((p : K → V → Bool) → Means (MayAnswer F.Fn test) p → count ≡ length (passing p m))) }
+    {
+        self.view(rt)?.count_by(rt, test, crew)
+    }
+}
