@@ -5,3 +5,4 @@ pub use Rattle.bulk_ops.specs.Told
 pub mod Rules
 pub mod Stripes
 pub mod Questions
+pub mod Updates

@@ -1,5 +1,5 @@
 //! The part of a map that one lock keeps.
-ghost use Rattle.std.specs.Prelude.{◌≡◌, ◌≤◌, ◌&&◌, [], None, IfOk, IfSome, OnErr, if◌then◌else◌, is_some, length, option_map};
+ghost use Rattle.std.specs.Prelude.{◌≡◌, ◌≤◌, ◌&&◌, [], None, IfOk, IfSome, OnErr, OnOk, if◌then◌else◌, is_some, length, option_map};
 ghost use Rattle.std.specs.Arc.{arc_value};
 ghost use Rattle.trie_map.specs.Rules.{AllKeep, Belongs, first_digit as digit_of};
 ghost use Rattle.versions.specs.Commands.{is_full_for};
@@ -7,13 +7,15 @@ ghost use Rattle.versions.specs.Map.{value_at, with_pair, without};
 ghost use Rattle.versions.specs.Puts.{FullExactly};
 ghost use Rattle.versions.specs.declared.version.TheConstants.{MOST_PAIRS};
 
+mod deciding;
+
 use crate::blank::Blank;
 use crate::keeps::{Anything, Keeps};
 use hash_path::{FAN_OUT, PathKey};
 use std::alloc::Global;
 use std::marker::{Model, PhantomData};
 use std::sync::Arc;
-use trie_node::{Condition, NoMemory, Stamp};
+use trie_node::{Always, Condition, NoMemory, Stamp};
 use versions::{Change, MOST_PAIRS, Refusal, Version, law_of_put, law_of_removal};
 
 /// How many stripes a map has: one for each first digit of a path word.
@@ -126,6 +128,41 @@ impl<K: PathKey + Drop, V: Drop, P: Keeps<K, V>> Stripe<K, V, P> {
         law_of_removal::<K, V>();
         let change = self.version.remove_where(alloc, key, condition)?;
         Ok(change)
+    }
+
+    /// Maps the key to the value, and answers the value before, or none. It is refused as `put_where` is, and the
+    /// stripe is then as before.
+    pub fn put(
+        &mut self,
+        alloc: Global,
+        key: Arc<K>,
+        value: Arc<V>,
+    ) -> Result<Option<Arc<V>>, Refusal>
+        requires rule { P.holds key.value value.value }
+        requires place { digit_of K.path_of key.value ≡ self.old.digit }
+        ensures before { IfOk result (λ before. option_map arc_value before ≡ value_at K.cmp self.old.entries key.value) }
+        ensures entries { OnOk result (self.new.entries ≡ with_pair K.cmp self.old.entries key.value value.value) }
+        ensures digit { self.new.digit ≡ self.old.digit }
+        ensures full { FullExactly result (is_full_for K.cmp MOST_PAIRS_OF_STRIPE self.old.entries key.value) }
+        ensures err { OnErr result (self.new ≡ self.old) }
+        ensures kept { IfOk result (λ before. IfSome before (λ value. P.holds key.value value.value)) }
+    {
+        Ok(self.put_where(alloc, key, value, &Always)?.previous)
+    }
+
+    /// Removes the key, and answers the value before, or none. It is refused for want of memory alone, and the stripe
+    /// is then as before.
+    pub fn remove(&mut self, alloc: Global, key: &K) -> Result<Option<Arc<V>>, NoMemory>
+        requires { digit_of K.path_of key.now ≡ self.old.digit }
+        ensures before { IfOk result (λ before. option_map arc_value before ≡ value_at K.cmp self.old.entries key.now) }
+        ensures entries { OnOk result (self.new.entries ≡ without K.cmp self.old.entries key.now) }
+        ensures digit { self.new.digit ≡ self.old.digit }
+        ensures err { OnErr result (self.new ≡ self.old) }
+        ensures kept { IfOk result (λ before. IfSome before (λ value. P.holds key.now value.value)) }
+    {
+        law_of_removal::<K, V>();
+        let before = self.version.remove(alloc, key)?;
+        Ok(before)
     }
 
     /// Removes all pairs.

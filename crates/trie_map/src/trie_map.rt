@@ -12,6 +12,8 @@ ghost use Rattle.trie_map.specs.Stripes.{digits_of, up_to};
 ghost use Rattle.versions.specs.Map.{Map};
 ghost use Rattle.versions.specs.declared.version.TheConstants.{MOST_PAIRS};
 
+mod deciding;
+
 use crate::joining::joined;
 use crate::keeps::{Anything, Keeps};
 use crate::origin::{Origin, found_or_made};
@@ -35,20 +37,22 @@ use versions::{Change, Refusal, Version};
 /// rule. That `is_empty`, `len` and `contains_key` tell what is there, that `clear` removes it, and that `view`,
 /// `snapshot` and `query` take all stripes as they stand at one moment, is told by the code and by tests: no clause can
 /// name what a lock keeps, not even of a map that one thread alone has. A call that is refused has changed nothing; of
-/// `extend`, and of `get_or_else_update`, whose closure has run, each says more.
+/// `extend`, and of `get_or_else_update` and `update`, whose closure has run, each says more.
 ///
 /// # What runs under a lock
 ///
 /// `K::cmp`, `K::path` and `V::eq` run while the stripe of the key is locked, and so do the drops of a key that is
 /// replaced or removed, and of a key and a value that are not written. They must not call the map: the thread would
 /// wait for itself. A value that is replaced or removed is handed out, and dropped by whoever has it last; what `clear`
-/// removes is dropped once all locks are free; the closure of `get_or_else_update` runs with no lock held.
+/// removes is dropped once all locks are free; the closure of `get_or_else_update` runs with no lock held. The closure
+/// of `update` runs under the lock too, and what it makes is dropped there where it cannot be stored.
 ///
 /// # Between two calls
 ///
 /// Between a `get` and a `put` of one thread another may write the key, and its write is then lost. `put_if_absent`,
-/// `replace_if`, `remove_if` and `get_or_else_update` decide and write as one step: write with `replace_if` what was
-/// made of the value that `get` found, and begin again where it answers false.
+/// `replace_if`, `remove_if`, `get_or_else_update` and `update` decide and write as one step: `update` makes the new
+/// value of the one that is there. Where that takes long, write with `replace_if` what was made of the value that `get`
+/// found, and begin again where it answers false.
 ///
 /// # What it costs
 ///
