@@ -7,6 +7,7 @@ mod memory;
 mod moments;
 mod sizes;
 mod threads;
+mod updates;
 
 use std::fmt::Debug;
 use std::process::Abort;
