@@ -6,6 +6,8 @@
 
 mod closure;
 mod counts;
+mod folds;
 
 pub use closure::answer_at;
 pub use counts::Counts;
+pub use folds::Folds;

@@ -1,22 +1,24 @@
 //! Questions about all pairs, by plain closures, that a crew answers.
 ghost use Rattle.std.specs.Prelude.{◌≡◌, ◌≤◌, Bool, IfOk, length};
-ghost use Rattle.bulk_ops.specs.Answers.{passing};
+ghost use Rattle.bulk_ops.specs.Answers.{items_of, passing};
 ghost use Rattle.bulk_ops.specs.Meanings.{MayAnswer, Means};
+ghost use Rattle.combiner.specs.Monoids.{folded};
 ghost use Rattle.trie_map.specs.Rules.{AllKeep};
 ghost use Rattle.versions.specs.Map.{Map};
 
 use crate::keeps::Keeps;
 use crate::trie_map::TrieMap;
 use crate::view::View;
-use closure_ops::Counts;
+use closure_ops::{Counts, Folds};
+use combiner::Monoid;
 use hash_path::PathKey;
 use std::sync::Wait;
 use std::thread::Threads;
 use task_pool::Crew;
 use trie_node::NoMemory;
 
-/// Each question promises what its like of one thread does (`count`), and is worked as `query_by` works a query. The
-/// closure runs on the threads of the crew, several at once.
+/// Each question promises what its like of one thread does (`count`, `fold`), and is worked as `query_by` works a
+/// query. The closure runs on the threads of the crew, several at once.
 impl<K: PathKey + Drop + Send + Sync, V: Drop + Send + Sync, P: Keeps<K, V>> View<K, V, P> {
     /// How many pairs pass the test, counted by a crew.
     pub fn count_by<R, F>(&self, rt: &R, test: F, crew: Crew) -> Result<u64, NoMemory>
@@ -28,6 +30,25 @@ impl<K: PathKey + Drop + Send + Sync, V: Drop + Send + Sync, P: Keeps<K, V>> Vie
         ensures few { IfOk result (λ count. count ≤ length self.now) }
     {
         self.worked_by(rt, &Counts { test }, crew)
+    }
+
+    /// The items of all pairs combined by the monoid, as by `Sum`, `Least` or `Greatest`, worked by a crew.
+    pub fn fold_by<R, M, G>(
+        &self,
+        rt: &R,
+        monoid: &M,
+        item: G,
+        crew: Crew,
+    ) -> Result<M::Item, NoMemory>
+    where
+        R: Threads + Wait + Sync,
+        M: Monoid + Sync,
+        M::Item: Send,
+        G: Fn(&K, &V) -> M::Item + Sync,
+        requires callable { G.IsAlwaysCallable item }
+        ensures { IfOk result (λ all. (i : K → V → M.Item) → Means (MayAnswer G.Fn item) i → all ≡ folded (M.combine monoid.now) (M.unit_of monoid.now) (items_of i self.now)) }
+    {
+        self.worked_by(rt, &Folds { monoid, item }, crew)
     }
 }
 
@@ -42,5 +63,25 @@ impl<K: PathKey + Drop + Send + Sync, V: Drop + Send + Sync, P: Keeps<K, V>> Tri
         ensures { IfOk result (λ count. (m : Map K V) × AllKeep K.cmp P.holds m × ((p : K → V → Bool) → Means (MayAnswer F.Fn test) p → count ≡ length (passing p m))) }
     {
         self.view(rt)?.count_by(rt, test, crew)
+    }
+
+    /// The items of all pairs combined by the monoid, of the map as it stands at one moment of the call, worked by a
+    /// crew over a view.
+    pub fn fold_by<R, M, G>(
+        &self,
+        rt: &R,
+        monoid: &M,
+        item: G,
+        crew: Crew,
+    ) -> Result<M::Item, NoMemory>
+    where
+        R: Threads + Wait + Sync,
+        M: Monoid + Sync,
+        M::Item: Send,
+        G: Fn(&K, &V) -> M::Item + Sync,
+        requires callable { G.IsAlwaysCallable item }
+        ensures { IfOk result (λ all. (m : Map K V) × AllKeep K.cmp P.holds m × ((i : K → V → M.Item) → Means (MayAnswer G.Fn item) i → all ≡ folded (M.combine monoid.now) (M.unit_of monoid.now) (items_of i m))) }
+    {
+        self.view(rt)?.fold_by(rt, monoid, item, crew)
     }
 }
