@@ -5,7 +5,7 @@ use std::rt::Runtime;
 use std::sync::Wait;
 use std::thread::Threads;
 use std::{io, thread};
-use tambyulo::{Refusal, Sum, TrieMap};
+use tambyulo::{Crew, Refusal, Sum, TrieMap};
 
 /// The port that a client has.
 #[derive(Drop)]
@@ -51,7 +51,7 @@ fn tour<R: AllocGlobal + Threads + Wait + Sync>(rt: &R) -> Result<Told, Refusal>
     leases.put(rt, 5, Lease { port: 8_443 })?;
     let port = leases.get(rt, &5)?.map_or(0, |lease| lease.port);
     let view = leases.view(rt)?;
-    let secure = view.count(|_, lease| lease.port == 443)?;
+    let secure = view.count_by(rt, |_, lease| lease.port == 443, Crew::of(4))?;
     let sum = view.fold(&Sum, |_, lease| i128::from(lease.port))?;
     let before = leases.snapshot(rt)?;
     leases.clear(rt)?;
