@@ -8,6 +8,8 @@ mod asks;
 #[cfg(test)]
 mod choices;
 #[cfg(test)]
+mod client;
+#[cfg(test)]
 mod desks;
 #[cfg(test)]
 mod machine;

@@ -2,6 +2,7 @@
 
 mod boards;
 mod calls;
+mod clients;
 mod kinds;
 mod memory;
 mod random;
