@@ -1,5 +1,5 @@
-//! A client of a core, by hand: a count of all pairs of handle 1, which another client clears and drops while two workers
-//! work the count.
+//! A client of a core, by hand: a count of all pairs of handle 1, which another client clears and drops while two
+//! workers work the count.
 ghost use Rattle.std.specs.Prelude.{IfOk};
 ghost use Rattle.bulk_ops.specs.Queries.{IsReady};
 ghost use Rattle.core_steps.specs.Steps.{CanAsk, asked_by};

@@ -1,4 +1,4 @@
-use Rattle.std.proofs.Common.{◌≡◌, length, ap, sym, ◌∙◌}
+use Rattle.std.proofs.Common.{length, ap, sym, ◌∙◌}
 use Rattle.handles.specs.Machine.{held_by}
 use Rattle.core_tests.proofs.Sizes.{told_here, size_here, same_here, size_is_told, tells_count, count_is}
 use Rattle.core_tests.proofs.client.size_and_count.Goals as goal
