@@ -59,3 +59,15 @@ fn a_crew_counts_and_finds_no_absent_value(rt: HostRuntime) {
     let (found, _) = found.expect(&rt, "no search");
     assert!(rt; matches!(&found, Answer::Found(None)));
 }
+
+#[test]
+fn a_crew_counts_by_a_plain_closure(rt: HostRuntime) {
+    let map = in_thirds(&rt);
+    let counted = map.count_by(&rt, |_, value| *value == 1, four());
+    assert!(rt; matches!(counted, Ok(100)));
+    let view = view_of(&rt, &map);
+    let absent = view.count_by(&rt, |_, value| *value == 3, four());
+    assert!(rt; matches!(absent, Ok(0)));
+    let all = view.count_by(&rt, |_, _| true, Crew::of(1));
+    assert!(rt; matches!(all, Ok(300)));
+}
