@@ -71,3 +71,12 @@ fn a_crew_counts_by_a_plain_closure(rt: HostRuntime) {
     let all = view.count_by(&rt, |_, _| true, Crew::of(1));
     assert!(rt; matches!(all, Ok(300)));
 }
+
+#[test]
+fn a_crew_folds_by_a_plain_closure(rt: HostRuntime) {
+    let map = in_thirds(&rt);
+    let of_map = map.fold_by(&rt, &Sum, |_, value| i128::from(*value), four());
+    assert!(rt; matches!(of_map, Ok(300)));
+    let of_view = view_of(&rt, &map).fold_by(&rt, &Sum, |_, value| i128::from(*value), four());
+    assert!(rt; matches!(of_view, Ok(300)));
+}
