@@ -1,0 +1,48 @@
+// What the questions of crew_bench take Scala's own ParTrieMap, on a pool of so many threads.
+// Prints a line a question: OPERATION,PAIRS,THREADS,MEDIAN,LEAST, in milliseconds, of 15 rounds. Before them come ten more,
+// and as many as half a second takes, in which the JVM compiles what it runs.
+import java.util.Locale
+import scala.collection.concurrent.TrieMap
+import scala.collection.parallel.ForkJoinTaskSupport
+import scala.collection.parallel.mutable.ParTrieMap
+import scala.concurrent.forkjoin.ForkJoinPool
+
+object Crew {
+  val warming = 10
+  val warmingNanoseconds = 500L * 1000 * 1000
+  val rounds = 15
+
+  def timed(work: => Any): Long = {
+    val start = System.nanoTime
+    work
+    System.nanoTime - start
+  }
+
+  def main(args: Array[String]): Unit = {
+    val pairs = args(0).toInt
+    val threads = args(1).toInt
+    val map = TrieMap.empty[String, Long]
+    for (i <- 0 until pairs) map.put(f"k$i%07d", i.toLong)
+    val pool = new ForkJoinPool(threads)
+    val par: ParTrieMap[String, Long] = map.par
+    par.tasksupport = new ForkJoinTaskSupport(pool)
+    val half = pairs / 2
+
+    def milliseconds(nanoseconds: Long): String = "%.6f".formatLocal(Locale.ROOT, nanoseconds / 1e6)
+
+    def show(name: String)(work: => Any): Unit = {
+      var warmed = 0
+      val start = System.nanoTime
+      while (warmed < warming || System.nanoTime - start < warmingNanoseconds) { work; warmed += 1 }
+      val times = Array.fill(rounds)(timed(work)).sorted
+      println(s"$name,$pairs,$threads,${milliseconds(times(rounds / 2))},${milliseconds(times(0))}")
+    }
+
+    show("count")(par.count { case (_, v) => v < half })
+    show("exists_absent")(par.exists { case (_, v) => v < 0 })
+    show("fold_sum")(par.aggregate(0L)((sum, pair) => sum + pair._2, _ + _))
+    show("filter")(par.filter { case (_, v) => v < half })
+    show("map_values")(par.map { case (k, _) => (k, 1L) })
+    pool.shutdown()
+  }
+}
