@@ -17,7 +17,7 @@ mod working;
 
 pub use answering::ask;
 pub use asks::{Answer, Asks};
-pub use closure::{PairFn, Plain};
+pub use closure::PairFn;
 pub use laws::law_of_folds;
 pub use part::{Pair, Part};
 pub use query::Query;

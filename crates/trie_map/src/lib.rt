@@ -20,7 +20,7 @@ mod trie_map;
 mod view;
 
 pub use bulk_ops::{
-    Answer, Asks, Pair, PairFn, Part, Plain, Query, Stored, StoredItem, StoredMap, StoredTest,
+    Answer, Asks, Pair, PairFn, Part, Query, Stored, StoredItem, StoredMap, StoredTest,
 };
 pub use columns::{Keys, Values};
 pub use combiner::{Both, Greatest, Least, Monoid, Sum};
