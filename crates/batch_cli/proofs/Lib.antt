@@ -1,8 +1,6 @@
 pub mod Ends
 pub mod Filing
 pub mod Lines
-pub mod CommandLineLemmas
-pub mod OptionLemmas
 pub mod OneRun
 pub mod Merging
 pub mod Assembled

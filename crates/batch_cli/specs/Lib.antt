@@ -1,6 +1,6 @@
 pub mod Events
 pub mod Filing
 pub mod Runs
-pub mod CommandLine
+pub use Rattle.command_line.specs.CommandLine
 pub mod Audits
 pub mod Legality

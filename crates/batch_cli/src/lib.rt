@@ -1,16 +1,15 @@
-//! The run of a script of clients, each on a thread of its own over one map, and the command line of the program.
+//! The run of a script of clients, each on a thread of its own over one map.
 //!
 //! The crate `script` reads a script; [`run_script`] runs it, writes the replies and gives the journal, and [`execute`]
-//! reads and runs it, or audits a journal, and gives the status of the program. [`options`] reads the words of the
-//! command line, [`read_script`] and [`read_journal`] the bytes that it names, and [`write_journal`] writes a journal's.
+//! reads and runs it, or audits a journal, and gives the status of the program. [`options`], of the crate `command_line`,
+//! reads the words of the command line, [`read_script`] and [`read_journal`] the bytes that it names, and
+//! [`write_journal`] writes a journal's.
 #![tactic(auto)]
 
-mod arguments;
 mod auditing;
 mod client;
 mod events;
 mod gate;
-mod grammar;
 mod input;
 mod jobs;
 mod journaling;
@@ -18,10 +17,9 @@ mod laws;
 mod merge;
 mod run;
 mod status;
-mod words;
 
-pub use arguments::{ArgFault, Options};
 pub use client::ScriptClient;
+pub use command_line::{ArgFault, Options, options};
 pub use gate::{Free, LineGate};
 pub use input::{read_journal, read_script};
 pub use journaling::write_journal;
@@ -35,4 +33,3 @@ pub use script::{
 };
 pub use status::execute;
 pub use task_pool::Crew;
-pub use words::options;

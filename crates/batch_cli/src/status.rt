@@ -7,11 +7,11 @@ ghost use Rattle.batch_cli.specs.CommandLine.{AreInRange};
 ghost use Rattle.batch_cli.specs.Runs.{HasRun, IsRunOf, RunsText};
 ghost use Rattle.script.specs.Scripts.{HasFault};
 
-use crate::arguments::Options;
 use crate::auditing::audited;
 use crate::gate::Free;
 use crate::journaling::kept;
 use crate::run::{Journal, run_script};
+use command_line::Options;
 use script::{Script, ScriptFault, parse_script};
 use std::alloc::Global;
 use std::fmt::Display;

@@ -11,7 +11,7 @@ use Rattle.bulk_ops.specs.Answers as plain
 use Rattle.bulk_ops.specs.Told.{told_of}
 use Rattle.bulk_ops.specs.declared.asks.Answer.{Answer}
 use Rattle.handles.specs.Machine.{State, Job, on, freeze, finish, replied, frozen, finished, held_by, map_at}
-use Rattle.handles.specs.declared.reply.Reply.TheVariants as replies
+use Rattle.held_maps.specs.declared.reply.Reply.TheVariants as replies
 use Rattle.handles.specs.declared.call_reply.CallReply.TheVariants as call_replies
 use Rattle.core_steps.specs.Cores.{CoreState, Asked, of_client, Told, to_client, Division, CoreStep}
 use Rattle.core_steps.specs.Parts.{CoreValue}

@@ -4,7 +4,7 @@ ghost use Rattle.std.specs.Prelude.{◌≡◌, All, IfOk, IfSome, length};
 ghost use Rattle.bulk_ops.specs.declared.asks.Answer.TheVariants as answers;
 ghost use Rattle.handles.specs.Machine.{held_by};
 ghost use Rattle.handles.specs.declared.call_reply.CallReply.TheVariants as call_replies;
-ghost use Rattle.handles.specs.declared.reply.Reply.TheVariants as replies;
+ghost use Rattle.held_maps.specs.declared.reply.Reply.TheVariants as replies;
 ghost use Rattle.versions.specs.Map.{Map};
 ghost use Rattle.core_steps.specs.Steps.{CanAsk, asked_by};
 ghost use Rattle.core_steps.specs.declared.outcome.Outcome.TheVariants as outcomes;

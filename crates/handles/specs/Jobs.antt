@@ -3,10 +3,10 @@ use Rattle.std.specs.Prelude.{◌≡◌, ◌≤◌, ◌<◌, ℕ, List, [], ◌�
 use Rattle.std.specs.Arc.{arc_value}
 use Rattle.std.specs.Ordering.{nat_cmp}
 use Rattle.versions.specs.Map.{Map, value_at, with_pair, without}
-use Rattle.versions.specs.Contents.{Contents}
 use Rattle.bulk_ops.specs.Answers as plain
 use Rattle.bulk_ops.specs.Told.{told_of}
 use Rattle.bulk_ops.specs.declared.asks.Answer.{Answer}
+pub use Rattle.held_maps.specs.Targets.{FitsIn, IsLoose, IsPlace, live_with_made, stamps_with_made}
 use Rattle.handles.specs.Machine.{Job}
 use Rattle.handles.specs.Handles.{Held}
 use Rattle.handles.specs.declared.jobs.OpenJob.{OpenJob}
@@ -33,11 +33,6 @@ pub record Opened (K V Q : Type 0) : Type 0 where
   pub jobs : Map ℕ (Job K V Q)
   pub next : ℕ
 
--- a target is the number of a place
-abbrev pub IsPlace : Option ℕ → Type 0
-IsPlace None = Unit {0}
-IsPlace (Some to) = to < 1024
-
 -- a job that can be finished where a map has at most so many pairs: its frozen map has no more, and its target is the number of a place
 pub record CanFinish {K V Q : Type 0} (target : Q → Option ℕ) (limit : ℕ) (job : Job K V Q) : Type 0 where
   pub fits : length job.frozen ≤ limit
@@ -47,26 +42,6 @@ pub record CanFinish {K V Q : Type 0} (target : Q → Option ℕ) (limit : ℕ) 
 abbrev pub AllCanFinish : {K V Q : Type 0} → (Q → Option ℕ) → ℕ → Map ℕ (Job K V Q) → Type 0
 AllCanFinish target limit [] = Unit {0}
 AllCanFinish target limit (j ∷ js) = CanFinish target limit j.1 × AllCanFinish target limit js
-
--- the live maps once the target, if there is one, has the map that was made
-abbrev pub live_with_made : {K V : Type 0} → Map ℕ (Map K V) → Option ℕ → Option (Contents K V) → Map ℕ (Map K V)
-live_with_made live (Some to) (Some v) = with_pair nat_cmp live to v.entries
-live_with_made live target made = live
-
--- the stamps once the target, if there is one, has the map that was made, with this stamp
-abbrev pub stamps_with_made : {K V : Type 0} → Map ℕ ℕ → ℕ → Option ℕ → Option (Contents K V) → Map ℕ ℕ
-stamps_with_made stamps stamp (Some to) (Some v) = with_pair nat_cmp stamps to stamp
-stamps_with_made stamps stamp target made = stamps
-
--- what was made has no generation's stamp
-abbrev pub IsLoose : {K V : Type 0} → Option (Contents K V) → Type 0
-IsLoose None = Unit {0}
-IsLoose (Some v) = v.stamp ≡ 0
-
--- what was made has at most so many pairs
-abbrev pub FitsIn : {K V : Type 0} → ℕ → Option (Contents K V) → Type 0
-FitsIn limit None = Unit {0}
-FitsIn limit (Some v) = length v.entries ≤ limit
 
 -- the live maps once a target, if there is one, has the answer's map
 abbrev pub live_with_answer : {K V I : Type 0} → Map ℕ (Map K V) → Option ℕ → plain.Answer K V I → Map ℕ (Map K V)

@@ -1,18 +1,14 @@
 -- How the table's calls and their answers appear to the machine.
-use Rattle.std.specs.Prelude.{◌≡◌, ℕ, Bool, List, Option, Some, None, option_map, Result, Ok, Err, map, true, false}
-use Rattle.std.specs.Arc.{arc_value}
+use Rattle.std.specs.Prelude.{◌≡◌, ℕ, Bool, List, Option, Some, None, Result, Ok, Err, map, true, false}
 use Rattle.std.specs.declared.cmp.Ordering.{Ordering}
 use Rattle.versions.specs.Map.{Map}
-use Rattle.versions.specs.Commands as commands
 use Rattle.versions.specs.declared.refusal.Refusal.{Refusal}
 use Rattle.versions.specs.declared.refusal.Refusal.TheVariants.{NoMemory}
 use Rattle.bulk_ops.specs.Answers as plain
 use Rattle.bulk_ops.specs.Told.{told_of}
 use Rattle.bulk_ops.specs.declared.asks.Answer.{Answer}
-use Rattle.handles.specs.declared.command.Command.{Command}
-use Rattle.handles.specs.declared.command.Command.TheVariants.{Get, Put, PutIfAbsent, Replace, ReplaceIf, Remove, RemoveIf, Size, Clear}
-use Rattle.handles.specs.declared.reply.Reply.{Reply}
-use Rattle.handles.specs.declared.reply.Reply.TheVariants as replies
+pub use Rattle.held_maps.specs.Commands.{command_of, lacks_memory, leaves_map, reply_of}
+use Rattle.held_maps.specs.declared.reply.Reply.{Reply}
 use Rattle.handles.specs.declared.call.Call.{Call}
 use Rattle.handles.specs.declared.call.Call.TheVariants.{Open, Snapshot, Drop, On}
 use Rattle.handles.specs.declared.demand.Demand.{Demand}
@@ -20,25 +16,6 @@ use Rattle.handles.specs.declared.demand.Demand.TheVariants as demands
 use Rattle.handles.specs.declared.call_reply.CallReply.{CallReply}
 use Rattle.handles.specs.declared.call_reply.CallReply.TheVariants as call_replies
 use Rattle.handles.specs.Machine.{Kind, State, Request, open_handle, snapshot, drop_handle, on, view, freeze, finish, abandon, takes_no_memory, Outcome, Step, made, replied, viewed, frozen, finished, refused, refusal, is_entry}
-
--- a command, wherever its key and values lie
-abbrev pub command_of : {K V : Type 0} → Command K V → commands.Command K V
-command_of (Get k) = commands.get (arc_value k)
-command_of (Put k v) = commands.put (arc_value k) (arc_value v)
-command_of (PutIfAbsent k v) = commands.put_if_absent (arc_value k) (arc_value v)
-command_of (Replace k v) = commands.replace (arc_value k) (arc_value v)
-command_of (ReplaceIf k was v) = commands.replace_if (arc_value k) (arc_value was) (arc_value v)
-command_of (Remove k) = commands.remove (arc_value k)
-command_of (RemoveIf k v) = commands.remove_if (arc_value k) (arc_value v)
-command_of Size = commands.size
-command_of Clear = commands.clear
-
--- a reply, wherever its value lies
-abbrev pub reply_of : {V : Type 0} → Reply V → commands.Reply V
-reply_of (replies.Old o) = commands.old (option_map arc_value o)
-reply_of (replies.Done b) = commands.done b
-reply_of (replies.Size n) = commands.count n
-reply_of replies.Cleared = commands.cleared
 
 -- the machine of a table, whose queries reserve these targets and have these answers
 abbrev pub machine : {K V Q I : Type 0} → (K → K → Ordering) → (V → V → Bool) → (Q → Option ℕ) → (Q → Map K V → plain.Answer K V I → Type 0) → Kind K V Q (plain.Answer K V I) (plain.Told K V I)
@@ -92,17 +69,6 @@ abbrev pub outcome_of : {K V B : Type 0} → Result (CallReply V) Refusal → Ou
 outcome_of (Ok y) = call_outcome y
 outcome_of (Err e) = refused e
 
--- whether a command that is answered so leaves every map: it reads alone, its condition did not hold, or the key that it was to remove was absent
-abbrev pub leaves_map : {K V : Type 0} → commands.Command K V → commands.Reply V → Bool
-leaves_map (commands.get k) y = true
-leaves_map commands.size y = true
-leaves_map (commands.put_if_absent k v) (commands.old (Some w)) = true
-leaves_map (commands.replace k v) (commands.old None) = true
-leaves_map (commands.remove k) (commands.old None) = true
-leaves_map (commands.replace_if k was v) (commands.done false) = true
-leaves_map (commands.remove_if k v) (commands.done false) = true
-leaves_map c y = false
-
 -- whether a call that is answered so leaves all maps as they were
 abbrev pub leaves_maps : {K V : Type 0} → Call K V → Result (CallReply V) Refusal → Bool
 leaves_maps (On h c) (Ok (call_replies.Reply y)) = leaves_map (command_of c) (reply_of y)
@@ -121,11 +87,6 @@ outcomes_of answers = map outcome_of answers
 abbrev pub is_counted : {T : Type 0} → Result T Refusal → Bool
 is_counted (Ok x) = true
 is_counted (Err e) = is_entry e
-
--- whether a call failed for want of memory
-abbrev pub lacks_memory : {T : Type 0} → Result T Refusal → Bool
-lacks_memory (Err NoMemory) = true
-lacks_memory _ = false
 
 module _ {K V Q A B T : Type 0} (kind : Kind K V Q A B) where
   -- a call is a step of the machine, with the outcome that its result shows; but for want of memory it changes nothing

@@ -1,5 +1,5 @@
 //! The calls of a table as values.
-use crate::command::Command;
+use held_maps::Command;
 
 /// A call of a table.
 #[derive(Debug, Drop)]

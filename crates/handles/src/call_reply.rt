@@ -1,5 +1,5 @@
 //! What a call of a table is answered.
-use crate::reply::Reply;
+use held_maps::Reply;
 
 /// What a call is answered where it is not refused.
 #[derive(Debug, Drop, PartialEq, Eq)]

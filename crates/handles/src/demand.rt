@@ -3,9 +3,9 @@ ghost use Rattle.std.specs.Prelude.{◌≡◌};
 ghost use Rattle.handles.specs.Machine.{is_freeze, job_of, needs_room, source, wanted};
 ghost use Rattle.handles.specs.Views.{demanded, machine};
 
-use crate::command::Command;
 use bulk_ops::Asks;
 use hash_path::PathKey;
+use held_maps::Command;
 
 /// What a call asks of the handles and jobs, with its command or query lent.
 #[derive(Drop)]

@@ -7,25 +7,21 @@
 
 mod call;
 mod call_reply;
-mod command;
 mod copying;
 mod demand;
 mod jobs;
 mod laws;
 mod limits;
 mod no_query;
-mod places;
-mod reply;
 mod table;
 
 pub use call::Call;
 pub use call_reply::CallReply;
-pub use command::Command;
+pub use held_maps::{Command, Reply};
 pub use laws::{
     law_of_answers, law_of_foresight, law_of_freezes, law_of_open_jobs, law_of_other_handles,
     law_of_refusals,
 };
 pub use limits::{Limits, MOST_ENTRIES};
 pub use no_query::NoQuery;
-pub use reply::Reply;
 pub use table::Table;

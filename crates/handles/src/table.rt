@@ -8,15 +8,13 @@ ghost use Rattle.handles.specs.Views.{AnswersWithoutMemory, IsDue, IsStep, call_
 
 use crate::call::Call;
 use crate::call_reply::CallReply;
-use crate::command::Command;
 use crate::demand::Demand;
 use crate::jobs::Jobs;
 use crate::limits::{Limits, MOST_ENTRIES};
 use crate::no_query::NoQuery;
-use crate::places::Places;
-use crate::reply::Reply;
 use bulk_ops::{Answer, Asks};
 use hash_path::PathKey;
+use held_maps::{Command, Places, Reply};
 use std::alloc::Global;
 use std::marker::Model;
 use std::sync::Arc;

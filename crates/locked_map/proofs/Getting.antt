@@ -6,8 +6,8 @@ use Rattle.std.specs.declared.sync.Arc.{Arc}
 use Rattle.versions.specs.Commands.{get, put_if_absent, old}
 use Rattle.versions.specs.Map.{value_at}
 use Rattle.versions.specs.declared.refusal.Refusal.{Refusal}
-use Rattle.handles.specs.declared.reply.Reply.{Reply}
-use Rattle.handles.specs.declared.reply.Reply.TheVariants as replies
+use Rattle.held_maps.specs.declared.reply.Reply.{Reply}
+use Rattle.held_maps.specs.declared.reply.Reply.TheVariants as replies
 use Rattle.handles.specs.declared.call_reply.CallReply.{CallReply}
 use Rattle.handles.specs.declared.call_reply.CallReply.TheVariants as call_replies
 use Rattle.handles.specs.Machine.{Kind, State, Request, on, Outcome, replied, refused, Step, held_by}

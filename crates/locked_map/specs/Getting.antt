@@ -4,7 +4,7 @@ use Rattle.std.specs.Arc.{arc_value}
 use Rattle.std.specs.declared.sync.Arc.{Arc}
 use Rattle.versions.specs.Commands.{get, put_if_absent, old}
 use Rattle.versions.specs.declared.refusal.Refusal.{Refusal}
-use Rattle.handles.specs.declared.reply.Reply.TheVariants as replies
+use Rattle.held_maps.specs.declared.reply.Reply.TheVariants as replies
 use Rattle.handles.specs.declared.call_reply.CallReply.{CallReply}
 use Rattle.handles.specs.declared.call_reply.CallReply.TheVariants as call_replies
 use Rattle.handles.specs.Machine.{Kind, State, Request, on, Outcome, replied, refused, Step}

@@ -9,9 +9,9 @@ ghost use Rattle.handles.specs.declared.jobs.TheConstants.{MOST_JOBS};
 ghost use Rattle.versions.specs.Map.{value_at, with_pair};
 
 use crate::jobs::Jobs;
-use crate::places::Places;
 use bulk_ops::{Answer, Asks};
 use hash_path::PathKey;
+use held_maps::Places;
 use std::sync::Arc;
 use versions::{Refusal, View};
 

@@ -9,11 +9,10 @@ use super::Table;
 use super::ends::tell_job;
 use crate::call::Call;
 use crate::call_reply::CallReply;
-use crate::command::Command;
 use crate::demand::Demand;
-use crate::reply::Reply;
 use bulk_ops::{Answer, Asks};
 use hash_path::PathKey;
+use held_maps::{Command, Reply};
 use versions::{Refusal, View};
 
 impl<K: PathKey + Drop, V: Eq + Drop, Q: Asks<K, V> + Drop> Table<K, V, Q> {

@@ -1,5 +1,0 @@
-use Rattle.batch_cli.proofs.CommandLineLemmas.{told}
-use Rattle.batch_cli.proofs.words.options.Goals as goal
-
-pub returns-in-Err-clause-fault : goal.returns-in-Err-clause-fault
-returns-in-Err-clause-fault c = told _ c.in-Err.error c.fault_of.result c.in-Err.ensures.fault c.fault_of.ensures

@@ -1,0 +1,110 @@
+//! Commands on one map.
+ghost use Rattle.std.specs.Prelude.{◌≡◌, IfErr, IfOk, OnErr, OnOk, false, true};
+ghost use Rattle.held_maps.specs.Commands.{command_of, lacks_memory, reply_of};
+ghost use Rattle.versions.specs.Commands as commands;
+ghost use Rattle.versions.specs.Commands.{after, is_full, needs_no_memory, reply};
+ghost use Rattle.versions.specs.Map.{value_at};
+ghost use Rattle.versions.specs.Puts.{FullExactly};
+ghost use Rattle.versions.specs.declared.refusal.Refusal.TheVariants.{NoMemory};
+
+use crate::reply::Reply;
+use hash_path::PathKey;
+use map_ops::{put, put_if_absent, remove, remove_if, replace, replace_if};
+use std::alloc::Global;
+use std::sync::Arc;
+use versions::{Refusal, Version};
+
+mod copying;
+mod foresight;
+
+/// A command on one map, with the meaning that Scala's `concurrent.Map` gives it.
+#[derive(Debug, Drop)]
+pub enum Command<K, V> {
+    /// Answers the value of the key.
+    Get(Arc<K>),
+    /// Maps the key to the value, and answers the value before.
+    Put(Arc<K>, Arc<V>),
+    /// Maps the key to the value where the key is absent, and answers the value before.
+    PutIfAbsent(Arc<K>, Arc<V>),
+    /// Maps the key to the value where the key is present, and answers the value before.
+    Replace(Arc<K>, Arc<V>),
+    /// Maps the key to the second value where it is mapped to one equal to the first, and answers whether it was.
+    ReplaceIf(Arc<K>, Arc<V>, Arc<V>),
+    /// Removes the key, and answers the value before.
+    Remove(Arc<K>),
+    /// Removes the key where it is mapped to a value equal to this one, and answers whether it was.
+    RemoveIf(Arc<K>, Arc<V>),
+    /// Answers the number of pairs.
+    Size,
+    /// Removes all pairs.
+    Clear,
+}
+
+impl<K: PathKey + Drop, V: Eq + Drop> Command<K, V> {
+    /// Whether the command would put a new key into a map that holds as many pairs as it may. The key is looked up
+    /// only where the map is full.
+    pub(crate) fn lacks_place(&self, version: &Version<K, V>) -> bool
+        ensures { result ≡ is_full K.cmp version.now.limit version.now.entries (command_of self.now) }
+    {
+        match self {
+            Command::Put(key, _) | Command::PutIfAbsent(key, _) => {
+                version.len() == version.limit() && version.get(key).is_none()
+            }
+            _ => false,
+        }
+    }
+
+    /// Makes the command on a map, by one walk.
+    ///
+    /// It is refused as `Full` where it would put a new key into a map that holds as many pairs as it may, and as
+    /// `NoMemory`. The map is then as before.
+    pub(crate) fn run_on(
+        self,
+        alloc: Global,
+        version: &mut Version<K, V>,
+    ) -> Result<Reply<V>, Refusal>
+        ensures reply { IfOk result (λ y. reply_of y ≡ reply K.cmp V.eq version.old.entries (command_of self)) }
+        ensures map { OnOk result (version.new.entries ≡ after K.cmp V.eq version.old.entries (command_of self)) }
+        ensures limit { version.new.limit ≡ version.old.limit }
+        ensures stamp { version.new.stamp ≡ version.old.stamp }
+        ensures full { FullExactly result (is_full K.cmp version.old.limit version.old.entries (command_of self)) }
+        ensures memory { needs_no_memory (command_of self) ≡ true → lacks_memory result ≡ false }
+        ensures err { OnErr result (version.new ≡ version.old) }
+    {
+        match self {
+            Command::Get(key) => get_from(version, &key),
+            Command::Put(key, value) => Ok(Reply::Old(put(version, alloc, key, value)?)),
+            Command::PutIfAbsent(key, value) => {
+                Ok(Reply::Old(put_if_absent(version, alloc, key, value)?))
+            }
+            Command::Replace(key, value) => Ok(Reply::Old(replace(version, alloc, key, value)?)),
+            Command::ReplaceIf(key, old, value) => {
+                Ok(Reply::Done(replace_if(version, alloc, key, &old, value)?))
+            }
+            Command::Remove(key) => Ok(Reply::Old(remove(version, alloc, &key)?)),
+            Command::RemoveIf(key, value) => {
+                Ok(Reply::Done(remove_if(version, alloc, &key, &value)?))
+            }
+            Command::Size => Ok(Reply::Size(version.len())),
+            Command::Clear => {
+                version.clear(alloc)?;
+                Ok(Reply::Cleared)
+            }
+        }
+    }
+}
+
+// The reply to a get.
+fn get_from<K: PathKey + Drop, V: Eq + Drop>(
+    version: &Version<K, V>,
+    key: &K,
+) -> Result<Reply<V>, Refusal>
+    ensures reply { IfOk result (λ y. reply_of y ≡ commands.old (value_at K.cmp version.now.entries key.now)) }
+    ensures memory { IfErr result (λ e. e ≡ NoMemory) }
+{
+    let found = match version.get(key) {
+        Some(value) => Some(Arc::try_clone(value)?),
+        None => None,
+    };
+    Ok(Reply::Old(found))
+}

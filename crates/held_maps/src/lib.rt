@@ -1,0 +1,13 @@
+//! The maps that are live under numbers, each a version in the place of its number, and commands on one of them.
+//!
+//! Contracts see the map of each number, and not the places. A command has the meaning that Scala's `concurrent.Map`
+//! gives it, is foreseen or made, and tells whether it left its map as it was.
+#![tactic(auto)]
+
+mod command;
+mod places;
+mod reply;
+
+pub use command::Command;
+pub use places::Places;
+pub use reply::Reply;
