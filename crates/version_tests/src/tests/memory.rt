@@ -1,11 +1,14 @@
 //! Calls with requests for memory refused.
 use super::{
-    Chosen, assert_is, assert_own, assert_sizes, chosen, empty, fork, len, of_three, plainly, put,
-    sizes, started, text, value_of,
+    Chosen, Texts, assert_is, assert_own, assert_sizes, assert_text, chosen, empty, fork, len,
+    of_three, plainly, put, put_text, sizes, started, text, value_of,
 };
+use generation::Source;
+use std::alloc::Global;
+use std::process::Abort;
 use std::sync::Arc;
 use std::test::Fail;
-use test_keys::take_all;
+use test_keys::{Shortage, take_all};
 use trie_node::Stamp;
 use versions::{NoMemory, Refusal};
 
@@ -70,5 +73,37 @@ fn a_full_map_says_so_without_memory(rt: HostRuntime) -> Result<(), Fail> {
     let answer = version.put(alloc, key, value);
     drop(taken);
     assert_is(&rt, answer, Err(Refusal::Full));
+    Ok(())
+}
+
+// Writes the text while a view and a fork share what the version has, so that its path is copied, and drops both. The
+// answer is how many writes were made.
+fn written_beside(
+    rt: &impl Abort,
+    alloc: Global,
+    version: &mut Texts,
+    source: &mut Source,
+    value: i64,
+) -> u64 {
+    let _view = version.view();
+    let _forked = fork(rt, version, source);
+    u64::from(put_text(alloc, version, "a", value).is_ok())
+}
+
+// A body that keeps what a dropped view or fork shared comes to the end of so little memory.
+#[test]
+fn dropped_views_and_forks_keep_no_memory(rt: HostRuntime) -> Result<(), Fail> {
+    let alloc = rt.alloc();
+    let (mut version, mut source) = started(alloc)?;
+    let mut shortage = Shortage::new(alloc)?;
+    shortage.give(alloc, 8_192)?;
+    let mut made = 0u64;
+    for value in 0..1_000 {
+        let one = written_beside(&rt, alloc, &mut version, &mut source, value);
+        made = made.saturating_add(one);
+    }
+    drop(shortage);
+    assert_is(&rt, made, 1_000);
+    assert_text(&rt, alloc, &version, "a", Some(999));
     Ok(())
 }
