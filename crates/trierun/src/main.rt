@@ -57,10 +57,22 @@ fn chosen<R: Runtime + AllocGlobal>(rt: &R) -> Result<Options, ArgFault>
 
 /// The words of the command line, the program's name first.
 fn arguments<R: Runtime + AllocGlobal>(rt: &R) -> Result<Vec<String>, ArgFault> {
-    match env::args(rt) {
-        Ok(words) => words.collect(rt.alloc()).map_err(|_| ArgFault::Memory),
-        Err(error) if error.kind() == io::ErrorKind::InvalidData => Err(ArgFault::NotText),
+    let words = match env::args(rt) {
+        Ok(words) => words,
+        Err(error) => return Err(no_words(&error)),
+    };
+    match words.collect(rt.alloc()) {
+        Ok(words) => Ok(words),
         Err(_) => Err(ArgFault::Memory),
+    }
+}
+
+/// Why there are no words.
+fn no_words(error: &io::Error) -> ArgFault {
+    if error.kind() == io::ErrorKind::InvalidData {
+        ArgFault::NotText
+    } else {
+        ArgFault::Memory
     }
 }
 
