@@ -1,4 +1,3 @@
 pub mod Counting
 pub mod Keeping
-pub mod Placing
 pub mod Walks

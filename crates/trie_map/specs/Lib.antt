@@ -2,7 +2,6 @@ pub use Rattle.trie_shape.specs.Map
 pub use Rattle.bulk_ops.specs.Meanings
 pub use Rattle.bulk_ops.specs.Queries
 pub use Rattle.bulk_ops.specs.Told
-pub mod Rules
-pub mod Stripes
+pub use Rattle.stripes.specs.Rules
+pub use Rattle.stripes.specs.Updates
 pub mod Questions
-pub mod Updates

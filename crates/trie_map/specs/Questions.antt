@@ -1,10 +1,19 @@
--- What a search of a map may answer.
-use Rattle.std.specs.Prelude.{◌≡◌, Bool, true, false, Option, Some, None, Contains}
+-- What questions about a map may be answered.
+use Rattle.std.specs.Prelude.{◌≡◌, ℕ, Bool, true, false, Option, Some, None, Contains}
 use Rattle.std.specs.List.{list_any}
-use Rattle.bulk_ops.specs.Answers.{passes}
+use Rattle.std.specs.declared.cmp.Ordering.{Ordering}
+use Rattle.bulk_ops.specs.Answers as plain
+use Rattle.bulk_ops.specs.Told.{IsAnswered}
+use Rattle.bulk_ops.specs.declared.asks.Answer.{Answer}
+use Rattle.stripes.specs.Rules.{AllKeep}
+use Rattle.versions.specs.Contents.{Contents}
 use Rattle.versions.specs.Map.{Map}
 
 -- a pair of the map that passes, or none where none does
 abbrev pub IsFound : {K V : Type 0} → (K → V → Bool) → Map K V → Option (K × V) → Type 0
-IsFound p m None = list_any (passes p) m ≡ false
-IsFound p m (Some x) = Contains m x × (passes p x ≡ true)
+IsFound p m None = list_any (plain.passes p) m ≡ false
+IsFound p m (Some x) = Contains m x × (plain.passes p x ≡ true)
+
+-- this is told, and this map made, of a map each pair of which keeps the rule
+abbrev pub IsAnsweredOfKept : {K V I : Type 0} → (K → K → Ordering) → (K → V → Type 0) → (Map K V → plain.Answer K V I → Type 0) → Option ℕ → Answer K V I → Option (Contents K V) → Type 0
+IsAnsweredOfKept {K} {V} R H answered to told made = (m : Map K V) × AllKeep R H m × IsAnswered (answered m) to told made

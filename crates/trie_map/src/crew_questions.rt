@@ -3,10 +3,9 @@ ghost use Rattle.std.specs.Prelude.{◌≡◌, ◌≤◌, Bool, IfOk, length};
 ghost use Rattle.bulk_ops.specs.Answers.{items_of, passing};
 ghost use Rattle.bulk_ops.specs.Meanings.{MayAnswer, Means};
 ghost use Rattle.combiner.specs.Monoids.{folded};
-ghost use Rattle.trie_map.specs.Rules.{AllKeep};
+ghost use Rattle.stripes.specs.Rules.{AllKeep};
 ghost use Rattle.versions.specs.Map.{Map};
 
-use crate::keeps::Keeps;
 use crate::trie_map::TrieMap;
 use crate::view::View;
 use closure_ops::{Counts, Folds};
@@ -14,6 +13,7 @@ use combiner::Monoid;
 use hash_path::PathKey;
 use std::sync::Wait;
 use std::thread::Threads;
+use stripes::Keeps;
 use task_pool::Crew;
 use trie_node::NoMemory;
 

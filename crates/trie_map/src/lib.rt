@@ -5,17 +5,12 @@
 //! it is read with no lock. Each pair keeps a rule of the user's (`Keeps`), or `Anything`.
 #![tactic(auto)]
 
-mod blank;
 mod closure;
 mod columns;
 mod crew;
 mod crew_questions;
-mod joining;
-mod keeps;
 mod origin;
 mod questions;
-mod row;
-mod stripe;
 mod trie_map;
 mod view;
 
@@ -26,9 +21,8 @@ pub use columns::{Keys, Values};
 pub use combiner::{Both, Greatest, Least, Monoid, Sum};
 pub use hash_path::PathKey;
 pub use iter::Pairs;
-pub use keeps::{Anything, Keeps};
 pub use keys::ByteText;
-pub use stripe::MOST_PAIRS_OF_STRIPE;
+pub use stripes::{Anything, Keeps, MOST_PAIRS_OF_STRIPE};
 pub use task_pool::Crew;
 pub use trie_map::TrieMap;
 pub use trie_node::NoMemory;

@@ -8,12 +8,12 @@ ghost use Rattle.combiner.specs.Monoids.{folded};
 ghost use Rattle.trie_map.specs.Questions.{IsFound};
 
 use crate::closure::answer_at;
-use crate::keeps::Keeps;
 use crate::view::View;
 use bulk_ops::{Pair, law_of_folds};
 use combiner::Monoid;
 use hash_path::PathKey;
 use std::sync::Arc;
+use stripes::Keeps;
 use trie_node::NoMemory;
 
 /// Each question walks the view on the caller's thread, in the order of `pairs`, and takes no lock. A test is a closure

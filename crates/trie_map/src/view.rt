@@ -1,13 +1,12 @@
 //! A map as it stood at one moment.
 ghost use Rattle.std.specs.Prelude.{◌≡◌, ◌↔◌, [], All, IfOk, IfSome, IsPermutation, IsTrue, is_some, length, map, option_map};
 ghost use Rattle.bulk_ops.specs.Told.{IsAnswered};
-ghost use Rattle.trie_map.specs.Rules.{AllKeep};
+ghost use Rattle.stripes.specs.Rules.{AllKeep};
 ghost use Rattle.trie_shape.specs.Order.{walked};
 ghost use Rattle.versions.specs.Map.{IsMap, value_at};
 
 use crate::columns::{Keys, Values};
 use crate::crew::within_limits;
-use crate::keeps::{Anything, Keeps};
 use bulk_ops::{Answer, Asks, ask};
 use combiner::Bulk;
 use hash_path::PathKey;
@@ -16,6 +15,7 @@ use std::alloc::Global;
 use std::marker::{Model, PhantomData};
 use std::sync::{Arc, Wait};
 use std::thread::Threads;
+use stripes::{Anything, Keeps};
 use task_pool::{Crew, Free, ask_crew, run_crew};
 use trie_node::{NoMemory, walk_lists_map};
 use versions::Version;
@@ -30,7 +30,7 @@ pub struct View<K: PathKey, V, P: Keeps<K, V> = Anything> {
 }
 
 impl<K: PathKey, V, P: Keeps<K, V>> Model for View<K, V, P> {
-    ghost use Rattle.trie_map.specs.Rules.{AllKeep};
+    ghost use Rattle.stripes.specs.Rules.{AllKeep};
     ghost use Rattle.versions.specs.Map.{Map};
 
     ghost Value = { Map K V };

@@ -1,13 +1,13 @@
 //! Writes of a map that a closure decides on, under the lock of the key's stripe.
 ghost use Rattle.std.specs.Prelude.{◌≡◌, IfErr, IfOk, IfSome, Option, option_map};
 ghost use Rattle.std.specs.Arc.{arc_value};
-ghost use Rattle.trie_map.specs.Rules.{IsPutRefusal};
-ghost use Rattle.trie_map.specs.Updates.{MayMake};
+ghost use Rattle.stripes.specs.Rules.{IsPutRefusal};
+ghost use Rattle.stripes.specs.Updates.{MayMake};
 
 use super::TrieMap;
-use crate::keeps::Keeps;
 use hash_path::PathKey;
 use std::sync::{Arc, Wait};
+use stripes::Keeps;
 use versions::Refusal;
 
 impl<K: PathKey + Drop, V: Drop, P: Keeps<K, V>> TrieMap<K, V, P> {

@@ -3,7 +3,7 @@ use Rattle.std.specs.List.Sorted.{IsPermutation}
 use Rattle.std.proofs.lemmas.List.Sorted.{IsPermutation-sym}
 use Rattle.trie_shape.specs.Order.{walked}
 use Rattle.versions.specs.Map.{IsMap}
-use Rattle.trie_map.specs.Rules.{AllKeep}
+use Rattle.stripes.specs.Rules.{AllKeep}
 use Rattle.trie_map.proofs.Keeping.{kept_listing}
 use Rattle.trie_map.proofs.Walks.{listing_permutes}
 use Rattle.trie_map.proofs.view.View.law.Goals as goal

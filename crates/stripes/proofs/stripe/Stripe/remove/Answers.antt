@@ -1,0 +1,14 @@
+use Rattle.std.proofs.Common.{sym, ◌∙◌, subst}
+use Rattle.stripes.specs.Rules.{Belongs, IsStripe}
+use Rattle.stripes.proofs.Keeping.{kept_remove}
+use Rattle.stripes.proofs.stripe.Stripe.remove.Goals as goal
+
+pub invariant_of-self : goal.invariant_of-self
+invariant_of-self g c =
+    subst (IsStripe g.K.Ord.cmp g.K.PathKey.path_of g.P.Keeps.holds c.self.inside.first_digit) (sym c.in_err-before.ensures.err) c.self.invariant
+
+pub invariant_of-self-2 : goal.invariant_of-self-2
+invariant_of-self-2 g c = (
+  c.in_ok-before.ensures.limit ∙ c.self.invariant.0,
+  kept_remove g.K.Ord.cmp (Belongs g.K.PathKey.path_of g.P.Keeps.holds c.self.inside.first_digit) c.law_of_removal.ensures.value c.self.inside.version.entries _ c.args.key.now c.in_ok-before.ensures.entries c.self.invariant.1,
+)

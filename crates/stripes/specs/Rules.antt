@@ -1,0 +1,31 @@
+-- Maps whose pairs keep a rule.
+use Rattle.std.specs.Prelude.{◌≡◌, ℕ, Some}
+use Rattle.std.specs.declared.cmp.Ordering.{Ordering}
+use Rattle.hash_path.specs.Digits.{digit}
+use Rattle.stripes.specs.declared.stripe.TheConstants.{MOST_PAIRS_OF_STRIPE}
+use Rattle.versions.specs.Contents.{Contents}
+use Rattle.versions.specs.Map.{Map, value_at}
+use Rattle.versions.specs.declared.refusal.Refusal.{Refusal}
+use Rattle.versions.specs.declared.refusal.Refusal.TheVariants.{Full, NoMemory}
+
+-- each pair of the map keeps the rule
+abbrev pub AllKeep : {K V : Type 0} → (K → K → Ordering) → (K → V → Type 0) → Map K V → Type 0
+AllKeep {K} {V} R H m = (k : K) (v : V) → value_at R m k ≡ Some v → H k v
+
+-- the first digit of a key's word
+abbrev pub first_digit : {K : Type 0} → (K → ℕ) → K → ℕ
+first_digit path k = digit (path k) 0
+
+-- the pair keeps the rule, and its key's word has this first digit
+abbrev pub Belongs : {K V : Type 0} → (K → ℕ) → (K → V → Type 0) → ℕ → K → V → Type 0
+Belongs path H d k v = H k v × (first_digit path k ≡ d)
+
+-- what the pairs and the limit of a stripe keep: it has the limit of a stripe, and each pair belongs there
+abbrev pub IsStripe : {K V : Type 0} → (K → K → Ordering) → (K → ℕ) → (K → V → Type 0) → ℕ → Contents K V → Type 0
+IsStripe R path H d c = (c.limit ≡ MOST_PAIRS_OF_STRIPE) × AllKeep R (Belongs path H d) c.entries
+
+-- why a put may be refused: there are as many pairs as there may be, or memory is wanting
+abbrev pub IsPutRefusal : Refusal → Type 0
+IsPutRefusal Full = Unit {0}
+IsPutRefusal NoMemory = Unit {0}
+IsPutRefusal e = ⊥

@@ -1,0 +1,45 @@
+-- The stripes of a map: the pairs whose keys' words have one first digit.
+use Rattle.std.specs.Prelude.{◌≡◌, ℕ, zero, suc, Bool, true, not, ◌&&◌, ◌==◌, if◌then◌else◌, List, [], ◌∷◌, ◌++◌, map}
+use Rattle.std.specs.List.{list_any}
+use Rattle.std.specs.declared.cmp.Ordering.{Ordering}
+use Rattle.stripes.specs.declared.stripe.TheConstants.{MOST_PAIRS_OF_STRIPE}
+use Rattle.versions.specs.Contents.{Contents}
+use Rattle.versions.specs.Map.{Map, union}
+
+-- the pairs of one stripe, and the first digit of the words of their keys
+pub record Content (K V : Type 0) : Type 0 where
+  pub entries : Map K V
+  pub digit : ℕ
+
+-- the numbers below n
+abbrev pub up_to : ℕ → List ℕ
+up_to zero = []
+up_to (suc n) = up_to n ++ n ∷ []
+
+-- whether no two of the numbers are equal
+abbrev pub all_differ : List ℕ → Bool
+all_differ [] = true
+all_differ (n ∷ ns) = not (list_any (λ other. n == other) ns) && all_differ ns
+
+module _ {K V : Type 0} where
+  -- the map has no pairs and the limit of a stripe
+  abbrev pub IsBlank : Contents K V → Type 0
+  IsBlank c = (c.entries ≡ []) × (c.limit ≡ MOST_PAIRS_OF_STRIPE)
+
+  -- the first digits of stripes
+  abbrev pub digits_of : List (Content K V) → List ℕ
+  digits_of stripes = map (λ (s : Content K V). s.digit) stripes
+
+  -- the maps of stripes
+  abbrev pub maps_of : List (Content K V) → List (Map K V)
+  maps_of stripes = map (λ (s : Content K V). s.entries) stripes
+
+  -- the pairs of all maps; where several have a key, the value is that of the first
+  abbrev pub unions : (K → K → Ordering) → List (Map K V) → Map K V
+  unions R [] = []
+  unions R (m ∷ ms) = union R m (unions R ms)
+
+  -- the map of the first stripe of the digit; no pairs where there is none
+  abbrev pub map_of_digit : ℕ → List (Content K V) → Map K V
+  map_of_digit d [] = []
+  map_of_digit d (s ∷ ss) = if d == s.digit then s.entries else map_of_digit d ss

@@ -1,0 +1,147 @@
+//! The locks of a map.
+ghost use Rattle.std.specs.Prelude.{◌≡◌, ◌<◌, ◌≤◌, ◌*◌, ◌-◌, ◌++◌, ◌∷◌, [], IfOk, length, map};
+ghost use Rattle.std.specs.Sync.Mutex.{mutex_guard_value};
+ghost use Rattle.hash_path.specs.Digits.{fan_out};
+ghost use Rattle.stripes.specs.Rules.{first_digit};
+ghost use Rattle.stripes.specs.Stripes.{digits_of, up_to};
+
+use crate::blank::Blank;
+use crate::keeps::Keeps;
+use crate::stripe::{MOST_PAIRS_OF_STRIPE, STRIPES, Stripe};
+use crossbeam_utils::CachePadded;
+use hash_path::PathKey;
+use std::alloc::Global;
+use std::sync::{Mutex, MutexGuard, Wait};
+use trie_node::NoMemory;
+
+/// The stripes of a map, each under a lock of its own that shares no cache line with another.
+///
+/// No lock tells which stripe it keeps, so a thread that has taken one looks.
+#[derive(Drop)]
+pub struct Row<K: PathKey, V, P: Keeps<K, V>> {
+    locks: Vec<CachePadded<Mutex<Stripe<K, V, P>>>>,
+    ghost whole: { length locks.items ≡ fan_out },
+}
+
+/// Stripes that are all locked.
+pub type Held<'m, K, V, P> = Vec<MutexGuard<'m, Stripe<K, V, P>>>;
+
+impl<K: PathKey + Drop, V: Drop, P: Keeps<K, V>> Row<K, V, P> {
+    /// The stripes under locks, in the order of their digits.
+    pub fn new(alloc: Global, stripes: Vec<Stripe<K, V, P>>) -> Result<Row<K, V, P>, NoMemory>
+        requires { digits_of stripes.items ≡ up_to fan_out }
+    {
+        let mut locks = Vec::with_capacity(alloc, STRIPES as usize)?;
+        for stripe in stripes {
+            locks.push(CachePadded::new(Mutex::new(stripe)))?;
+        }
+        Ok(Row { locks })
+    }
+
+    // What the lock of this place keeps.
+    fn lock_at<R: Wait>(&self, rt: &R, place: u32) -> MutexGuard<'_, Stripe<K, V, P>>
+        requires { place < fan_out }
+    {
+        self.locks[place as usize].lock(rt)
+    }
+
+    /// The stripe of the digit, which no other thread has until the guard is dropped.
+    pub fn locked<R: Wait>(&self, rt: &R, digit: u32) -> MutexGuard<'_, Stripe<K, V, P>>
+        requires { digit < fan_out }
+        ensures { (mutex_guard_value result).digit ≡ digit }
+    {
+        for _ in rt.forever() {
+            let stripe = self.lock_at(rt, digit);
+            if stripe.first_digit() == digit {
+                return stripe;
+            }
+        }
+        unreachable!()
+    }
+
+    /// The stripe of the key.
+    pub fn stripe_of<R: Wait>(&self, rt: &R, key: &K) -> MutexGuard<'_, Stripe<K, V, P>>
+        ensures { (mutex_guard_value result).digit ≡ first_digit K.path_of key.now }
+    {
+        self.locked(rt, key.path().digit(0))
+    }
+
+    /// All stripes, in the order of their digits. Each is taken once those before it are held.
+    pub fn all<R: Wait>(&self, rt: &R, alloc: Global) -> Result<Held<'_, K, V, P>, NoMemory>
+        ensures { IfOk result (λ held. digits_of (map mutex_guard_value held.items) ≡ up_to fan_out) }
+    {
+        let mut held = Vec::with_capacity(alloc, STRIPES as usize)?;
+        for digit in 0..STRIPES {
+            held = pushed(held, self.locked(rt, digit))?;
+        }
+        Ok(held)
+    }
+
+    /// How many pairs the stripes from the digit on have, at one moment when all of them are held.
+    pub fn len_from<R: Wait>(&self, rt: &R, digit: u32) -> u64
+        requires { digit ≤ fan_out }
+        ensures { result ≤ (fan_out - digit) * MOST_PAIRS_OF_STRIPE }
+    {
+        if digit == STRIPES {
+            return 0;
+        }
+        let stripe = self.locked(rt, digit);
+        stripe.len() + self.len_from(rt, digit + 1)
+    }
+}
+
+// The list with one more at its end.
+fn pushed<T: Drop>(mut list: Vec<T>, last: T) -> Result<Vec<T>, NoMemory>
+    ensures { IfOk result (λ longer. longer.items ≡ list.items ++ last ∷ []) }
+{
+    list.push(last)?;
+    Ok(list)
+}
+
+/// A stripe of each digit, in order, with no pairs.
+pub fn empties<K: PathKey + Drop, V: Drop, P: Keeps<K, V>>(
+    alloc: Global,
+) -> Result<Vec<Stripe<K, V, P>>, NoMemory>
+    ensures { IfOk result (λ stripes. digits_of stripes.items ≡ up_to fan_out) }
+{
+    let mut stripes = Vec::with_capacity(alloc, STRIPES as usize)?;
+    for digit in 0..STRIPES {
+        stripes.push(Stripe::empty(alloc, digit)?)?;
+    }
+    Ok(stripes)
+}
+
+/// A blank for each stripe.
+pub fn blanks<K: PathKey + Drop, V: Drop>(alloc: Global) -> Result<Vec<Blank<K, V>>, NoMemory> {
+    let mut blanks = Vec::with_capacity(alloc, STRIPES as usize)?;
+    for _ in 0..STRIPES {
+        blanks.push(Blank::new(alloc)?)?;
+    }
+    Ok(blanks)
+}
+
+/// Removes all pairs of stripes that are all held, and lets each go then: a blank for each.
+pub fn clear_all<K: PathKey + Drop, V: Drop, P: Keeps<K, V>>(
+    held: Held<'_, K, V, P>,
+    mut blanks: Vec<Blank<K, V>>,
+) {
+    for mut stripe in held {
+        if let Some(blank) = blanks.pop() {
+            stripe.clear(blank);
+        }
+    }
+}
+
+/// A fork of each stripe, in order.
+pub fn forks<K: PathKey + Drop, V: Drop, P: Keeps<K, V>>(
+    alloc: Global,
+    held: &Held<'_, K, V, P>,
+) -> Result<Vec<Stripe<K, V, P>>, NoMemory>
+    ensures { IfOk result (λ stripes. stripes.items ≡ map mutex_guard_value held.now.items) }
+{
+    let mut copies = Vec::with_capacity(alloc, held.len())?;
+    for stripe in held {
+        copies.push(stripe.fork()?)?;
+    }
+    Ok(copies)
+}

@@ -1,0 +1,220 @@
+//! The part of a map that one lock keeps.
+ghost use Rattle.std.specs.Prelude.{◌≡◌, ◌≤◌, ◌&&◌, [], None, IfOk, IfSome, OnErr, OnOk, if◌then◌else◌, is_some, length, option_map};
+ghost use Rattle.std.specs.Arc.{arc_value};
+ghost use Rattle.stripes.specs.Rules.{AllKeep, Belongs, first_digit as digit_of};
+ghost use Rattle.versions.specs.Commands.{is_full_for};
+ghost use Rattle.versions.specs.Map.{value_at, with_pair, without};
+ghost use Rattle.versions.specs.Puts.{FullExactly};
+ghost use Rattle.versions.specs.declared.version.TheConstants.{MOST_PAIRS};
+
+mod deciding;
+
+use crate::blank::Blank;
+use crate::keeps::{Anything, Keeps};
+use hash_path::{FAN_OUT, PathKey};
+use std::alloc::Global;
+use std::marker::{Model, PhantomData};
+use std::sync::Arc;
+use trie_node::{Always, Condition, NoMemory, Stamp};
+use versions::{Change, MOST_PAIRS, Refusal, Version, law_of_put, law_of_removal};
+
+/// How many stripes a map has: one for each first digit of a path word.
+pub const STRIPES: u32 = FAN_OUT;
+
+/// The most pairs that one stripe may hold.
+pub const MOST_PAIRS_OF_STRIPE: u64 = 524_288;
+
+/// The pairs of a map whose keys' path words have one first digit. Each pair keeps the rule.
+#[derive(Drop)]
+pub struct Stripe<K: PathKey, V, P: Keeps<K, V> = Anything> {
+    version: Version<K, V>,
+    first_digit: u32,
+    rule: PhantomData<P>,
+}
+
+impl<K: PathKey, V, P: Keeps<K, V>> Model for Stripe<K, V, P> {
+    ghost use Rattle.stripes.specs.Rules.{IsStripe};
+    ghost use Rattle.stripes.specs.Stripes.{Content};
+
+    ghost Value = { Content K V };
+
+    ghost view = { λ s. record { entries = s.version.entries; digit = s.first_digit } };
+
+    ghost invariant = { λ s. IsStripe K.cmp K.path_of P.holds s.first_digit s.version };
+}
+
+impl<K: PathKey + Drop, V: Drop, P: Keeps<K, V>> Stripe<K, V, P> {
+    /// The stripe of a first digit, with no pairs.
+    pub fn empty(alloc: Global, first_digit: u32) -> Result<Stripe<K, V, P>, NoMemory>
+        ensures entries { IfOk result (λ stripe. stripe.entries ≡ []) }
+        ensures digit { IfOk result (λ stripe. stripe.digit ≡ first_digit) }
+    {
+        Ok(Stripe {
+            version: Version::empty(alloc, MOST_PAIRS_OF_STRIPE, Stamp::LOOSE)?,
+            first_digit,
+            rule: PhantomData,
+        })
+    }
+
+    /// The first digit of the path words of the stripe's keys.
+    pub fn first_digit(&self) -> u32
+        ensures { result ≡ self.now.digit }
+    {
+        self.first_digit
+    }
+
+    /// The value of the key, or none.
+    pub fn get(&self, key: &K) -> Option<&Arc<V>>
+        requires { digit_of K.path_of key.now ≡ self.now.digit }
+        ensures value { option_map (λ value. value.now.value) result ≡ value_at K.cmp self.now.entries key.now }
+        ensures kept { IfSome result (λ value. P.holds key.now value.now.value) }
+    {
+        self.version.get(key)
+    }
+
+    /// How many pairs there are.
+    pub fn len(&self) -> u64
+        ensures count { result ≡ length self.now.entries }
+        ensures few { length self.now.entries ≤ MOST_PAIRS_OF_STRIPE }
+    {
+        self.version.len()
+    }
+
+    /// Maps the key to the value where the condition holds of the value that the key has, and answers that value and
+    /// whether the stripe was written.
+    ///
+    /// It is refused as `Full` where the condition holds, the key is new and there are as many pairs as there may be,
+    /// and as `NoMemory` for want of memory. The stripe is then as before.
+    pub fn put_where<C: Condition<V>>(
+        &mut self,
+        alloc: Global,
+        key: Arc<K>,
+        value: Arc<V>,
+        condition: &C,
+    ) -> Result<Change<V>, Refusal>
+        requires rule { P.holds key.value value.value }
+        requires place { digit_of K.path_of key.value ≡ self.old.digit }
+        ensures before { IfOk result (λ change. option_map arc_value change.previous ≡ value_at K.cmp self.old.entries key.value) }
+        ensures done { IfOk result (λ change. change.done ≡ C.holds condition.now (value_at K.cmp self.old.entries key.value)) }
+        ensures entries { IfOk result (λ change. self.new.entries ≡ (if change.done then with_pair K.cmp self.old.entries key.value value.value else self.old.entries)) }
+        ensures digit { self.new.digit ≡ self.old.digit }
+        ensures full { FullExactly result (C.holds condition.now None && is_full_for K.cmp MOST_PAIRS_OF_STRIPE self.old.entries key.value) }
+        ensures err { OnErr result (self.new ≡ self.old) }
+        ensures kept { IfOk result (λ change. IfSome change.previous (λ value. P.holds key.value value.value)) }
+    {
+        law_of_put::<K, V>();
+        let change = self.version.put_where(alloc, key, value, condition)?;
+        Ok(change)
+    }
+
+    /// Removes the key where it is there and the condition holds of its value, and answers the value that it had and
+    /// whether the stripe was written.
+    ///
+    /// It is refused for want of memory alone, and the stripe is then as before.
+    pub fn remove_where<C: Condition<V>>(
+        &mut self,
+        alloc: Global,
+        key: &K,
+        condition: &C,
+    ) -> Result<Change<V>, NoMemory>
+        requires { digit_of K.path_of key.now ≡ self.old.digit }
+        ensures before { IfOk result (λ change. option_map arc_value change.previous ≡ value_at K.cmp self.old.entries key.now) }
+        ensures done { IfOk result (λ change. change.done ≡ (is_some (value_at K.cmp self.old.entries key.now) && C.holds condition.now (value_at K.cmp self.old.entries key.now))) }
+        ensures entries { IfOk result (λ change. self.new.entries ≡ (if change.done then without K.cmp self.old.entries key.now else self.old.entries)) }
+        ensures digit { self.new.digit ≡ self.old.digit }
+        ensures err { OnErr result (self.new ≡ self.old) }
+        ensures kept { IfOk result (λ change. IfSome change.previous (λ value. P.holds key.now value.value)) }
+    {
+        law_of_removal::<K, V>();
+        let change = self.version.remove_where(alloc, key, condition)?;
+        Ok(change)
+    }
+
+    /// Maps the key to the value, and answers the value before, or none. It is refused as `put_where` is, and the
+    /// stripe is then as before.
+    pub fn put(
+        &mut self,
+        alloc: Global,
+        key: Arc<K>,
+        value: Arc<V>,
+    ) -> Result<Option<Arc<V>>, Refusal>
+        requires rule { P.holds key.value value.value }
+        requires place { digit_of K.path_of key.value ≡ self.old.digit }
+        ensures before { IfOk result (λ before. option_map arc_value before ≡ value_at K.cmp self.old.entries key.value) }
+        ensures entries { OnOk result (self.new.entries ≡ with_pair K.cmp self.old.entries key.value value.value) }
+        ensures digit { self.new.digit ≡ self.old.digit }
+        ensures full { FullExactly result (is_full_for K.cmp MOST_PAIRS_OF_STRIPE self.old.entries key.value) }
+        ensures err { OnErr result (self.new ≡ self.old) }
+        ensures kept { IfOk result (λ before. IfSome before (λ value. P.holds key.value value.value)) }
+    {
+        Ok(self.put_where(alloc, key, value, &Always)?.previous)
+    }
+
+    /// Removes the key, and answers the value before, or none. It is refused for want of memory alone, and the stripe
+    /// is then as before.
+    pub fn remove(&mut self, alloc: Global, key: &K) -> Result<Option<Arc<V>>, NoMemory>
+        requires { digit_of K.path_of key.now ≡ self.old.digit }
+        ensures before { IfOk result (λ before. option_map arc_value before ≡ value_at K.cmp self.old.entries key.now) }
+        ensures entries { OnOk result (self.new.entries ≡ without K.cmp self.old.entries key.now) }
+        ensures digit { self.new.digit ≡ self.old.digit }
+        ensures err { OnErr result (self.new ≡ self.old) }
+        ensures kept { IfOk result (λ before. IfSome before (λ value. P.holds key.now value.value)) }
+    {
+        law_of_removal::<K, V>();
+        let before = self.version.remove(alloc, key)?;
+        Ok(before)
+    }
+
+    /// Removes all pairs.
+    pub fn clear(&mut self, blank: Blank<K, V>)
+        ensures entries { self.new.entries ≡ [] }
+        ensures digit { self.new.digit ≡ self.old.digit }
+    {
+        self.version = blank.into_map();
+    }
+
+    /// What each pair of the stripe keeps: the rule, and the stripe's first digit. It does nothing.
+    pub fn law(&self)
+        ensures { AllKeep K.cmp (Belongs K.path_of P.holds self.now.digit) self.now.entries }
+    {
+        let _ = &self.version;
+    }
+
+    /// Another stripe with the same pairs, which shares every node. It makes no request for memory, but the clone of
+    /// a handle may be refused.
+    pub fn fork(&self) -> Result<Stripe<K, V, P>, NoMemory>
+        ensures { IfOk result (λ fork. fork ≡ self.now) }
+    {
+        self.len();
+        Ok(Stripe {
+            version: shared(&self.version, MOST_PAIRS_OF_STRIPE)?,
+            first_digit: self.first_digit,
+            rule: PhantomData,
+        })
+    }
+
+    /// The stripe's pairs as a map that may hold those of all stripes. It makes no request for memory, but the clone
+    /// of a handle may be refused.
+    pub fn widened(&self) -> Result<Version<K, V>, NoMemory>
+        ensures entries { IfOk result (λ map. map.entries ≡ self.now.entries) }
+        ensures limit { IfOk result (λ map. map.limit ≡ MOST_PAIRS) }
+    {
+        self.len();
+        shared(&self.version, MOST_PAIRS)
+    }
+}
+
+// Another map with the same pairs, which shares every node, and may hold up to `limit` of them.
+fn shared<K: PathKey + Drop, V: Drop>(
+    version: &Version<K, V>,
+    limit: u64,
+) -> Result<Version<K, V>, NoMemory>
+    requires fits { length version.now.entries ≤ limit }
+    requires least { 1 ≤ limit }
+    requires most { limit ≤ MOST_PAIRS }
+    ensures entries { IfOk result (λ map. map.entries ≡ version.now.entries) }
+    ensures limit { IfOk result (λ map. map.limit ≡ limit) }
+{
+    let root = version.root().try_clone()?;
+    Ok(Version::from_root(root, limit, version.stamp()))
+}

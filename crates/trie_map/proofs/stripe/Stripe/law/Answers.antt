@@ -1,8 +1,0 @@
-use Rattle.std.proofs.Common.{subst}
-use Rattle.trie_map.specs.Rules.{AllKeep, Belongs}
-use Rattle.trie_map.specs.Stripes.{Content}
-use Rattle.trie_map.proofs.stripe.Stripe.law.Goals as goal
-
-pub returns : goal.returns
-returns g c =
-    subst (λ (s : Content _ _). AllKeep g.K.Ord.cmp (Belongs g.K.PathKey.path_of g.P.Keeps.holds s.digit) s.entries) c.self.view_is c.self.invariant.1
