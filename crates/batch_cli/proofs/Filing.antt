@@ -1,5 +1,5 @@
 -- What a seat files for a statement, from what it adds at each call.
-use Rattle.std.proofs.Common.{◌≡◌, true, ℕ, ◌∙◌, List, [], ◌∷◌, ◌++◌, Some, None, Result, Ok, Err, IfOk, OnOk, inl, inr, refl, sym, ap, subst}
+use Rattle.std.proofs.Common.{◌≡◌, true, ℕ, ◌∙◌, List, [], ◌∷◌, ◌++◌, Option, Some, None, Result, Ok, Err, IfOk, OnOk, inl, inr, refl, sym, ap, subst}
 use Rattle.std.specs.Prelude.{ℤ}
 use Rattle.std.specs.Arc.{arc_value}
 use Rattle.std.specs.declared.sync.Arc.{Arc}
@@ -8,20 +8,26 @@ use Rattle.versions.specs.Map.{Map}
 use Rattle.versions.specs.Commands.{get, put_if_absent, old, done, count, cleared}
 use Rattle.versions.specs.declared.refusal.Refusal.{Refusal}
 use Rattle.versions.specs.declared.refusal.Refusal.TheVariants.{NoHandle, Taken, Full, NoJob, Unfinished, NoWorker, TooManyJobs, JournalFull, NoMemory, BadNumber}
-use Rattle.handles.specs.Machine.{finish, frozen, is_entry, made, on, replied, viewed, finished, refused, unfinished, worked}
+use Rattle.bulk_ops.specs.Told.{told_of}
+use Rattle.bulk_ops.specs.declared.asks.Answer.{Answer}
+use Rattle.handles.specs.Machine.{finish, freeze, frozen, is_entry, made, on, replied, viewed, finished, refused, unfinished, worked}
 use Rattle.handles.specs.Views.{call_outcome, is_counted, outcome_of}
 use Rattle.handles.specs.declared.call_reply.CallReply.{CallReply}
 use Rattle.handles.specs.declared.call_reply.CallReply.TheVariants as call_replies
 use Rattle.journal.specs.Answers.{answered}
 use Rattle.journal.specs.Journals.{is_filed}
+use Rattle.locked_map.specs.Bulks.{AddsBulk, EndsBulk}
 use Rattle.locked_map.specs.Seats.{Adds, with_entry}
 use Rattle.locked_map.specs.Getting.{AnswersGet, AnswersPut, GetsOrElse}
+use Rattle.locked_map.specs.Tickets.{Ticketed, ticket_outcome}
 use Rattle.script.specs.declared.statement.Statement.{Statement}
 use Rattle.script.specs.declared.statement.Statement.TheVariants.{GetOrElse}
 use Rattle.script.specs.declared.reply.LineReply.{LineReply}
 use Rattle.script.specs.declared.reply.LineReply.TheVariants.{Found, Refused}
 use Rattle.batch_cli.specs.Events.{Event, Ends, Makes}
-use Rattle.questions.specs.Program.{ProgramTold, ProgramRequest, ProgramOutcome, or_else_in, reply_to, request_for}
+use Rattle.questions.specs.Folds.{Item}
+use Rattle.questions.specs.Program.{ProgramAnswer, ProgramTold, ProgramRequest, ProgramOutcome, or_else_in, reply_to, request_for, told_reply}
+use Rattle.questions.specs.Queries.{ScriptQuestion}
 use Rattle.batch_cli.specs.Filing.{ProgramSeat, Files, FilesAnswer, FilesJob, FilesOrElse, FilesReply, FilesService, event_of, events_at}
 use Rattle.batch_cli.proofs.Ends.{missing_or_done}
 
@@ -90,6 +96,32 @@ pub served_by_job : {E : Type 0} (s m t : ProgramSeat) (r : ProgramRequest) (job
 served_by_job s m t r job shown (Ok reply) adds (outcome, last, told) =
     inr (job, shown, outcome, then_filed s m t ((r, frozen job shown) ∷ []) ((finish job, outcome) ∷ []) (filed s r (frozen job shown) m adds refl) last, told)
 served_by_job s m t r job shown (Err e) adds h = tt
+
+module _ {P : Type 0} (answers : ScriptQuestion → Map (List ℕ) ℤ → P → Type 0) (answer_of : P → ProgramAnswer) (h : ℕ) (q : ScriptQuestion) where
+  -- what a bulk call tells is shown by the finish of the job that its freeze opened
+  told_by_job : (s m t : ProgramSeat) (opened : Result (Ticketed (List ℕ) ℤ ScriptQuestion) Refusal) (answer : Answer (List ℕ) ℤ Item) → Adds s (freeze h q) (answered ticket_outcome opened) m → EndsBulk answers answer_of m opened (Ok answer) t
+      → FilesService s (freeze h q) (told_reply (told_of answer)) t
+  told_by_job s m t (Err e) answer freezes (other, stays) = cc
+  told_by_job s m t (Ok ticket) answer freezes (adds, told) =
+      inr (ticket.job, ticket.frozen, finished (told_of answer), then_filed s m t ((freeze h q, frozen ticket.job ticket.frozen) ∷ []) ((finish ticket.job, finished (told_of answer)) ∷ []) (filed s (freeze h q) (frozen ticket.job ticket.frozen) m freezes refl) (filed m (finish ticket.job) (finished (told_of answer)) t adds refl), refl)
+
+  pub bulk_told : (s t : ProgramSeat) (answer : Answer (List ℕ) ℤ Item) → AddsBulk answers answer_of h q s (Ok answer) t → FilesService s (freeze h q) (told_reply (told_of answer)) t
+  bulk_told s t answer bulk = told_by_job s bulk.between t bulk.opened answer bulk.freezes bulk.ends
+
+  -- a bulk call that is refused files its freeze alone, if that is refused, and else the finish of its job too
+  refused_at_once_or_by_job : {E : Type 0} (s m t : ProgramSeat) (opened : Result (Ticketed (List ℕ) ℤ ScriptQuestion) Refusal) (e : Refusal × Option (Ticketed (List ℕ) ℤ ScriptQuestion)) (result : Result LineReply E) → Adds s (freeze h q) (answered ticket_outcome opened) m
+      → EndsBulk answers answer_of m opened (Err e) t → OnOk result (is_entry e.0 ≡ true) → IfOk result (λ reply. reply ≡ Refused e.0) → IfOk result (λ reply. FilesService s (freeze h q) reply t)
+  refused_at_once_or_by_job s m t (Err f) e result freezes (is, stays) kept shown =
+      let both : e ≡ (f, None) = cc in
+      let same : f ≡ e.0 = ap (λ (x : Refusal × Option (Ticketed (List ℕ) ℤ ScriptQuestion)). x.0) (sym both) in
+      let adds : Adds s (freeze h q) (refused e.0) t = subst (λ x. Adds s (freeze h q) (refused x) t) same (subst (λ x. Adds s (freeze h q) (refused f) x) (sym stays) freezes) in
+      served_at_once s t (freeze h q) result (refusal_filed s t (freeze h q) e.0 result adds kept shown)
+  refused_at_once_or_by_job s m t (Ok ticket) e result freezes (adds, back) kept shown =
+      served_by_job s m t (freeze h q) ticket.job ticket.frozen result freezes (refusal_filed m t (finish ticket.job) e.0 result adds kept shown)
+
+  pub bulk_refused : {E : Type 0} (s t : ProgramSeat) (e : Refusal × Option (Ticketed (List ℕ) ℤ ScriptQuestion)) (result : Result LineReply E) → AddsBulk answers answer_of h q s (Err e) t → OnOk result (is_entry e.0 ≡ true) → IfOk result (λ reply. reply ≡ Refused e.0)
+      → IfOk result (λ reply. FilesService s (freeze h q) reply t)
+  bulk_refused s t e result bulk kept shown = refused_at_once_or_by_job s bulk.between t bulk.opened e result bulk.freezes bulk.ends kept shown
 
 -- the line of a statement other than getorelse, done by one event
 done_at_once : (s t : ProgramSeat) (statement : Statement) (reply : LineReply) → or_else_in statement ≡ None → FilesReply s (request_for statement) reply t → FilesAnswer s statement reply t

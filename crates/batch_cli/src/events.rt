@@ -2,22 +2,21 @@
 
 ghost use Rattle.std.specs.Prelude.{◌≡◌, IfOk, OnErr, OnOk, Some, false, true};
 ghost use Rattle.std.specs.Arc.{arc_value};
-ghost use Rattle.handles.specs.Machine.{is_entry, view};
+ghost use Rattle.handles.specs.Machine.{freeze, is_entry, view};
 ghost use Rattle.handles.specs.Views.{is_counted, outcome_of, request_of};
 ghost use Rattle.questions.specs.Program.{reply_to};
 ghost use Rattle.batch_cli.specs.CommandLine.{AreInRange};
-ghost use Rattle.batch_cli.specs.Filing.{FilesAnswer, FilesOrElse, FilesReply};
+ghost use Rattle.batch_cli.specs.Filing.{FilesAnswer, FilesOrElse, FilesReply, FilesService};
 
-use crate::jobs::worked;
 use handles::{Call, CallReply};
 use keys::ByteText;
 use locked_map::{Room, Seat, SharedMap};
-use questions::{Ask, ScriptQuery, ask_of, listing_of, reply_shown};
+use questions::{Ask, ScriptQuery, ask_of, listing_of, reply_shown, told};
 use script::{LineReply, Statement};
 use std::alloc::Global;
 use std::sync::{Arc, Wait};
 use std::thread::Threads;
-use task_pool::Crew;
+use task_pool::{Crew, Free};
 use versions::{NoMemory, Refusal};
 
 /// The map of a program: its keys are the texts of a script's keys, and it is asked a script's questions.
@@ -75,6 +74,28 @@ fn listed<J: Room, R: Wait>(
     }
 }
 
+/// Asks the query of the map of the handle as it stands, which a crew works with no lock held, and gives the reply that
+/// tells the answer.
+///
+/// A ticket that comes back stands beside want of memory, which ends the run. Its job stays open.
+fn worked<J: Room, R: Threads + Wait + Sync>(
+    rt: &R,
+    alloc: Global,
+    map: &ProgramMap<J>,
+    seat: &mut ProgramSeat<J>,
+    crew: Crew,
+    handle: u32,
+    query: ScriptQuery,
+) -> Result<LineReply, NoMemory>
+    requires crew { AreInRange crew.workers crew.grain }
+    ensures { IfOk result (λ reply. FilesService seat.old (freeze handle query) reply seat.new) }
+{
+    match map.bulk(rt, seat, handle, Arc::new(alloc, query)?, crew, &Free) {
+        Ok(answer) => Ok(told(answer)),
+        Err((refusal, _)) => refused(refusal),
+    }
+}
+
 /// Asks for the value of the key, stores this one where there is none, and gives the reply that tells the value that
 /// the key has then.
 fn found_or_stored<J: Room, R: Wait>(
@@ -119,7 +140,7 @@ fn reply_of(answer: &Result<CallReply<i64>, Refusal>) -> Result<LineReply, NoMem
 ///
 /// Others than want of memory are never met here: a script is too short to fill the journal, and each job is closed
 /// once, by the client that opened it.
-pub fn refused(refusal: Refusal) -> Result<LineReply, NoMemory>
+fn refused(refusal: Refusal) -> Result<LineReply, NoMemory>
     ensures shown { IfOk result (λ reply. reply ≡ LineReply.Refused refusal) }
     ensures filed { OnOk result (is_entry refusal ≡ true) }
     ensures unfiled { OnErr result (is_entry refusal ≡ false) }

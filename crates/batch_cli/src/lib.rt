@@ -11,7 +11,6 @@ mod client;
 mod events;
 mod gate;
 mod input;
-mod jobs;
 mod journaling;
 mod laws;
 mod merge;
