@@ -1,22 +1,35 @@
 //! A registry of leases: those that have expired are counted, and those that have not are filtered into a new map,
-//! while writes to the registry go on.
+//! while writes to the registry go on. Of a registry that threads share, a crew of four tells how many leases have
+//! expired, will soon, and last longer, while three others write it.
 //!
 //! What it prints is stored beside it. It fails, with status 1, where memory or the output does.
 #![tactic(auto)]
 
 mod fault;
 mod lease;
+mod outlook;
 mod queries;
+mod shared;
 mod tour;
 
+use crate::fault::Fault;
 use std::process::ExitCode;
+use std::rt::Runtime;
+use std::sync::Wait;
+use std::thread::Threads;
 
 fn main(rt: HostRuntime) -> ExitCode {
-    match tour::tour(&rt) {
+    match run(&rt) {
         Ok(()) => ExitCode::SUCCESS,
         Err(fault) => {
             let _ = rt.eprintln(format_args!("expiry: {fault}"));
             ExitCode::FAILURE
         }
     }
+}
+
+// One registry after the other.
+fn run<R: Runtime + AllocGlobal + Threads + Wait + Sync>(rt: &R) -> Result<(), Fault> {
+    tour::tour(rt)?;
+    shared::tour(rt)
 }
