@@ -27,7 +27,11 @@ const NO_LEASES: Outlook = Outlook {
 
 impl fmt::Display for Outlook {
     fn fmt<W: fmt::Write>(&self, f: &mut fmt::Formatter<W>) -> fmt::Result {
-        write!(f, "{} expired, {} expiring, {} lasting", self.expired, self.expiring, self.lasting)
+        write!(
+            f,
+            "{} expired, {} expiring, {} lasting",
+            self.expired, self.expiring, self.lasting
+        )
     }
 }
 
