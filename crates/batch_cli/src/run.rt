@@ -47,8 +47,9 @@ const LARGEST: Limits = Limits {
 /// writes a line for each, in the order of all numbers: its number, a space and its reply. All replies are there before
 /// the first is written. It gives the journal of the run.
 ///
-/// A crew of its own works each bulk verb. A client asks the gate before each of its lines. The clients are those from 0 to the greatest number in the script;
-/// one without a line ends at once. A client whose thread cannot be started runs on the caller's after the others.
+/// A crew of its own works each bulk verb. A client asks the gate before each of its lines. The clients are those from 0
+/// to the greatest number in the script; one without a line ends at once. A client whose thread cannot be started runs
+/// on the caller's after the others.
 ///
 /// # Errors
 ///

@@ -1,14 +1,15 @@
 -- What clap's matches have for an option that takes a number.
-use Rattle.std.proofs.Common.{◌≡◌, ◌≢◌, ◌∙◌, ◌<◌, ◌≤◌, ◌^◌, ◌∷◌, ℕ, Bool, true, false, zero, suc, List, [], length, map, Option, Some, None, codes, slice_index_or, arith, refl, sym, ap, subst, inl, inr}
+use Rattle.std.proofs.Common.{◌≡◌, ◌≢◌, ◌∙◌, ◌<◌, ◌≤◌, ◌==◌, ◌^◌, ◌∷◌, ℕ, Bool, true, false, List, [], length, map, Option, Some, None, codes, slice_index_or, arith, refl, sym, ap, subst, inl, inr, eqb-true, zero-add}
 use Rattle.std.specs.Prelude.{All, option_map, pos, slice_get}
+use Rattle.std.specs.List.{range_with_len}
 use Rattle.std.specs.Borrow.{Bor}
 use Rattle.std.specs.Option.{option_map_or}
 use Rattle.std.specs.Str.{bytes_eq}
 use Rattle.std.proofs.lemmas.List.{get_or-map, length-map}
 use Rattle.std.proofs.lemmas.List.Elements.{All-get_or}
+use Rattle.std.proofs.lemmas.List.FromFn.{get_or-map-range_with_len}
 use Rattle.std.proofs.lemmas.Slice.Eq.{bytes_eq-Decides}
-use Rattle.clap.specs.Words.{App, IsParsedFrom, IsSignedIn, Rule, Text, app_of, args_of, found_of, groups_of, matched_of, one_text, parser_of, read_as, reading_of, rule_of, shape_of, without_minus, Accepts}
-use Rattle.clap.specs.Built.{SameRules}
+use Rattle.clap.specs.Words.{App, IsParsedFrom, IsSignedIn, Rule, Text, app_of, args_of, found_of, groups_of, matched_of, one_text, parser_of, read_as, reading_of, rule_of, without_minus, Accepts}
 use Rattle.clap.specs.Facts.{Entry, EntryPasses, HasReading, PassesArg, parser_of_value}
 use Rattle.clap.specs.declared.builder.arg.Arg.{Arg}
 use Rattle.clap.specs.declared.builder.command.Command.{Command}
@@ -106,42 +107,28 @@ module _ (c : Command) (m : ArgMatches) (grammar : app_of c ≡ command_line) (p
             let entry = entry_is x found.0 found.1 ((bytes_eq-Decides found.0.0.now name).0 found.2) found.3 in
             first_read x.vals.items x.reading t entry.0 entry.1 (rw is at has)
 
--- texts that begin otherwise are two
-begins_otherwise : (one other : Text) → slice_index_or one 0 0 ≢ slice_index_or other 0 0 → one ≢ other
-begins_otherwise one other differs is = differs (ap (λ (t : Text). slice_index_or t 0 0) is)
+-- a text that the test tells from the name is another
+told_apart : (text name : Text) → bytes_eq text name ≡ false → name ≢ text
+told_apart text name h is = let same : bytes_eq text name ≡ true = (bytes_eq-Decides text name).1 (sym is) in cc
 
--- the workers and the grain stand alone
-workers_alone : StandsAlone 0 (codes "workers")
-workers_alone = (go, begins_otherwise _ _ (omega arith), begins_otherwise _ _ (omega arith), begins_otherwise _ _ (omega arith))
+-- a name that the rule at this place has alone, and that is none of clap's own, stands alone
+stands_alone : (k : ℕ) (name : Text) → map (λ (r : Rule). bytes_eq r.id name) rules ≡ map (λ (j : ℕ). j == k) (range_with_len 0 5) → bytes_eq [] name ≡ false → bytes_eq (codes "help") name ≡ false → bytes_eq (codes "version") name ≡ false → StandsAlone k name
+stands_alone k name only some no_help no_version = (at, told_apart [] name some, told_apart (codes "help") name no_help, told_apart (codes "version") name no_version)
   where
-    go : (j : ℕ) (r : Rule) → j < 5 → bytes_eq (slice_index_or rules j r).id (codes "workers") ≡ true → j ≡ 0
-    go zero r lt is = refl
-    go (suc zero) r lt is = cc
-    go (suc (suc zero)) r lt is = cc
-    go (suc (suc (suc zero))) r lt is = cc
-    go (suc (suc (suc (suc zero)))) r lt is = cc
-    go (suc (suc (suc (suc (suc j))))) r lt is = absurd (omega arith)
-
-grain_alone : StandsAlone 1 (codes "grain")
-grain_alone = (go, begins_otherwise _ _ (omega arith), begins_otherwise _ _ (omega arith), begins_otherwise _ _ (omega arith))
-  where
-    go : (j : ℕ) (r : Rule) → j < 5 → bytes_eq (slice_index_or rules j r).id (codes "grain") ≡ true → j ≡ 1
-    go zero r lt is = cc
-    go (suc zero) r lt is = refl
-    go (suc (suc zero)) r lt is = cc
-    go (suc (suc (suc zero))) r lt is = cc
-    go (suc (suc (suc (suc zero)))) r lt is = cc
-    go (suc (suc (suc (suc (suc j))))) r lt is = absurd (omega arith)
+    at : (j : ℕ) (r : Rule) → j < 5 → bytes_eq (slice_index_or rules j r).id name ≡ true → j ≡ k
+    at j r below is =
+        let test : (j == k) ≡ true = sym (get_or-map-range_with_len (λ (i : ℕ). i == k) 0 5 j j true below (zero-add j)) ∙ ap (λ (tests : List Bool). slice_index_or tests j true) (sym only) ∙ get_or-map (λ (x : Rule). bytes_eq x.id name) rules j r true below ∙ is in
+        eqb-true j k test
 
 -- the text that is read for an option is that of a number in its range
 abbrev pub ReadsTo : ArgMatches → Text → ℕ → Type 0
 ReadsTo m name most = (t : Text) → one_text (found_of m) name ≡ Some t → (v : Text) × (t ≡ without_minus v) × IsSignedIn (pos 1) (pos most) v
 
 pub workers_read : (c : Command) (m : ArgMatches) → app_of c ≡ command_line → IsParsedFrom c m → ReadsTo m (codes "workers") 16
-workers_read c m grammar p = number_read c m grammar p 0 16 (codes "workers") (codes "4") (omega arith) (λ r. refl) workers_alone
+workers_read c m grammar p = number_read c m grammar p 0 16 (codes "workers") (codes "4") (omega arith) (λ r. refl) (stands_alone 0 (codes "workers") refl refl refl refl)
 
 pub grain_read : (c : Command) (m : ArgMatches) → app_of c ≡ command_line → IsParsedFrom c m → ReadsTo m (codes "grain") 65536
-grain_read c m grammar p = number_read c m grammar p 1 65536 (codes "grain") (codes "1024") (omega arith) (λ r. refl) grain_alone
+grain_read c m grammar p = number_read c m grammar p 1 65536 (codes "grain") (codes "1024") (omega arith) (λ r. refl) (stands_alone 1 (codes "grain") refl refl refl refl)
 
 -- the number that is given for an option is that of its text, or the usual one, and in the option's range
 pub number_given : (given : Option Text) (most usual n : ℕ) → 1 ≤ usual → usual ≤ most → most < 2 ^ 32
