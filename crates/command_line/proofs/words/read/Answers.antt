@@ -1,4 +1,4 @@
-use Rattle.std.proofs.Common.{ap, arith, map, sym, false, List, ℕ, ◌≡◌, ◌∙◌, codes, Ok}
+use Rattle.std.proofs.Common.{ap, arith, map, false, ◌∙◌, codes, Ok}
 use Rattle.std.specs.Borrow.{Bor}
 use Rattle.std.specs.Option.{option_map_or}
 use Rattle.std.specs.Str.{bytes_eq}
