@@ -2,7 +2,6 @@
 //! program, which `tests/programs` compares.
 mod audits;
 mod clients;
-mod command_line;
 mod contention;
 mod entries;
 mod events;
@@ -11,6 +10,7 @@ mod gates;
 mod journals;
 mod memory;
 mod scripts;
+mod words;
 
 ghost use Rattle.batch_cli.specs.CommandLine.{AreInRange};
 
