@@ -1,8 +1,9 @@
 //! What seats of a shared map are told, by hand and beside a plain program.
+mod bulk;
 mod clients;
-mod due;
 mod ends;
 mod entries;
+mod freeing;
 mod getting;
 mod jobs;
 mod making;
@@ -16,9 +17,10 @@ mod replay;
 mod requests;
 mod rows;
 mod script;
+mod steps;
 mod torn;
-mod views;
 mod waiting;
+mod wanting;
 
 use handles::Limits;
 use std::fmt::Debug;

@@ -1,34 +1,34 @@
 //! Two clients, each on a thread of its own.
 ghost use Rattle.std.specs.Prelude.{⊤};
 
-use super::entries::{TestClosed, assert_filed, entries_of};
-use super::making::make;
+use super::entries::{Entered, Exchange, TestClosed, entries_of, value_at};
+use super::making::act;
 use super::model::assert_replayed;
 use super::outcomes::Outcome;
 use super::questions::Query;
-use super::requests::{Do, Request, on, open, put};
+use super::requests::Do::{Put, PutIfAbsent};
+use super::requests::Request::{On, Open};
+use super::requests::{Deed, Request};
 use super::{A, LARGEST, assert_is};
 use locked_map::{Client, MOST_SEATS, Room, Seat, SharedMap, with_clients};
-use std::alloc::{AllocError, Global};
+use std::alloc::Global;
 use std::process::Abort;
 use std::sync::Wait;
-use std::test::Fail;
 use std::thread::Threads;
 use test_keys::ChosenKey;
 use versions::Refusal;
 
-// How often the two run.
-const TIMES: u32 = 200;
+// How often two clients run.
+const TIMES: u32 = 300;
 
-// A client that makes two requests, one after another, and tells what it was told.
+// A client that opens handle 1, and does something then. It comes to what it was told of both.
 #[derive(Drop)]
-struct Pair {
-    first: Request,
-    second: Request,
+struct Opener {
+    then: Deed,
 }
 
-impl Client<ChosenKey, u64, Query> for Pair {
-    type Out = Result<(Outcome, Outcome), Refusal>;
+impl Client<ChosenKey, u64, Query> for Opener {
+    type Out = (Outcome, Outcome);
 
     ghost needs = { λ _. ⊤ };
 
@@ -40,88 +40,106 @@ impl Client<ChosenKey, u64, Query> for Pair {
         alloc: Global,
         map: &SharedMap<ChosenKey, u64, Query, J>,
         seat: &mut Seat<ChosenKey, u64, Query, J>,
-    ) -> Result<(Outcome, Outcome), Refusal> {
+    ) -> (Outcome, Outcome) {
         let mut tickets = Vec::new(alloc);
-        let first = make(rt, alloc, map, seat, &mut tickets, self.first)?;
-        let second = make(rt, alloc, map, seat, &mut tickets, self.second)?;
-        Ok((first, second))
+        let opened = act(rt, alloc, map, seat, &mut tickets, FIRST);
+        let then = act(rt, alloc, map, seat, &mut tickets, self.then);
+        (opened, then)
     }
 }
 
-// What a client was told of its two requests.
-type Two = (Outcome, Outcome);
+const FIRST: Deed = Deed::Ask(Open(1));
 
-fn put_one() -> Request {
-    put(A, 1)
+// What the first and the second client were told.
+type Two = ((Outcome, Outcome), (Outcome, Outcome));
+
+// Two such clients, each with what it does then: what they were told, and what is left of the map.
+fn run_two<R: AllocGlobal + Abort + Threads + Wait + Sync>(
+    rt: &R,
+    first: Deed,
+    second: Deed,
+) -> (Two, TestClosed) {
+    let mut clients = Vec::new(rt.alloc());
+    for then in [first, second] {
+        clients.push(Opener { then }).expect(rt, "no room");
+    }
+    assert!(rt; clients.len() <= MOST_SEATS as usize);
+    let run = with_clients(rt, rt.alloc(), LARGEST, clients);
+    let (outs, closed) = run.expect(rt, "no journal");
+    let one = outs.first().copied().expect(rt, "no first client");
+    let two = outs.get(1).copied().expect(rt, "no second client");
+    ((one, two), closed)
 }
 
-fn add_two() -> Request {
-    on(1, Do::PutIfAbsent(A, 2))
+// One of them opened the handle.
+fn assert_opened(rt: &impl Abort, told: Two) {
+    let taken = Outcome::Refused(Refusal::Taken);
+    let (one, two) = told;
+    let opened = (one.0, two.0);
+    assert!(rt; opened == (Outcome::Unit, taken) || opened == (taken, Outcome::Unit));
+}
+
+const PUT_ONE: Request = On(1, Put(A, 1));
+
+const ADD_TWO: Request = On(1, PutIfAbsent(A, 2));
+
+// One put was the first.
+fn assert_put(rt: &impl Abort, told: Two) {
+    let none = Outcome::Old(None);
+    let (one, two) = told;
+    let put = (one.1, two.1);
+    assert!(rt; put == (none, Outcome::Old(Some(1))) || put == (Outcome::Old(Some(2)), none));
+}
+
+// The seat has these two entries, in order.
+fn assert_filed(rt: &impl Abort, entries: &[Entered], seat: u32, wanted: [Exchange; 2]) {
+    let mut rest = wanted.iter();
+    for entry in entries {
+        if entry.seat == seat {
+            let exchange = rest.next().copied();
+            assert_is(rt, Some((entry.request, entry.outcome)), exchange);
+        }
+    }
+    assert_is(rt, rest.next().copied(), None);
+}
+
+// The journal has what both were told, and nothing else.
+fn assert_journal(rt: &impl Abort, alloc: Global, closed: &TestClosed, told: Two) {
+    let entries = entries_of(rt, alloc, closed);
+    assert_is(rt, entries.len(), 4);
+    let (one, two) = told;
+    assert_filed(rt, &entries, 0, [(Open(1), one.0), (PUT_ONE, one.1)]);
+    assert_filed(rt, &entries, 1, [(Open(1), two.0), (ADD_TWO, two.1)]);
+    assert_replayed(rt, alloc, LARGEST, closed, &entries);
 }
 
 // Both open the handle. Then one puts a value, and the other one puts another if there is none.
-fn both_clients(alloc: Global) -> Result<Vec<Pair>, AllocError> {
-    let mut clients = Vec::new(alloc);
-    for second in [put_one(), add_two()] {
-        clients.push(Pair {
-            first: open(1),
-            second,
-        })?;
-    }
-    Ok(clients)
-}
-
-// What both were told, where they were.
-fn both_told(outs: Vec<Result<Two, Refusal>>) -> Result<(Two, Two), Fail> {
-    let mut outs = outs.into_iter();
-    let one = outs.next().ok_or("what the first came to")??;
-    let two = outs.next().ok_or("what the second came to")??;
-    Ok((one, two))
-}
-
-// One opened the handle, and one put was the first.
-fn assert_told(rt: &impl Abort, one: Two, two: Two) {
-    let taken = Outcome::Refused(Refusal::Taken);
-    let opened = [(Outcome::Unit, taken), (taken, Outcome::Unit)];
-    assert!(rt; opened.contains(&(one.0, two.0)));
-    let put = [
-        (Outcome::Old(None), Outcome::Old(Some(1))),
-        (Outcome::Old(Some(2)), Outcome::Old(None)),
-    ];
-    assert!(rt; put.contains(&(one.1, two.1)));
-}
-
-// The journal has what both were told.
-fn assert_journal(
-    rt: &impl Abort,
-    alloc: Global,
-    closed: &TestClosed,
-    one: Two,
-    two: Two,
-) -> Result<(), Fail> {
-    assert_is(rt, closed.journal.len(), 4);
-    let entries = entries_of(alloc, closed)?;
-    let filed = [(open(1), one.0), (put_one(), one.1)];
-    assert_filed(rt, alloc, &entries, 0, &filed)?;
-    let filed = [(open(1), two.0), (add_two(), two.1)];
-    assert_filed(rt, alloc, &entries, 1, &filed)?;
-    assert_replayed(rt, alloc, LARGEST, closed, &entries)
-}
-
-fn one_round<R: AllocGlobal + Abort + Threads + Wait + Sync>(rt: &R) -> Result<(), Fail> {
-    let alloc = rt.alloc();
-    let clients = both_clients(alloc)?;
-    assert!(rt; clients.len() <= MOST_SEATS as usize);
-    let (outs, closed) = with_clients(rt, alloc, LARGEST, clients)?;
-    let (one, two) = both_told(outs)?;
-    assert_told(rt, one, two);
-    assert_journal(rt, alloc, &closed, one, two)
-}
-
 #[test]
-fn two_clients_open_one_handle_and_put_one_key(rt: HostRuntime) -> Result<(), Fail> {
+fn two_clients_open_one_handle_and_put_one_key(rt: HostRuntime) {
     for _ in 0..TIMES {
-        one_round(&rt)?;
+        let (told, closed) = run_two(&rt, Deed::Ask(PUT_ONE), Deed::Ask(ADD_TWO));
+        assert_opened(&rt, told);
+        assert_put(&rt, told);
+        assert_journal(&rt, rt.alloc(), &closed, told);
     }
-    Ok(())
+}
+
+// What was got.
+fn value_in(told: Outcome) -> Option<u64> {
+    match told {
+        Outcome::Got(_, value) => Some(value),
+        _ => None,
+    }
+}
+
+// Both get the value of one key, or store 1 or 2: they get the same, which is the one that the map has then.
+#[test]
+fn two_clients_get_the_same_value(rt: HostRuntime) {
+    for _ in 0..TIMES {
+        let (first, second) = (Deed::GetOrStore(1, A, 1), Deed::GetOrStore(1, A, 2));
+        let ((one, two), closed) = run_two(&rt, first, second);
+        let stored = value_at(&closed, 1, A);
+        assert!(rt; stored == Some(1) || stored == Some(2));
+        assert_is(&rt, (value_in(one.1), value_in(two.1)), (stored, stored));
+    }
 }

@@ -1,12 +1,14 @@
 //! Refusals that are entries, and those that are not.
 use super::outcomes::{NOTHING, Outcome};
 use super::questions::{ALL, EVEN, Question};
-use super::requests::{Do, Request, drop_handle, get, on, open, put, snapshot};
-use super::script::Step::Ask;
+use super::requests::Do::{Get, Put, PutIfAbsent, Size};
+use super::requests::Request;
+use super::requests::Request::{Abandon, Finish, Freeze, On, Open, Snapshot, View};
 use super::script::assert_steps;
-use super::{A, B, LARGEST, assert_is};
+use super::steps::Step::{Ask, Dry};
+use super::steps::{Step, filled};
+use super::{A, B, LARGEST};
 use handles::Limits;
-use std::test::Fail;
 use versions::Refusal;
 
 const NO_HANDLE: Outcome = Outcome::Refused(Refusal::NoHandle);
@@ -21,92 +23,114 @@ const JOURNAL_FULL: Outcome = Outcome::Refused(Refusal::JournalFull);
 
 const TOO_MANY_JOBS: Outcome = Outcome::Refused(Refusal::TooManyJobs);
 
-const COUNT: Request = Request::Freeze(1, Question::Count(ALL));
+const COUNT: Request = Freeze(1, Question::Count(ALL));
+
+const FOUR_ENTRIES: Limits = Limits {
+    pairs: 16,
+    entries: 4,
+};
+
+const FULL_JOURNAL: [Step; 7] = [
+    Ask(0, Open(1), Outcome::Unit),
+    Ask(0, COUNT, Outcome::Frozen(0, NOTHING)),
+    Ask(0, On(1, Put(A, 1)), JOURNAL_FULL),
+    Ask(0, View(1), JOURNAL_FULL),
+    Ask(0, COUNT, JOURNAL_FULL),
+    Ask(0, Finish(0), Outcome::Count(0)),
+    Ask(0, On(1, Get(A)), JOURNAL_FULL),
+];
 
 #[test]
-fn a_full_journal_is_no_entry(rt: HostRuntime) -> Result<(), Fail> {
-    let limits = Limits {
-        pairs: 16,
-        entries: 4,
-    };
-    let steps = [
-        Ask(0, open(1), Outcome::Unit),
-        Ask(0, COUNT, Outcome::Frozen(0, NOTHING)),
-        Ask(0, put(A, 1), JOURNAL_FULL),
-        Ask(0, Request::View(1), JOURNAL_FULL),
-        Ask(0, COUNT, JOURNAL_FULL),
-        Ask(0, Request::Finish(0), Outcome::Count(0)),
-        Ask(0, get(A), JOURNAL_FULL),
-    ];
-    let closed = assert_steps(&rt, 1, limits, &steps)?;
-    assert_is(&rt, closed.journal.len(), 3);
-    Ok(())
+fn a_full_journal_is_no_entry(rt: HostRuntime) {
+    assert_steps(&rt, 1, FOUR_ENTRIES, &FULL_JOURNAL);
 }
 
-#[test]
-fn refusals_of_handles_are_entries(rt: HostRuntime) -> Result<(), Fail> {
-    let steps = [
-        Ask(0, get(A), NO_HANDLE),
-        Ask(0, snapshot(1, 2), NO_HANDLE),
-        Ask(0, drop_handle(1), NO_HANDLE),
-        Ask(0, Request::View(1), NO_HANDLE),
-        Ask(0, COUNT, NO_HANDLE),
-        Ask(0, open(1), Outcome::Unit),
-        Ask(0, open(1), TAKEN),
-        Ask(0, snapshot(1, 1), TAKEN),
-        Ask(0, Request::Freeze(1, Question::Filter(EVEN, 1)), TAKEN),
-        Ask(0, open(1_024), BAD_NUMBER),
-        Ask(0, on(1_024, Do::Size), BAD_NUMBER),
-        Ask(0, snapshot(1, 1_024), BAD_NUMBER),
-        Ask(0, Request::View(1_024), BAD_NUMBER),
-        Ask(0, Request::Freeze(1, Question::Zeros(1_024)), BAD_NUMBER),
-    ];
-    let closed = assert_steps(&rt, 1, LARGEST, &steps)?;
-    assert_is(&rt, closed.journal.len(), 14);
-    Ok(())
-}
+// Room for as many entries as are made before, with one to spare: a journal is full when fewer than two are left.
+const FEW_ENTRIES: Limits = Limits {
+    pairs: 16,
+    entries: 33,
+};
 
+// Each of the calls would need memory for its entry, but makes none. It catches a call that looks for room first.
 #[test]
-fn a_full_map_is_an_entry(rt: HostRuntime) -> Result<(), Fail> {
-    let limits = Limits {
-        pairs: 1,
-        entries: 16,
-    };
-    let steps = [
-        Ask(0, open(1), Outcome::Unit),
-        Ask(0, put(A, 1), Outcome::Old(None)),
-        Ask(0, put(B, 2), FULL),
-        Ask(0, on(1, Do::PutIfAbsent(B, 2)), FULL),
-        Ask(0, put(A, 3), Outcome::Old(Some(1))),
-    ];
-    let closed = assert_steps(&rt, 1, limits, &steps)?;
-    assert_is(&rt, closed.journal.len(), 5);
-    Ok(())
-}
-
-#[test]
-fn sixty_four_jobs_may_be_open(rt: HostRuntime) -> Result<(), Fail> {
-    let mut steps = Vec::new(rt.alloc());
-    steps.push(Ask(0, open(1), Outcome::Unit))?;
-    for job in 0..64 {
-        steps.push(Ask(0, COUNT, Outcome::Frozen(job, NOTHING)))?;
+fn a_full_journal_is_told_whatever_the_memory(rt: HostRuntime) {
+    let mut steps = filled(&rt, rt.alloc(), &[Ask(0, Open(1), Outcome::Unit)], 32, 0);
+    for request in [On(1, Get(A)), View(1), COUNT] {
+        steps
+            .push(Dry(0, request, JOURNAL_FULL))
+            .expect(&rt, "no room");
     }
-    steps.push(Ask(0, COUNT, TOO_MANY_JOBS))?;
-    steps.push(Ask(0, Request::Abandon(0), Outcome::Abandoned))?;
-    steps.push(Ask(0, COUNT, Outcome::Frozen(64, NOTHING)))?;
-    steps.push(Ask(0, COUNT, TOO_MANY_JOBS))?;
-    let closed = assert_steps(&rt, 1, LARGEST, &steps)?;
-    assert_is(&rt, closed.journal.len(), 69);
-    Ok(())
+    assert_steps(&rt, 1, FEW_ENTRIES, &steps);
 }
 
+const OF_HANDLES: [Step; 14] = [
+    Ask(0, On(1, Get(A)), NO_HANDLE),
+    Ask(0, Snapshot(1, 2), NO_HANDLE),
+    Ask(0, Request::Drop(1), NO_HANDLE),
+    Ask(0, View(1), NO_HANDLE),
+    Ask(0, COUNT, NO_HANDLE),
+    Ask(0, Open(1), Outcome::Unit),
+    Ask(0, Open(1), TAKEN),
+    Ask(0, Snapshot(1, 1), TAKEN),
+    Ask(0, Freeze(1, Question::Filter(EVEN, 1)), TAKEN),
+    Ask(0, Open(1_024), BAD_NUMBER),
+    Ask(0, On(1_024, Size), BAD_NUMBER),
+    Ask(0, Snapshot(1, 1_024), BAD_NUMBER),
+    Ask(0, View(1_024), BAD_NUMBER),
+    Ask(0, Freeze(1, Question::Zeros(1_024)), BAD_NUMBER),
+];
+
 #[test]
-fn a_map_may_have_sixty_four_seats(rt: HostRuntime) -> Result<(), Fail> {
-    let steps = [
-        Ask(63, open(1), Outcome::Unit),
-        Ask(62, put(A, 1), Outcome::Old(None)),
-        Ask(0, get(A), Outcome::Old(Some(1))),
-    ];
-    assert_steps(&rt, 64, LARGEST, &steps)?;
-    Ok(())
+fn refusals_of_handles_are_entries(rt: HostRuntime) {
+    assert_steps(&rt, 1, LARGEST, &OF_HANDLES);
+}
+
+const ONE_PAIR: Limits = Limits {
+    pairs: 1,
+    entries: 16,
+};
+
+const FULL_MAP: [Step; 5] = [
+    Ask(0, Open(1), Outcome::Unit),
+    Ask(0, On(1, Put(A, 1)), Outcome::Old(None)),
+    Ask(0, On(1, Put(B, 2)), FULL),
+    Ask(0, On(1, PutIfAbsent(B, 2)), FULL),
+    Ask(0, On(1, Put(A, 3)), Outcome::Old(Some(1))),
+];
+
+#[test]
+fn a_full_map_is_an_entry(rt: HostRuntime) {
+    assert_steps(&rt, 1, ONE_PAIR, &FULL_MAP);
+}
+
+const AFTER_64_JOBS: [Step; 4] = [
+    Ask(0, COUNT, TOO_MANY_JOBS),
+    Ask(0, Abandon(0), Outcome::Abandoned),
+    Ask(0, COUNT, Outcome::Frozen(64, NOTHING)),
+    Ask(0, COUNT, TOO_MANY_JOBS),
+];
+
+#[test]
+fn sixty_four_jobs_may_be_open(rt: HostRuntime) {
+    let mut steps = filled(&rt, rt.alloc(), &[Ask(0, Open(1), Outcome::Unit)], 1, 0);
+    for job in 0..64 {
+        steps
+            .push(Ask(0, COUNT, Outcome::Frozen(job, NOTHING)))
+            .expect(&rt, "no room");
+    }
+    for step in AFTER_64_JOBS {
+        steps.push(step).expect(&rt, "no room");
+    }
+    assert_steps(&rt, 1, LARGEST, &steps);
+}
+
+const BY_THREE_OF_64: [Step; 3] = [
+    Ask(63, Open(1), Outcome::Unit),
+    Ask(62, On(1, Put(A, 1)), Outcome::Old(None)),
+    Ask(0, On(1, Get(A)), Outcome::Old(Some(1))),
+];
+
+#[test]
+fn a_map_may_have_sixty_four_seats(rt: HostRuntime) {
+    assert_steps(&rt, 64, LARGEST, &BY_THREE_OF_64);
 }

@@ -3,9 +3,8 @@ use super::outcomes::{Outcome, outcome_of};
 use super::questions::Query;
 use super::requests::{Request, key_of, request_of};
 use locked_map::{Closed, Entry};
-use std::alloc::{AllocError, Global};
+use std::alloc::Global;
 use std::process::Abort;
-use std::test::Fail;
 use test_keys::ChosenKey;
 
 /// What is left of a map of the tests.
@@ -30,45 +29,22 @@ fn plainly(entry: &Entry<ChosenKey, u64, Query, i128>) -> Entered {
     }
 }
 
+// The entry at the place of the journal.
+fn entry_at(closed: &TestClosed, place: usize) -> Option<Entered> {
+    match closed.journal.entry(place) {
+        Some(entry) => Some(plainly(entry)),
+        None => None,
+    }
+}
+
 /// The entries of the journal, in order.
-pub fn entries_of(alloc: Global, closed: &TestClosed) -> Result<Vec<Entered>, Fail> {
+pub fn entries_of(rt: &impl Abort, alloc: Global, closed: &TestClosed) -> Vec<Entered> {
     let mut entries = Vec::new(alloc);
     for place in 0..closed.journal.len() {
-        let entry = closed
-            .journal
-            .entry(place)
-            .ok_or("an entry of the journal")?;
-        entries.push(plainly(entry))?;
+        let entry = entry_at(closed, place).expect(rt, "no entry");
+        entries.push(entry).expect(rt, "no room");
     }
-    Ok(entries)
-}
-
-// What a seat asked and was told by these entries.
-fn exchanges_of(
-    alloc: Global,
-    entries: &[Entered],
-    seat: u32,
-) -> Result<Vec<Exchange>, AllocError> {
-    let mut exchanges = Vec::new(alloc);
-    for entry in entries {
-        if entry.seat == seat {
-            exchanges.push((entry.request, entry.outcome))?;
-        }
-    }
-    Ok(exchanges)
-}
-
-/// The seat has these entries, in order.
-pub fn assert_filed(
-    rt: &impl Abort,
-    alloc: Global,
-    entries: &[Entered],
-    seat: u32,
-    wanted: &[Exchange],
-) -> Result<(), Fail> {
-    let filed = exchanges_of(alloc, entries, seat)?;
-    assert_eq!(rt; filed.as_slice(), wanted, "entries of seat {seat}");
-    Ok(())
+    entries
 }
 
 /// The value of the key on the handle, where it has one.

@@ -1,12 +1,16 @@
-//! How a seat makes requests that are plain values.
-use super::outcomes::{Outcome, seen_in, told_of_answer, told_of_call, told_of_view};
-use super::questions::{Query, Question, query_of, worked};
-use super::requests::{Request, call_of, shared_key};
-use locked_map::{Room, Seat, SharedMap, Ticket};
+//! How a seat does what is a plain value.
+//!
+//! Nothing here returns early, and what the test itself lacks is an outcome too, which no test wants: so no function
+//! has values to let go on the way.
+use super::outcomes::{Outcome, seen_in, told_of_answer, told_of_call, told_of_got, told_of_view};
+use super::questions::{Query, worked};
+use super::requests::{Deed, Prepared, prepare};
+use handles::Call;
+use locked_map::{Crew, Free, Gate, Room, Seat, SharedMap, Ticket};
 use std::alloc::Global;
 use std::sync::{Arc, Wait};
+use std::thread::Threads;
 use test_keys::ChosenKey;
-use versions::Refusal;
 
 /// A map of the tests.
 pub type TestMap<J> = SharedMap<ChosenKey, u64, Query, J>;
@@ -17,45 +21,95 @@ pub type TestSeat<J> = Seat<ChosenKey, u64, Query, J>;
 /// A ticket of such a map.
 pub type TestTicket<J> = Ticket<ChosenKey, u64, Query, J>;
 
-/// Makes the request by the seat. A freeze adds its ticket, and the end of a job takes the ticket of its number.
-///
-/// An `Err` is the test's own: memory was wanting, or there is no such ticket.
-pub fn make<J: Room, R: Wait>(
+/// How many workers answer a bulk call. They cut the map down to single pairs, and are in no hurry to end.
+pub const WORKERS: u32 = 2;
+
+const CREW: Crew = Crew {
+    workers: WORKERS,
+    grain: 1,
+    patience: 1_000_000,
+};
+
+/// The seat does this. What opens a job adds its ticket to these, and the end of a job takes the ticket of its number.
+pub fn act<J: Room, R: Threads + Wait + Sync>(
     rt: &R,
     alloc: Global,
     map: &TestMap<J>,
     seat: &mut TestSeat<J>,
     tickets: &mut Vec<TestTicket<J>>,
-    request: Request,
-) -> Result<Outcome, Refusal> {
-    match request {
-        Request::Call(call) => Ok(told_of_call(&map.call(rt, seat, call_of(alloc, call)?))),
-        Request::View(handle) => Ok(told_of_view(&map.view(rt, seat, handle))),
-        Request::Freeze(handle, question) => {
-            freeze(rt, alloc, map, seat, tickets, handle, question)
+    deed: Deed,
+) -> Outcome {
+    match prepare(alloc, deed) {
+        Ok(prepared) => take(rt, alloc, map, seat, tickets, &prepared),
+        Err(_) => Outcome::Lost,
+    }
+}
+
+/// The seat does what was prepared, any number of times. But for a finish, which works the job, it asks for no memory
+/// but what the map asks for, where the tickets have room, and gives none back.
+pub fn take<J: Room, R: Threads + Wait + Sync>(
+    rt: &R,
+    alloc: Global,
+    map: &TestMap<J>,
+    seat: &mut TestSeat<J>,
+    tickets: &mut Vec<TestTicket<J>>,
+    prepared: &Prepared,
+) -> Outcome {
+    match prepared {
+        Prepared::Call(call) => make_call(rt, map, seat, call),
+        Prepared::View(handle) => told_of_view(&map.view(rt, seat, *handle)),
+        Prepared::Freeze(handle, query) => freeze(rt, map, seat, tickets, *handle, query),
+        Prepared::Finish(job) => finish(rt, alloc, map, seat, tickets, *job),
+        Prepared::Abandon(job) => abandon(rt, map, seat, tickets, *job),
+        Prepared::GetOrStore(handle, key, value) => {
+            get_or_store(rt, map, seat, *handle, key, *value)
         }
-        Request::Finish(job) => finish(rt, alloc, map, seat, tickets, job),
-        Request::Abandon(job) => abandon(rt, map, seat, tickets, job),
+        Prepared::Bulk(handle, query) => bulk(rt, map, seat, tickets, *handle, query, &Free),
+    }
+}
+
+// Makes the call, which shares its key and values.
+fn make_call<J: Room, R: Wait>(
+    rt: &R,
+    map: &TestMap<J>,
+    seat: &mut TestSeat<J>,
+    call: &Call<ChosenKey, u64>,
+) -> Outcome {
+    match call.try_clone::<Query>() {
+        Ok(call) => told_of_call(&map.call(rt, seat, call)),
+        Err(_) => Outcome::Lost,
     }
 }
 
 fn freeze<J: Room, R: Wait>(
     rt: &R,
-    alloc: Global,
     map: &TestMap<J>,
     seat: &mut TestSeat<J>,
     tickets: &mut Vec<TestTicket<J>>,
     handle: u32,
-    question: Question,
-) -> Result<Outcome, Refusal> {
-    let query = Arc::new(alloc, query_of(question))?;
+    query: &Arc<Query>,
+) -> Outcome {
+    let Ok(query) = Arc::try_clone(query) else {
+        return Outcome::Lost;
+    };
     match map.freeze(rt, seat, handle, query) {
         Ok(ticket) => {
             let told = Outcome::Frozen(ticket.job(), seen_in(ticket.view()));
-            tickets.push(ticket)?;
-            Ok(told)
+            kept(tickets, ticket, told)
         }
-        Err(refusal) => Ok(Outcome::Refused(refusal)),
+        Err(refusal) => Outcome::Refused(refusal),
+    }
+}
+
+// Adds the ticket: what was told, unless the ticket is lost.
+fn kept<J: Room>(
+    tickets: &mut Vec<TestTicket<J>>,
+    ticket: TestTicket<J>,
+    told: Outcome,
+) -> Outcome {
+    match tickets.push(ticket) {
+        Ok(()) => told,
+        Err(_) => Outcome::Lost,
     }
 }
 
@@ -67,15 +121,16 @@ fn finish<J: Room, R: Wait>(
     seat: &mut TestSeat<J>,
     tickets: &mut Vec<TestTicket<J>>,
     job: u64,
-) -> Result<Outcome, Refusal> {
-    let ticket = taken(tickets, job).ok_or(Refusal::NoJob)?;
-    let part = worked(alloc, ticket.view(), ticket.query())?;
+) -> Outcome {
+    let Some(ticket) = taken(tickets, job) else {
+        return Outcome::Lost;
+    };
+    let Ok(part) = worked(alloc, ticket.view(), ticket.query()) else {
+        return Outcome::Lost;
+    };
     match map.finish(rt, seat, ticket, part) {
-        Ok(answer) => Ok(told_of_answer(&answer)),
-        Err((refusal, ticket, _)) => {
-            tickets.push(ticket)?;
-            Ok(Outcome::Refused(refusal))
-        }
+        Ok(answer) => told_of_answer(&answer),
+        Err((refusal, ticket, _)) => kept(tickets, ticket, Outcome::Refused(refusal)),
     }
 }
 
@@ -85,14 +140,13 @@ fn abandon<J: Room, R: Wait>(
     seat: &mut TestSeat<J>,
     tickets: &mut Vec<TestTicket<J>>,
     job: u64,
-) -> Result<Outcome, Refusal> {
-    let ticket = taken(tickets, job).ok_or(Refusal::NoJob)?;
+) -> Outcome {
+    let Some(ticket) = taken(tickets, job) else {
+        return Outcome::Lost;
+    };
     match map.abandon(rt, seat, ticket) {
-        Ok(()) => Ok(Outcome::Abandoned),
-        Err((refusal, ticket)) => {
-            tickets.push(ticket)?;
-            Ok(Outcome::Refused(refusal))
-        }
+        Ok(()) => Outcome::Abandoned,
+        Err((refusal, ticket)) => kept(tickets, ticket, Outcome::Refused(refusal)),
     }
 }
 
@@ -102,21 +156,44 @@ pub fn taken<J: Room>(tickets: &mut Vec<TestTicket<J>>, job: u64) -> Option<Test
     Some(tickets.swap_remove(place))
 }
 
-/// Gets the key's value on the handle or stores this one: whether the value was made, and the answer.
-pub fn get_or_store<J: Room, R: Wait>(
+// Gets the key's value on the handle or stores this one.
+fn get_or_store<J: Room, R: Wait>(
     rt: &R,
-    alloc: Global,
     map: &TestMap<J>,
     seat: &mut TestSeat<J>,
     handle: u32,
-    key: u64,
+    key: &Arc<ChosenKey>,
     value: u64,
-) -> Result<(bool, Result<u64, Refusal>), Refusal> {
+) -> Outcome {
+    let Ok(key) = Arc::try_clone(key) else {
+        return Outcome::Lost;
+    };
     let mut is_made = false;
-    let key = shared_key(alloc, key)?;
     let answer = map.get_or_else_update(rt, seat, handle, key, || {
         is_made = true;
         value
     });
-    Ok((is_made, answer.map(|found| *found)))
+    told_of_got(is_made, &answer)
+}
+
+/// Has a crew answer the query, which asks the gate before each piece. A ticket that comes back is added to these.
+pub fn bulk<J: Room, G: Gate + Sync, R: Threads + Wait + Sync>(
+    rt: &R,
+    map: &TestMap<J>,
+    seat: &mut TestSeat<J>,
+    tickets: &mut Vec<TestTicket<J>>,
+    handle: u32,
+    query: &Arc<Query>,
+    gate: &G,
+) -> Outcome {
+    let Ok(query) = Arc::try_clone(query) else {
+        return Outcome::Lost;
+    };
+    match map.bulk(rt, seat, handle, query, CREW, gate) {
+        Ok(answer) => told_of_answer(&answer),
+        Err((refusal, ticket)) => match ticket {
+            Some(ticket) => kept(tickets, ticket, Outcome::Returned(refusal)),
+            None => Outcome::Refused(refusal),
+        },
+    }
 }

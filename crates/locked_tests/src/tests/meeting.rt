@@ -1,19 +1,41 @@
-//! Two seats that meet.
-use super::outcomes::Outcome;
-use super::requests::{get, open, put};
-use super::script::Step::{Ask, Meet};
+//! Two seats that meet, and a view that is kept.
+use super::outcomes::{Outcome, Seen};
+use super::requests::Do::{Get, Put};
+use super::requests::Request;
+use super::requests::Request::{On, Open};
 use super::script::assert_steps;
-use super::{A, LARGEST};
-use std::test::Fail;
+use super::steps::Step;
+use super::steps::Step::{Ask, Keep, Meet};
+use super::{A, B, LARGEST};
+
+const MET: [Step; 4] = [
+    Ask(0, Open(1), Outcome::Unit),
+    Ask(0, On(1, Put(A, 1)), Outcome::Old(None)),
+    Meet,
+    Ask(1, On(1, Get(A)), Outcome::Old(Some(1))),
+];
 
 #[test]
-fn a_put_is_seen_after_a_meeting(rt: HostRuntime) -> Result<(), Fail> {
-    let steps = [
-        Ask(0, open(1), Outcome::Unit),
-        Ask(0, put(A, 1), Outcome::Old(None)),
-        Meet,
-        Ask(1, get(A), Outcome::Old(Some(1))),
-    ];
-    assert_steps(&rt, 2, LARGEST, &steps)?;
-    Ok(())
+fn a_put_is_seen_after_a_meeting(rt: HostRuntime) {
+    assert_steps(&rt, 2, LARGEST, &MET);
+}
+
+// The value 4 of A.
+const FOUR: Seen = Seen {
+    len: 1,
+    values: [Some(4), None, None, None],
+};
+
+const VIEWED: [Step; 6] = [
+    Ask(0, Open(1), Outcome::Unit),
+    Ask(0, On(1, Put(A, 4)), Outcome::Old(None)),
+    Keep(0, 1, FOUR),
+    Ask(0, On(1, Put(A, 5)), Outcome::Old(Some(4))),
+    Ask(0, On(1, Put(B, 6)), Outcome::Old(None)),
+    Ask(0, Request::Drop(1), Outcome::Unit),
+];
+
+#[test]
+fn a_view_outlives_writes_and_its_map(rt: HostRuntime) {
+    assert_steps(&rt, 1, LARGEST, &VIEWED);
 }

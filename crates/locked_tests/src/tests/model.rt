@@ -1,13 +1,13 @@
 //! The machine of handles as a plain program over lists of pairs.
+use super::assert_is;
 use super::entries::{Entered, TestClosed};
-use super::outcomes::{Outcome, seen_in};
+use super::outcomes::{NOTHING, Outcome, Seen, seen_in};
 use super::questions::Question;
-use super::requests::{Do, Plain, Request};
+use super::requests::{Do, Request};
 use super::rows::{Row, answer, done, made, shown, value_of};
 use handles::Limits;
 use std::alloc::{AllocError, Global};
 use std::process::Abort;
-use std::test::Fail;
 use versions::Refusal;
 
 // The last handle number, and how many jobs may be open.
@@ -41,9 +41,9 @@ fn is_bad(number: Option<u32>) -> bool {
 // The handle that is read, written, dropped, frozen or snapshotted.
 fn source(request: Request) -> Option<u32> {
     match request {
-        Request::Call(Plain::Open(_)) | Request::Finish(_) | Request::Abandon(_) => None,
-        Request::Call(Plain::Snapshot(handle, _) | Plain::Drop(handle)) => Some(handle),
-        Request::Call(Plain::On(handle, _)) => Some(handle),
+        Request::Open(_) | Request::Finish(_) | Request::Abandon(_) => None,
+        Request::Snapshot(handle, _) | Request::Drop(handle) => Some(handle),
+        Request::On(handle, _) => Some(handle),
         Request::View(handle) | Request::Freeze(handle, _) => Some(handle),
     }
 }
@@ -51,7 +51,7 @@ fn source(request: Request) -> Option<u32> {
 // The number that is opened or reserved.
 fn wanted(request: Request) -> Option<u32> {
     match request {
-        Request::Call(Plain::Open(handle) | Plain::Snapshot(_, handle)) => Some(handle),
+        Request::Open(handle) | Request::Snapshot(_, handle) => Some(handle),
         Request::Freeze(_, question) => target(question),
         _ => None,
     }
@@ -144,8 +144,8 @@ impl Machine {
     // Whether a new key would be put into a map that is full.
     fn is_full(&self, request: Request) -> bool {
         let (handle, key) = match request {
-            Request::Call(Plain::On(handle, Do::Put(key, _))) => (handle, key),
-            Request::Call(Plain::On(handle, Do::PutIfAbsent(key, _))) => (handle, key),
+            Request::On(handle, Do::Put(key, _)) => (handle, key),
+            Request::On(handle, Do::PutIfAbsent(key, _)) => (handle, key),
             _ => return false,
         };
         match self.rows(handle) {
@@ -195,11 +195,20 @@ impl Machine {
         told: Outcome,
     ) -> Result<Outcome, AllocError> {
         match request {
-            Request::Call(call) => self.call(alloc, call),
-            Request::View(handle) => {
+            Request::Open(handle) => self.add(handle, Vec::new(alloc)),
+            Request::Snapshot(handle, to) => {
                 let rows = self.copy_of(alloc, handle)?;
-                Ok(Outcome::View(shown(&rows)))
+                self.add(to, rows)
             }
+            Request::Drop(handle) => {
+                self.live.retain(|live| live.0 != handle);
+                Ok(Outcome::Unit)
+            }
+            Request::On(handle, what) => match self.rows_mut(handle) {
+                Some(rows) => done(rows, what),
+                None => Ok(Outcome::Unit),
+            },
+            Request::View(handle) => Ok(Outcome::View(self.shown_at(handle))),
             Request::Freeze(handle, question) => self.freeze(alloc, handle, question),
             Request::Finish(job) => self.finish(alloc, job, told),
             Request::Abandon(job) => {
@@ -209,21 +218,18 @@ impl Machine {
         }
     }
 
-    fn call(&mut self, alloc: Global, call: Plain) -> Result<Outcome, AllocError> {
-        match call {
-            Plain::Open(handle) => self.live.push((handle, Vec::new(alloc)))?,
-            Plain::Snapshot(handle, to) => {
-                let rows = self.copy_of(alloc, handle)?;
-                self.live.push((to, rows))?;
-            }
-            Plain::Drop(handle) => self.live.retain(|live| live.0 != handle),
-            Plain::On(handle, what) => {
-                if let Some(rows) = self.rows_mut(handle) {
-                    return done(rows, what);
-                }
-            }
-        }
+    // Opens the handle with these rows.
+    fn add(&mut self, handle: u32, rows: Vec<Row>) -> Result<Outcome, AllocError> {
+        self.live.push((handle, rows))?;
         Ok(Outcome::Unit)
+    }
+
+    // What a view of the handle shows.
+    fn shown_at(&self, handle: u32) -> Seen {
+        match self.rows(handle) {
+            Some(rows) => shown(rows),
+            None => NOTHING,
+        }
     }
 
     fn freeze(
@@ -261,21 +267,20 @@ impl Machine {
     }
 
     // The table has the same handles, each with the same pairs, and the same open jobs and number of entries.
-    fn assert_like(&self, rt: &impl Abort, closed: &TestClosed) -> Result<(), Fail> {
+    fn assert_like(&self, rt: &impl Abort, closed: &TestClosed) {
         for (handle, place) in (0u32..).zip(closed.table.places()) {
             let here = match place {
-                Some(version) => Some(seen_in(&version.view()?)),
+                Some(version) => Some(seen_in(&version.view().expect(rt, "no view"))),
                 None => None,
             };
             let there = self.rows(handle).map(|rows| shown(rows));
-            assert_eq!(rt; here, there, "handle {handle}");
+            assert_is(rt, (handle, here), (handle, there));
         }
         for job in 0..=self.next {
             let is_open = closed.table.foresee_abandon(job).is_ok();
-            assert_eq!(rt; is_open, self.is_open(job), "job {job}");
+            assert_is(rt, (job, is_open), (job, self.is_open(job)));
         }
-        assert_eq!(rt; closed.table.entries(), self.entries);
-        Ok(())
+        assert_is(rt, closed.table.entries(), self.entries);
     }
 }
 
@@ -286,11 +291,20 @@ pub fn assert_replayed(
     limits: Limits,
     closed: &TestClosed,
     entries: &[Entered],
-) -> Result<(), Fail> {
+) {
     let mut machine = Machine::new(alloc, limits);
     for entry in entries {
-        let told = machine.told(alloc, entry.request, entry.outcome)?;
-        assert_eq!(rt; told, entry.outcome, "{entry:?}");
+        let Entered {
+            request,
+            outcome,
+            ..
+        } = *entry;
+        let told = machine.told(alloc, request, outcome);
+        assert_is(
+            rt,
+            (request, told.expect(rt, "no memory")),
+            (request, outcome),
+        );
     }
-    machine.assert_like(rt, closed)
+    machine.assert_like(rt, closed);
 }

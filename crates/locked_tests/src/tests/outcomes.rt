@@ -4,6 +4,7 @@ use super::requests::key_of;
 use bulk_ops::Answer;
 use handles::{CallReply, Reply};
 use locked_map::Told;
+use std::sync::Arc;
 use test_keys::ChosenKey;
 use versions::{Refusal, View};
 
@@ -37,6 +38,14 @@ pub enum Outcome {
     Total(i128),
     Abandoned,
     Refused(Refusal),
+    /// A value was got or stored: whether it was made for that, and which it is.
+    Got(bool, u64),
+    /// None was, and whether one was made.
+    NotGot(bool, Refusal),
+    /// A bulk call was refused, and the ticket of its job came back.
+    Returned(Refusal),
+    /// The test had no memory or no ticket to ask with, or a request for memory was to be refused and none was.
+    Lost,
 }
 
 impl Outcome {
@@ -61,6 +70,14 @@ pub fn seen_in(view: &View<ChosenKey, u64>) -> Seen {
     Seen {
         len: view.len(),
         values,
+    }
+}
+
+/// What is told of a value that was got or stored.
+pub fn told_of_got(is_made: bool, answer: &Result<Arc<u64>, Refusal>) -> Outcome {
+    match answer {
+        Ok(value) => Outcome::Got(is_made, **value),
+        Err(refusal) => Outcome::NotGot(is_made, *refusal),
     }
 }
 

@@ -3,17 +3,16 @@ ghost use Rattle.std.specs.Prelude.{⊤};
 
 use super::KEYS;
 use super::entries::Exchange;
-use super::making::{TestMap, TestSeat, TestTicket, get_or_store, make};
+use super::making::{TestTicket, act};
 use super::outcomes::Outcome;
 use super::questions::{ALL, EVEN, Passing, Query, Question};
-use super::requests::{Do, Request, drop_handle, on, open, snapshot};
+use super::requests::{Deed, Do, Request};
 use locked_map::{Client, Room, Seat, SharedMap};
 use std::alloc::Global;
 use std::sync::atomic::{AtomicU64, Ordering};
 use std::sync::{Arc, Wait};
 use std::thread::Threads;
 use test_keys::{ChosenKey, Random};
-use versions::Refusal;
 
 // How many calls a client makes.
 const CALLS: u32 = 500;
@@ -96,12 +95,12 @@ impl Draws {
     fn request(&mut self) -> Request {
         let handle = self.handle();
         match self.next(80) {
-            0..=6 => open(handle),
-            7..=12 => snapshot(handle, self.other_handle()),
-            13..=16 => drop_handle(handle),
+            0..=6 => Request::Open(handle),
+            7..=12 => Request::Snapshot(handle, self.other_handle()),
+            13..=16 => Request::Drop(handle),
             17..=22 => Request::View(handle),
             23..=34 => Request::Freeze(handle, self.question()),
-            _ => on(handle, self.command()),
+            _ => Request::On(handle, self.command()),
         }
     }
 
@@ -122,6 +121,9 @@ pub struct Note {
     pub exchange: Exchange,
 }
 
+/// How many notes a client makes at most.
+pub const MOST_NOTES: usize = 1_000;
+
 /// A client that makes random calls.
 #[derive(Drop)]
 pub struct Player {
@@ -131,10 +133,12 @@ pub struct Player {
     pub jobs: u32,
     /// Goes on with each look at it.
     pub clock: Arc<AtomicU64>,
+    /// Has room for all notes.
+    pub notes: Vec<Note>,
 }
 
 impl Client<ChosenKey, u64, Query> for Player {
-    type Out = Result<Vec<Note>, Refusal>;
+    type Out = Vec<Note>;
 
     ghost needs = { λ _. ⊤ };
 
@@ -146,84 +150,84 @@ impl Client<ChosenKey, u64, Query> for Player {
         alloc: Global,
         map: &SharedMap<ChosenKey, u64, Query, J>,
         seat: &mut Seat<ChosenKey, u64, Query, J>,
-    ) -> Result<Vec<Note>, Refusal> {
-        let mut notes = Vec::new(alloc);
+    ) -> Vec<Note> {
+        let Player {
+            number,
+            mut draws,
+            jobs,
+            clock,
+            mut notes,
+        } = self;
         let mut tickets = Vec::new(alloc);
-        let mut player = self;
         for call in 0..CALLS {
-            let made = FIRST_MADE
-                .wrapping_mul(player.number.wrapping_add(1))
-                .wrapping_add(call);
-            let begun = player.clock.fetch_add(1, Ordering::SeqCst);
-            let exchanges = player.call(rt, alloc, map, seat, &mut tickets, u64::from(made))?;
-            let ended = player.clock.fetch_add(1, Ordering::SeqCst);
-            for exchange in exchanges {
-                notes.push(Note {
-                    begun,
-                    ended,
-                    exchange,
-                })?;
+            let deed = next_deed(&mut draws, &tickets, jobs, made_by(number, call));
+            let begun = clock.fetch_add(1, Ordering::SeqCst);
+            let told = act(rt, alloc, map, seat, &mut tickets, deed);
+            let ended = clock.fetch_add(1, Ordering::SeqCst);
+            note_down(&mut notes, (begun, ended), deed, told);
+        }
+        notes
+    }
+}
+
+// The value that the client makes by this call.
+fn made_by(number: u32, call: u32) -> u64 {
+    let first = FIRST_MADE.wrapping_mul(number.wrapping_add(1));
+    u64::from(first.wrapping_add(call))
+}
+
+// Gets or stores a value, closes one of the jobs whose tickets these are, or does something else.
+fn next_deed<J: Room>(draws: &mut Draws, tickets: &[TestTicket<J>], jobs: u32, made: u64) -> Deed {
+    if draws.next(12) == 0 {
+        return Deed::GetOrStore(draws.handle(), draws.key(), made);
+    }
+    let place = draws.next(jobs) as usize;
+    match tickets.get(place) {
+        Some(ticket) => Deed::Ask(draws.end(ticket.job())),
+        None => Deed::Ask(draws.request()),
+    }
+}
+
+// The time before a call and after it.
+type Times = (u64, u64);
+
+// A note for which there is no room is missed by the test.
+fn add(notes: &mut Vec<Note>, times: Times, request: Request, told: Outcome) {
+    let (begun, ended) = times;
+    let exchange = (request, told);
+    let _ = notes.push(Note {
+        begun,
+        ended,
+        exchange,
+    });
+}
+
+// Notes down what was asked and told by one call: of a value that was got or stored, a get, and a put_if_absent where
+// the value was made.
+fn note_down(notes: &mut Vec<Note>, times: Times, deed: Deed, told: Outcome) {
+    match deed {
+        Deed::Ask(request) => add(notes, times, request, told),
+        Deed::GetOrStore(handle, key, made) => {
+            let (is_made, answer) = got_of(told, made);
+            let get = Request::On(handle, Do::Get(key));
+            if is_made {
+                add(notes, times, get, Outcome::Old(None));
+                let put = Request::On(handle, Do::PutIfAbsent(key, made));
+                add(notes, times, put, answer);
+            } else {
+                add(notes, times, get, answer);
             }
         }
-        Ok(notes)
+        Deed::Bulk(_, _) => (),
     }
 }
 
-impl Player {
-    // Makes one call: what was asked by it, and told.
-    fn call<J: Room, R: Wait>(
-        &mut self,
-        rt: &R,
-        alloc: Global,
-        map: &TestMap<J>,
-        seat: &mut TestSeat<J>,
-        tickets: &mut Vec<TestTicket<J>>,
-        made: u64,
-    ) -> Result<Vec<Exchange>, Refusal> {
-        if self.draws.next(12) == 0 {
-            let (handle, key) = (self.draws.handle(), self.draws.key());
-            let got = get_or_store(rt, alloc, map, seat, handle, key, made)?;
-            return exchanges_of_get(alloc, handle, key, made, got);
-        }
-        let request = self.next_request(tickets);
-        let outcome = make(rt, alloc, map, seat, tickets, request)?;
-        let mut exchanges = Vec::new(alloc);
-        exchanges.push((request, outcome))?;
-        Ok(exchanges)
+// Whether the value was made, and what the last of the requests must have been told.
+fn got_of(told: Outcome, made: u64) -> (bool, Outcome) {
+    match told {
+        Outcome::Got(true, value) if value == made => (true, Outcome::Old(None)),
+        Outcome::Got(is_made, value) => (is_made, Outcome::Old(Some(value))),
+        Outcome::NotGot(is_made, refusal) => (is_made, Outcome::Refused(refusal)),
+        _ => (false, told),
     }
-
-    // Closes one of the jobs whose tickets these are, or does something else.
-    fn next_request<J: Room>(&mut self, tickets: &[TestTicket<J>]) -> Request {
-        let place = self.draws.next(self.jobs) as usize;
-        match tickets.get(place) {
-            Some(ticket) => self.draws.end(ticket.job()),
-            None => self.draws.request(),
-        }
-    }
-}
-
-// What a client that got or stored a value must have asked and been told: of a get, and of a put_if_absent where the
-// value was made.
-fn exchanges_of_get(
-    alloc: Global,
-    handle: u32,
-    key: u64,
-    made: u64,
-    got: (bool, Result<u64, Refusal>),
-) -> Result<Vec<Exchange>, Refusal> {
-    let (is_made, answer) = got;
-    let told = match answer {
-        Ok(value) if is_made && value == made => Outcome::Old(None),
-        Ok(value) => Outcome::Old(Some(value)),
-        Err(refusal) => Outcome::Refused(refusal),
-    };
-    let mut exchanges = Vec::new(alloc);
-    let get = on(handle, Do::Get(key));
-    if is_made {
-        exchanges.push((get, Outcome::Old(None)))?;
-        exchanges.push((on(handle, Do::PutIfAbsent(key, made)), told))?;
-    } else {
-        exchanges.push((get, told))?;
-    }
-    Ok(exchanges)
 }

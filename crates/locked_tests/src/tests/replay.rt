@@ -1,16 +1,15 @@
 //! Eight clients of random calls, each journal beside a plain program.
-use super::LARGEST;
 use super::entries::{Entered, entries_of};
 use super::model::assert_replayed;
 use super::outcomes::Outcome;
-use super::random::{Draws, Note, Player};
+use super::random::{Draws, MOST_NOTES, Note, Player};
+use super::{LARGEST, assert_is};
 use handles::{Limits, MOST_ENTRIES};
 use locked_map::{MOST_SEATS, with_clients};
-use std::alloc::{AllocError, Global};
+use std::alloc::Global;
 use std::process::Abort;
 use std::sync::atomic::AtomicU64;
 use std::sync::{Arc, Wait};
-use std::test::Fail;
 use std::thread::Threads;
 use test_keys::Random;
 use versions::{MOST_PAIRS, Refusal};
@@ -42,49 +41,56 @@ const FEW_JOBS: u32 = 8;
 const MANY_JOBS: u32 = 400;
 
 // The clients of a round.
-fn clients_of(alloc: Global, round: u32, jobs: u32) -> Result<Vec<Player>, AllocError> {
-    let clock = Arc::new(alloc, AtomicU64::new(0))?;
+fn clients_of(rt: &impl Abort, alloc: Global, round: u32, jobs: u32) -> Vec<Player> {
+    let clock = Arc::new(alloc, AtomicU64::new(0)).expect(rt, "no clock");
     let mut clients = Vec::new(alloc);
     for number in 0..CLIENTS {
         let seed = u64::from(round.wrapping_mul(CLIENTS).wrapping_add(number));
-        clients.push(Player {
+        let player = Player {
             number,
             draws: Draws(Random(seed.wrapping_mul(0x9e37_79b9_7f4a_7c15))),
             jobs,
-            clock: Arc::try_clone(&clock)?,
-        })?;
+            clock: Arc::try_clone(&clock).expect(rt, "no clock"),
+            notes: Vec::with_capacity(alloc, MOST_NOTES).expect(rt, "no room for notes"),
+        };
+        clients.push(player).expect(rt, "no room");
     }
-    Ok(clients)
+    clients
+}
+
+// The next of the notes from a place on that is an entry, and its place.
+fn next_entry(notes: &[Note], from: usize) -> Option<(usize, Note)> {
+    for place in from..notes.len() {
+        let note = notes[place];
+        if note.exchange.1.is_entry() {
+            return Some((place, note));
+        }
+    }
+    None
+}
+
+// The note of the client's next entry, behind those that were seen.
+fn next_note(notes: &[Vec<Note>], seen: &mut [usize], seat: u32) -> Option<Note> {
+    let from = seen.get_mut(seat as usize)?;
+    let (place, note) = next_entry(notes.get(seat as usize)?, *from)?;
+    *from = place.saturating_add(1);
+    Some(note)
 }
 
 // Each client has noted down its entries, in order, and no more. No entry stands behind that of a call which had not
 // begun when the entry's own call had ended.
-fn assert_noted(
-    rt: &impl Abort,
-    alloc: Global,
-    entries: &[Entered],
-    notes: &[Vec<Note>],
-) -> Result<(), Fail> {
-    let mut rest = Vec::new(alloc);
-    for notes in notes {
-        let mut filed = Vec::from_slice(alloc, notes)?;
-        filed.retain(|note| note.exchange.1.is_entry());
-        rest.push(filed.into_iter())?;
-    }
+fn assert_noted(rt: &impl Abort, entries: &[Entered], notes: &[Vec<Note>]) {
+    let mut seen = [0usize; 8];
     let mut latest = 0;
     for entry in entries {
-        let of_seat = rest
-            .get_mut(entry.seat as usize)
-            .ok_or("the notes of a seat")?;
-        let note = of_seat.next().ok_or("the note of an entry")?;
-        assert_eq!(rt; note.exchange, (entry.request, entry.outcome));
+        let note = next_note(notes, &mut seen, entry.seat).expect(rt, "no note of an entry");
+        assert_is(rt, note.exchange, (entry.request, entry.outcome));
         assert!(rt; latest < note.ended, "{entry:?} comes too late");
         latest = latest.max(note.begun);
     }
-    for mut notes in rest {
-        assert!(rt; notes.next().is_none());
+    for (notes, from) in notes.iter().zip(&seen) {
+        assert!(rt; next_entry(notes, *from).is_none());
     }
-    Ok(())
 }
 
 // Runs the clients once: what each noted down.
@@ -92,20 +98,16 @@ fn one_round<R: AllocGlobal + Abort + Threads + Wait + Sync>(
     rt: &R,
     limits: Limits,
     clients: Vec<Player>,
-) -> Result<Vec<Vec<Note>>, Fail> {
-    let alloc = rt.alloc();
+) -> Vec<Vec<Note>> {
     assert!(rt; 1 <= limits.pairs && limits.pairs <= MOST_PAIRS);
     assert!(rt; 2 <= limits.entries && limits.entries <= MOST_ENTRIES);
     assert!(rt; clients.len() <= MOST_SEATS as usize);
-    let (outs, closed) = with_clients(rt, alloc, limits, clients)?;
-    let mut notes = Vec::new(alloc);
-    for out in outs {
-        notes.push(out?)?;
-    }
-    let entries = entries_of(alloc, &closed)?;
-    assert_noted(rt, alloc, &entries, &notes)?;
-    assert_replayed(rt, alloc, limits, &closed, &entries)?;
-    Ok(notes)
+    let run = with_clients(rt, rt.alloc(), limits, clients);
+    let (notes, closed) = run.expect(rt, "no journal");
+    let entries = entries_of(rt, rt.alloc(), &closed);
+    assert_noted(rt, &entries, &notes);
+    assert_replayed(rt, rt.alloc(), limits, &closed, &entries);
+    notes
 }
 
 // Whether some call was refused for this.
@@ -124,60 +126,59 @@ fn assert_rounds<R: AllocGlobal + Abort + Threads + Wait + Sync>(
     limits: Limits,
     jobs: u32,
     refusals: &[Refusal],
-) -> Result<(), Fail> {
-    let mut left = Vec::from_slice(rt.alloc(), refusals)?;
+) {
+    let mut left = Vec::from_slice(rt.alloc(), refusals).expect(rt, "no room");
     for round in 0..ROUNDS {
-        let clients = clients_of(rt.alloc(), first.wrapping_add(round), jobs)?;
-        let notes = one_round(rt, limits, clients)?;
+        let clients = clients_of(rt, rt.alloc(), first.wrapping_add(round), jobs);
+        let notes = one_round(rt, limits, clients);
         left.retain(|refusal| !is_met(&notes, *refusal));
     }
     assert!(rt; left.is_empty(), "never refused: {left:?}");
-    Ok(())
 }
 
 #[test]
-fn eight_clients_with_the_largest_limits(rt: HostRuntime) -> Result<(), Fail> {
+fn eight_clients_with_the_largest_limits(rt: HostRuntime) {
     let refusals = [Refusal::NoHandle, Refusal::Taken, Refusal::BadNumber];
-    assert_rounds(&rt, 0, LARGEST, FEW_JOBS, &refusals)
+    assert_rounds(&rt, 0, LARGEST, FEW_JOBS, &refusals);
 }
 
 #[test]
-fn eight_clients_with_few_pairs(rt: HostRuntime) -> Result<(), Fail> {
-    assert_rounds(&rt, ROUNDS, FEW_PAIRS, FEW_JOBS, &[Refusal::Full])
+fn eight_clients_with_few_pairs(rt: HostRuntime) {
+    assert_rounds(&rt, ROUNDS, FEW_PAIRS, FEW_JOBS, &[Refusal::Full]);
 }
 
 #[test]
-fn eight_clients_with_few_entries(rt: HostRuntime) -> Result<(), Fail> {
+fn eight_clients_with_few_entries(rt: HostRuntime) {
     let refusals = [Refusal::JournalFull];
-    assert_rounds(&rt, 2 * ROUNDS, FEW_ENTRIES, FEW_JOBS, &refusals)
+    assert_rounds(&rt, 2 * ROUNDS, FEW_ENTRIES, FEW_JOBS, &refusals);
 }
 
 #[test]
-fn eight_clients_with_few_of_both(rt: HostRuntime) -> Result<(), Fail> {
+fn eight_clients_with_few_of_both(rt: HostRuntime) {
     let refusals = [Refusal::Full, Refusal::JournalFull];
-    assert_rounds(&rt, 3 * ROUNDS, FEW_OF_BOTH, FEW_JOBS, &refusals)
+    assert_rounds(&rt, 3 * ROUNDS, FEW_OF_BOTH, FEW_JOBS, &refusals);
 }
 
 #[test]
-fn eight_clients_with_the_largest_limits_and_many_jobs(rt: HostRuntime) -> Result<(), Fail> {
+fn eight_clients_with_the_largest_limits_and_many_jobs(rt: HostRuntime) {
     let refusals = [Refusal::TooManyJobs];
-    assert_rounds(&rt, 4 * ROUNDS, LARGEST, MANY_JOBS, &refusals)
+    assert_rounds(&rt, 4 * ROUNDS, LARGEST, MANY_JOBS, &refusals);
 }
 
 #[test]
-fn eight_clients_with_few_pairs_and_many_jobs(rt: HostRuntime) -> Result<(), Fail> {
+fn eight_clients_with_few_pairs_and_many_jobs(rt: HostRuntime) {
     let refusals = [Refusal::Full, Refusal::TooManyJobs];
-    assert_rounds(&rt, 5 * ROUNDS, FEW_PAIRS, MANY_JOBS, &refusals)
+    assert_rounds(&rt, 5 * ROUNDS, FEW_PAIRS, MANY_JOBS, &refusals);
 }
 
 #[test]
-fn eight_clients_with_few_entries_and_many_jobs(rt: HostRuntime) -> Result<(), Fail> {
+fn eight_clients_with_few_entries_and_many_jobs(rt: HostRuntime) {
     let refusals = [Refusal::JournalFull, Refusal::TooManyJobs];
-    assert_rounds(&rt, 6 * ROUNDS, FEW_ENTRIES, MANY_JOBS, &refusals)
+    assert_rounds(&rt, 6 * ROUNDS, FEW_ENTRIES, MANY_JOBS, &refusals);
 }
 
 #[test]
-fn eight_clients_with_few_of_both_and_many_jobs(rt: HostRuntime) -> Result<(), Fail> {
+fn eight_clients_with_few_of_both_and_many_jobs(rt: HostRuntime) {
     let refusals = [Refusal::Full, Refusal::JournalFull, Refusal::TooManyJobs];
-    assert_rounds(&rt, 7 * ROUNDS, FEW_OF_BOTH, MANY_JOBS, &refusals)
+    assert_rounds(&rt, 7 * ROUNDS, FEW_OF_BOTH, MANY_JOBS, &refusals);
 }

@@ -1,5 +1,5 @@
-//! What seats ask, as plain values.
-use super::questions::{Query, Question, question_of};
+//! What seats do, as plain values.
+use super::questions::{Query, Question, query_of, question_of};
 use handles::{Call, Command};
 use locked_map::Asked;
 use std::alloc::{AllocError, Global};
@@ -20,53 +20,39 @@ pub enum Do {
     Clear,
 }
 
-/// A call as a plain value.
+/// What a seat asks.
 #[derive(Clone, Copy, Debug, PartialEq, Eq)]
-pub enum Plain {
+pub enum Request {
     Open(u32),
     Snapshot(u32, u32),
     Drop(u32),
     On(u32, Do),
-}
-
-/// What a seat asks, as a plain value.
-#[derive(Clone, Copy, Debug, PartialEq, Eq)]
-pub enum Request {
-    Call(Plain),
     View(u32),
     Freeze(u32, Question),
     Finish(u64),
     Abandon(u64),
 }
 
-/// Opens the handle.
-pub fn open(handle: u32) -> Request {
-    Request::Call(Plain::Open(handle))
+/// What a seat does: one request, or what makes up to two.
+#[derive(Clone, Copy)]
+pub enum Deed {
+    Ask(Request),
+    /// Gets the value of the key on the handle, or stores this one.
+    GetOrStore(u32, u64, u64),
+    /// Has a crew answer the question about the handle's map.
+    Bulk(u32, Question),
 }
 
-/// Opens the second handle with the pairs of the first.
-pub fn snapshot(handle: u32, to: u32) -> Request {
-    Request::Call(Plain::Snapshot(handle, to))
-}
-
-/// Closes the handle.
-pub fn drop_handle(handle: u32) -> Request {
-    Request::Call(Plain::Drop(handle))
-}
-
-/// Does this on the handle's map.
-pub fn on(handle: u32, what: Do) -> Request {
-    Request::Call(Plain::On(handle, what))
-}
-
-/// Maps the key to the value on handle 1.
-pub fn put(key: u64, value: u64) -> Request {
-    on(1, Do::Put(key, value))
-}
-
-/// Asks for the value of the key on handle 1.
-pub fn get(key: u64) -> Request {
-    on(1, Do::Get(key))
+/// What a seat does, with all that it takes memory for. The part of a finish is made when it is asked.
+#[derive(Drop)]
+pub enum Prepared {
+    Call(Call<ChosenKey, u64>),
+    View(u32),
+    Freeze(u32, Arc<Query>),
+    Finish(u64),
+    Abandon(u64),
+    GetOrStore(u32, Arc<ChosenKey>, u64),
+    Bulk(u32, Arc<Query>),
 }
 
 /// The key of a path word.
@@ -79,44 +65,70 @@ pub fn shared_key(alloc: Global, path: u64) -> Result<Arc<ChosenKey>, AllocError
     Ok(Arc::new(alloc, key_of(path))?)
 }
 
-/// The call of a plain one.
-pub fn call_of(alloc: Global, call: Plain) -> Result<Call<ChosenKey, u64>, AllocError> {
-    Ok(match call {
-        Plain::Open(handle) => Call::Open(handle),
-        Plain::Snapshot(handle, to) => Call::Snapshot(handle, to),
-        Plain::Drop(handle) => Call::Drop(handle),
-        Plain::On(handle, what) => Call::On(handle, command_of(alloc, what)?),
-    })
+fn shared_value(alloc: Global, value: u64) -> Result<Arc<u64>, AllocError> {
+    Ok(Arc::new(alloc, value)?)
+}
+
+fn shared_query(alloc: Global, question: Question) -> Result<Arc<Query>, AllocError> {
+    Ok(Arc::new(alloc, query_of(question))?)
 }
 
 // The command of what is done.
 fn command_of(alloc: Global, what: Do) -> Result<Command<ChosenKey, u64>, AllocError> {
     Ok(match what {
         Do::Get(key) => Command::Get(shared_key(alloc, key)?),
-        Do::Put(key, value) => Command::Put(shared_key(alloc, key)?, Arc::new(alloc, value)?),
+        Do::Put(key, value) => Command::Put(shared_key(alloc, key)?, shared_value(alloc, value)?),
         Do::PutIfAbsent(key, value) => {
-            Command::PutIfAbsent(shared_key(alloc, key)?, Arc::new(alloc, value)?)
+            Command::PutIfAbsent(shared_key(alloc, key)?, shared_value(alloc, value)?)
         }
         Do::Replace(key, value) => {
-            Command::Replace(shared_key(alloc, key)?, Arc::new(alloc, value)?)
+            Command::Replace(shared_key(alloc, key)?, shared_value(alloc, value)?)
         }
         Do::ReplaceIf(key, old, value) => {
-            let (old, value) = (Arc::new(alloc, old)?, Arc::new(alloc, value)?);
+            let (old, value) = (shared_value(alloc, old)?, shared_value(alloc, value)?);
             Command::ReplaceIf(shared_key(alloc, key)?, old, value)
         }
         Do::Remove(key) => Command::Remove(shared_key(alloc, key)?),
         Do::RemoveIf(key, value) => {
-            Command::RemoveIf(shared_key(alloc, key)?, Arc::new(alloc, value)?)
+            Command::RemoveIf(shared_key(alloc, key)?, shared_value(alloc, value)?)
         }
         Do::Size => Command::Size,
         Do::Clear => Command::Clear,
     })
 }
 
+fn prepare_request(alloc: Global, request: Request) -> Result<Prepared, AllocError> {
+    Ok(match request {
+        Request::Open(handle) => Prepared::Call(Call::Open(handle)),
+        Request::Snapshot(handle, to) => Prepared::Call(Call::Snapshot(handle, to)),
+        Request::Drop(handle) => Prepared::Call(Call::Drop(handle)),
+        Request::On(handle, what) => Prepared::Call(Call::On(handle, command_of(alloc, what)?)),
+        Request::View(handle) => Prepared::View(handle),
+        Request::Freeze(handle, question) => {
+            Prepared::Freeze(handle, shared_query(alloc, question)?)
+        }
+        Request::Finish(job) => Prepared::Finish(job),
+        Request::Abandon(job) => Prepared::Abandon(job),
+    })
+}
+
+/// Takes the memory for what a seat does.
+pub fn prepare(alloc: Global, deed: Deed) -> Result<Prepared, AllocError> {
+    match deed {
+        Deed::Ask(request) => prepare_request(alloc, request),
+        Deed::GetOrStore(handle, key, value) => {
+            Ok(Prepared::GetOrStore(handle, shared_key(alloc, key)?, value))
+        }
+        Deed::Bulk(handle, question) => {
+            Ok(Prepared::Bulk(handle, shared_query(alloc, question)?))
+        }
+    }
+}
+
 /// What was asked, as a plain value.
 pub fn request_of(asked: &Asked<ChosenKey, u64, Query>) -> Request {
     match asked {
-        Asked::Call(call) => Request::Call(plain_call(call)),
+        Asked::Call(call) => plain_call(call),
         Asked::View(handle) => Request::View(*handle),
         Asked::Freeze(handle, query) => Request::Freeze(*handle, question_of(query)),
         Asked::Finish(job) => Request::Finish(*job),
@@ -124,12 +136,12 @@ pub fn request_of(asked: &Asked<ChosenKey, u64, Query>) -> Request {
     }
 }
 
-fn plain_call(call: &Call<ChosenKey, u64>) -> Plain {
+fn plain_call(call: &Call<ChosenKey, u64>) -> Request {
     match call {
-        Call::Open(handle) => Plain::Open(*handle),
-        Call::Snapshot(handle, to) => Plain::Snapshot(*handle, *to),
-        Call::Drop(handle) => Plain::Drop(*handle),
-        Call::On(handle, command) => Plain::On(*handle, plain_command(command)),
+        Call::Open(handle) => Request::Open(*handle),
+        Call::Snapshot(handle, to) => Request::Snapshot(*handle, *to),
+        Call::Drop(handle) => Request::Drop(*handle),
+        Call::On(handle, command) => Request::On(*handle, plain_command(command)),
     }
 }
 

@@ -1,36 +1,28 @@
 //! One thread that has all seats, plays a list of steps and closes the map.
+//!
+//! Most tests are such a list, each step beside what it is told: a list is no work to prove.
 ghost use Rattle.std.specs.Prelude.{⊤};
 
 use super::assert_is;
 use super::entries::{Entered, TestClosed, entries_of};
-use super::making::{TestMap, TestSeat, TestTicket, make, taken};
+use super::making::{TestMap, TestSeat, TestTicket, act, take, taken};
+use super::memory::{dry, short};
 use super::model::assert_replayed;
-use super::outcomes::Outcome;
+use super::outcomes::{Outcome, seen_in};
 use super::questions::Query;
-use super::requests::Request;
+use super::requests::{Deed, Request, prepare};
+use super::steps::{Memory, Step, entry_in, told_in, turn_of};
 use handles::{Limits, MOST_ENTRIES};
 use locked_map::{MOST_SEATS, Room, Seat, SharedMap, Use, with};
 use std::alloc::Global;
 use std::process::Abort;
 use std::sync::Wait;
-use std::test::Fail;
 use std::thread::Threads;
 use test_keys::ChosenKey;
-use versions::{MOST_PAIRS, Refusal};
-
-/// A step of the thread.
-#[derive(Clone, Copy, Debug, PartialEq, Eq)]
-pub enum Step {
-    /// The seat of the number makes the request, and is told so.
-    Ask(u32, Request, Outcome),
-    /// Seats 0 and 1 meet.
-    Meet,
-    /// The ticket of the job is dropped.
-    Lose(u64),
-}
+use versions::{MOST_PAIRS, Refusal, View};
 
 /// The seats by which the map is closed.
-#[derive(Clone, Copy, Debug, PartialEq, Eq)]
+#[derive(Clone, Copy)]
 pub enum Ending {
     /// All, in the order of their numbers.
     All,
@@ -44,17 +36,22 @@ pub enum Ending {
     WithoutLast,
 }
 
-/// What the steps that ask are told, and what is left of the map where it was closed.
-pub type Played = (Vec<Outcome>, Option<TestClosed>);
+// What the steps are told, and the views that are kept.
+type Told = (Vec<Outcome>, Vec<View<ChosenKey, u64>>);
 
 #[derive(Drop)]
 struct Script {
     steps: Vec<Step>,
     ending: Ending,
+    told: Vec<Outcome>,
+    views: Vec<View<ChosenKey, u64>>,
 }
 
+// How many tickets there is room for: those of all jobs that may be open.
+const TICKETS: usize = 64;
+
 impl Use<ChosenKey, u64, Query> for Script {
-    type Out = Result<Vec<Outcome>, Refusal>;
+    type Out = Told;
 
     ghost needs = { λ _ _. ⊤ };
 
@@ -66,43 +63,150 @@ impl Use<ChosenKey, u64, Query> for Script {
         alloc: Global,
         map: &SharedMap<ChosenKey, u64, Query, J>,
         seats: &mut Vec<Seat<ChosenKey, u64, Query, J>>,
-    ) -> Result<Vec<Outcome>, Refusal> {
-        let mut outcomes = Vec::new(alloc);
+    ) -> Told {
+        let Script {
+            steps,
+            ending,
+            mut told,
+            mut views,
+        } = self;
         let mut tickets = Vec::new(alloc);
-        for step in self.steps {
-            if let Some(outcome) = take_step(rt, alloc, map, seats, &mut tickets, step)? {
-                outcomes.push(outcome)?;
-            }
+        let _ = tickets.reserve(TICKETS);
+        for step in steps {
+            let outcome = take_step(rt, alloc, map, seats, &mut tickets, &mut views, step);
+            // what is not noted is missed by the test
+            let _ = told.push(outcome);
         }
-        arrange(seats, self.ending);
-        Ok(outcomes)
+        arrange(seats, ending);
+        (told, views)
     }
 }
 
-fn take_step<J: Room, R: Wait>(
+fn take_step<J: Room, R: Threads + Wait + Sync>(
     rt: &R,
     alloc: Global,
     map: &TestMap<J>,
     seats: &mut Vec<TestSeat<J>>,
     tickets: &mut Vec<TestTicket<J>>,
+    views: &mut Vec<View<ChosenKey, u64>>,
     step: Step,
-) -> Result<Option<Outcome>, Refusal> {
+) -> Outcome {
+    match turn_of(step) {
+        Some((number, memory, deed, _)) => match seats.get_mut(number as usize) {
+            Some(seat) => take_turn(rt, alloc, map, seat, tickets, memory, deed),
+            None => Outcome::Lost,
+        },
+        None => take_other(rt, alloc, map, seats, tickets, views, step),
+    }
+}
+
+fn take_turn<J: Room, R: Threads + Wait + Sync>(
+    rt: &R,
+    alloc: Global,
+    map: &TestMap<J>,
+    seat: &mut TestSeat<J>,
+    tickets: &mut Vec<TestTicket<J>>,
+    memory: Memory,
+    deed: Deed,
+) -> Outcome {
+    let Ok(prepared) = prepare(alloc, deed) else {
+        return Outcome::Lost;
+    };
+    match memory {
+        Memory::Ample => take(rt, alloc, map, seat, tickets, &prepared),
+        Memory::Wanting => short(rt, alloc, map, seat, tickets, &prepared),
+        Memory::None => dry(rt, alloc, map, seat, tickets, &prepared),
+    }
+}
+
+// A step that is no request. It is told `Unit` where it asks for nothing.
+fn take_other<J: Room, R: Threads + Wait + Sync>(
+    rt: &R,
+    alloc: Global,
+    map: &TestMap<J>,
+    seats: &mut Vec<TestSeat<J>>,
+    tickets: &mut Vec<TestTicket<J>>,
+    views: &mut Vec<View<ChosenKey, u64>>,
+    step: Step,
+) -> Outcome {
     match step {
-        Step::Ask(number, request, _) => match seats.get_mut(number as usize) {
-            Some(seat) => Ok(Some(make(rt, alloc, map, seat, tickets, request)?)),
-            None => Ok(None),
+        Step::Keep(number, handle, _) => match seats.get_mut(number as usize) {
+            Some(seat) => keep(rt, map, seat, views, handle),
+            None => Outcome::Lost,
+        },
+        Step::FinishAll(number, told) => match seats.get_mut(number as usize) {
+            Some(seat) => finish_all(rt, alloc, map, seat, tickets, told),
+            None => Outcome::Lost,
         },
         Step::Meet => {
-            if seats.len() >= 2 {
-                let (one, two) = seats.split_at_mut(1);
-                one[0].meet(&mut two[0]);
-            }
-            Ok(None)
+            meet(seats);
+            Outcome::Unit
         }
         Step::Lose(job) => {
-            let _ = taken(tickets, job);
-            Ok(None)
+            drop(taken(tickets, job));
+            Outcome::Unit
         }
+        _ => Outcome::Unit,
+    }
+}
+
+fn keep<J: Room, R: Wait>(
+    rt: &R,
+    map: &TestMap<J>,
+    seat: &mut TestSeat<J>,
+    views: &mut Vec<View<ChosenKey, u64>>,
+    handle: u32,
+) -> Outcome {
+    match map.view(rt, seat, handle) {
+        Ok(view) => {
+            let seen = seen_in(&view);
+            let _ = views.push(view);
+            Outcome::View(seen)
+        }
+        Err(refusal) => Outcome::Refused(refusal),
+    }
+}
+
+// Finishes each job: what is told of each, or what is told of one of which something else is.
+fn finish_all<J: Room, R: Threads + Wait + Sync>(
+    rt: &R,
+    alloc: Global,
+    map: &TestMap<J>,
+    seat: &mut TestSeat<J>,
+    tickets: &mut Vec<TestTicket<J>>,
+    told: Outcome,
+) -> Outcome {
+    for _ in 0..TICKETS {
+        let Some(job) = first_job(tickets) else {
+            return told;
+        };
+        let outcome = act(
+            rt,
+            alloc,
+            map,
+            seat,
+            tickets,
+            Deed::Ask(Request::Finish(job)),
+        );
+        if outcome != told {
+            return outcome;
+        }
+    }
+    told
+}
+
+// The job of the first ticket.
+fn first_job<J: Room>(tickets: &[TestTicket<J>]) -> Option<u64> {
+    match tickets.first() {
+        Some(ticket) => Some(ticket.job()),
+        None => None,
+    }
+}
+
+fn meet<J: Room>(seats: &mut Vec<TestSeat<J>>) {
+    if seats.len() >= 2 {
+        let (one, two) = seats.split_at_mut(1);
+        one[0].meet(&mut two[0]);
     }
 }
 
@@ -127,51 +231,129 @@ fn arrange<J: Room>(seats: &mut Vec<TestSeat<J>>, ending: Ending) {
     }
 }
 
-/// Plays the steps on a new map with this number of seats.
+// Plays the steps on a new map with this number of seats: what they are told, and what is left of the map where it was
+// closed.
+fn lent<R: AllocGlobal + Abort + Threads + Wait + Sync>(
+    rt: &R,
+    seats: u32,
+    limits: Limits,
+    script: Script,
+) -> (Told, Option<TestClosed>) {
+    assert!(rt; 1 <= limits.pairs && limits.pairs <= MOST_PAIRS);
+    assert!(rt; 2 <= limits.entries && limits.entries <= MOST_ENTRIES);
+    assert!(rt; 1 <= seats && seats <= MOST_SEATS);
+    match with(rt, rt.alloc(), seats, limits, script) {
+        Ok((told, closed)) => (told, closed.ok()),
+        Err(_) => panic!(rt; "no map"),
+    }
+}
+
+fn script_of(rt: &impl Abort, alloc: Global, steps: &[Step], ending: Ending) -> Script {
+    Script {
+        steps: Vec::from_slice(alloc, steps).expect(rt, "no steps"),
+        ending,
+        told: Vec::with_capacity(alloc, steps.len()).expect(rt, "no room for what is told"),
+        views: Vec::new(alloc),
+    }
+}
+
+/// Plays the steps and closes the map by these seats: how many entries its journal has. None where it is torn.
+pub fn closed_len<R: AllocGlobal + Abort + Threads + Wait + Sync>(
+    rt: &R,
+    seats: u32,
+    steps: &[Step],
+    limits: Limits,
+    ending: Ending,
+) -> Option<usize> {
+    let script = script_of(rt, rt.alloc(), steps, ending);
+    let (_, closed) = lent(rt, seats, limits, script);
+    match closed {
+        Some(closed) => Some(closed.journal.len()),
+        None => None,
+    }
+}
+
+// Each step is told this, and the views that are kept show what they showed.
+fn assert_told(rt: &impl Abort, told: &[Outcome], steps: &[Step]) {
+    assert_is(rt, told.len(), steps.len());
+    for (told, step) in told.iter().zip(steps) {
+        assert_is(rt, *told, told_in(*step));
+    }
+}
+
+fn assert_kept(rt: &impl Abort, views: &[View<ChosenKey, u64>], steps: &[Step]) {
+    let mut rest = views.iter();
+    for step in steps {
+        if let Step::Keep(_, _, seen) = step {
+            let view = rest.next().expect(rt, "no view");
+            assert_is(rt, seen_in(view), *seen);
+        }
+    }
+}
+
+/// A job that is abandoned in the table of a closed map, and why that is refused, if it is.
+pub type End = (u64, Option<Refusal>);
+
+// The entries of a map that was closed. A plain program comes to the same table, which answers so.
+fn assert_closed(
+    rt: &impl Abort,
+    alloc: Global,
+    limits: Limits,
+    closed: TestClosed,
+    ends: &[End],
+) -> Vec<Entered> {
+    let mut closed = closed;
+    let entries = entries_of(rt, alloc, &closed);
+    assert_replayed(rt, alloc, limits, &closed, &entries);
+    for (job, refusal) in ends {
+        assert_is(rt, closed.table.abandon(*job).err(), *refusal);
+    }
+    entries
+}
+
+/// Each step is told as it says, and the map closes. A plain program comes to the same table from the entries of its
+/// journal, which are handed over.
 pub fn played<R: AllocGlobal + Abort + Threads + Wait + Sync>(
     rt: &R,
     seats: u32,
     limits: Limits,
     steps: &[Step],
-    ending: Ending,
-) -> Result<Played, Fail> {
-    assert!(rt; 1 <= limits.pairs && limits.pairs <= MOST_PAIRS);
-    assert!(rt; 2 <= limits.entries && limits.entries <= MOST_ENTRIES);
-    assert!(rt; 1 <= seats && seats <= MOST_SEATS);
-    let steps = Vec::from_slice(rt.alloc(), steps)?;
-    let script = Script { steps, ending };
-    match with(rt, rt.alloc(), seats, limits, script) {
-        Ok((outcomes, closed)) => Ok((outcomes?, closed.ok())),
-        Err(_) => Err(Fail::new("no memory for a map")),
-    }
+    ends: &[End],
+) -> Vec<Entered> {
+    let alloc = rt.alloc();
+    let script = script_of(rt, alloc, steps, Ending::All);
+    let ((told, views), closed) = lent(rt, seats, limits, script);
+    assert_told(rt, &told, steps);
+    let closed = closed.expect(rt, "the map is torn");
+    let entries = assert_closed(rt, alloc, limits, closed, ends);
+    assert_kept(rt, &views, steps);
+    entries
 }
 
-/// Each step that asks is told as it says, the map closes, and the journal has those of them that are entries, in
-/// order. A plain program comes to the same table.
+/// The same, and the entries are those that the steps say, in order.
+pub fn assert_ends<R: AllocGlobal + Abort + Threads + Wait + Sync>(
+    rt: &R,
+    seats: u32,
+    limits: Limits,
+    steps: &[Step],
+    ends: &[End],
+) {
+    let entries = played(rt, seats, limits, steps, ends);
+    let mut wanted = Vec::new(rt.alloc());
+    for step in steps {
+        if let Some(entry) = entry_in(*step) {
+            wanted.push(entry).expect(rt, "no room");
+        }
+    }
+    assert_is(rt, entries, wanted);
+}
+
+/// The same, where nothing is asked of the table.
 pub fn assert_steps<R: AllocGlobal + Abort + Threads + Wait + Sync>(
     rt: &R,
     seats: u32,
     limits: Limits,
     steps: &[Step],
-) -> Result<TestClosed, Fail> {
-    let (outcomes, closed) = played(rt, seats, limits, steps, Ending::All)?;
-    let mut told = outcomes.into_iter();
-    let mut entries = Vec::new(rt.alloc());
-    for step in steps {
-        if let Step::Ask(seat, request, outcome) = *step {
-            assert_is(rt, told.next(), Some(outcome));
-            if outcome.is_entry() {
-                entries.push(Entered {
-                    seat,
-                    request,
-                    outcome,
-                })?;
-            }
-        }
-    }
-    let closed = closed.ok_or("the map is closed")?;
-    let filed = entries_of(rt.alloc(), &closed)?;
-    assert_replayed(rt, rt.alloc(), limits, &closed, &filed)?;
-    assert_is(rt, filed, entries);
-    Ok(closed)
+) {
+    assert_ends(rt, seats, limits, steps, &[]);
 }

@@ -1,63 +1,41 @@
 //! The seats by which a map closes.
 use super::outcomes::Outcome;
-use super::requests::{open, put};
-use super::script::Step::Ask;
-use super::script::{Ending, Step, played};
+use super::requests::Do::Put;
+use super::requests::Request::{On, Open};
+use super::script::{Ending, closed_len};
+use super::steps::Step;
+use super::steps::Step::Ask;
 use super::{A, B, LARGEST, assert_is};
-use std::process::Abort;
-use std::sync::Wait;
-use std::test::Fail;
-use std::thread::Threads;
-
-// A map with three seats is closed by these after the steps: how many entries its journal has. None where it is torn.
-fn closed_len<R: AllocGlobal + Abort + Threads + Wait + Sync>(
-    rt: &R,
-    steps: &[Step],
-    ending: Ending,
-) -> Result<Option<usize>, Fail> {
-    let (_, closed) = played(rt, 3, LARGEST, steps, ending)?;
-    Ok(closed.map(|closed| closed.journal.len()))
-}
 
 // Each of the three seats files something.
-fn each_files() -> [Step; 3] {
-    [
-        Ask(0, open(1), Outcome::Unit),
-        Ask(1, put(A, 1), Outcome::Old(None)),
-        Ask(2, put(B, 2), Outcome::Old(None)),
-    ]
-}
+const EACH_FILES: [Step; 3] = [
+    Ask(0, Open(1), Outcome::Unit),
+    Ask(1, On(1, Put(A, 1)), Outcome::Old(None)),
+    Ask(2, On(1, Put(B, 2)), Outcome::Old(None)),
+];
+
+const NO_STEPS: [Step; 0] = [];
 
 #[test]
-fn a_map_with_no_calls_is_closed(rt: HostRuntime) -> Result<(), Fail> {
-    assert_is(&rt, closed_len(&rt, &[], Ending::All)?, Some(0));
-    Ok(())
+fn a_map_with_no_calls_is_closed(rt: HostRuntime) {
+    let closed = closed_len(&rt, 3, &NO_STEPS, LARGEST, Ending::All);
+    assert_is(&rt, closed, Some(0));
+    let closed = closed_len(&rt, 3, &NO_STEPS, LARGEST, Ending::Turned);
+    assert_is(&rt, closed, None);
 }
 
+// A map is torn where its seats are in another order, or where one that filed something is left out.
 #[test]
-fn seats_have_their_order(rt: HostRuntime) -> Result<(), Fail> {
-    assert_is(&rt, closed_len(&rt, &each_files(), Ending::All)?, Some(3));
-    assert_is(&rt, closed_len(&rt, &each_files(), Ending::Turned)?, None);
-    assert_is(
-        &rt,
-        closed_len(&rt, &each_files(), Ending::Exchanged)?,
-        None,
-    );
-    assert_is(&rt, closed_len(&rt, &[], Ending::Turned)?, None);
-    Ok(())
-}
-
-#[test]
-fn no_seat_that_filed_is_left_out(rt: HostRuntime) -> Result<(), Fail> {
-    assert_is(
-        &rt,
-        closed_len(&rt, &each_files(), Ending::WithoutFirst)?,
-        None,
-    );
-    assert_is(
-        &rt,
-        closed_len(&rt, &each_files(), Ending::WithoutLast)?,
-        None,
-    );
-    Ok(())
+fn all_seats_close_a_map_in_their_order(rt: HostRuntime) {
+    let rows = [
+        (Ending::All, Some(3)),
+        (Ending::Turned, None),
+        (Ending::Exchanged, None),
+        (Ending::WithoutFirst, None),
+        (Ending::WithoutLast, None),
+    ];
+    for (ending, wanted) in rows {
+        let closed = closed_len(&rt, 3, &EACH_FILES, LARGEST, ending);
+        assert_is(&rt, closed, wanted);
+    }
 }

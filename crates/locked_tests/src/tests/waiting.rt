@@ -1,38 +1,58 @@
-//! A value whose making waits for another client.
+//! Work with no lock held that waits for another client: a value that is made, and a map that a crew counts.
 ghost use Rattle.std.specs.Prelude.{⊤};
 
-use super::entries::entries_of;
-use super::making::make;
-use super::outcomes::Outcome;
-use super::questions::Query;
-use super::requests::{Do, get, on, open, put, shared_key};
+use super::entries::{Entered, entries_of};
+use super::making::{TestMap, TestSeat, WORKERS, act, bulk};
+use super::model::assert_replayed;
+use super::outcomes::{Outcome, Seen};
+use super::questions::{ALL, Query, Question, query_of};
+use super::requests::Do::{Get, Put, PutIfAbsent};
+use super::requests::Request::{Finish, Freeze, On, Open};
+use super::requests::{Deed, Request, shared_key};
 use super::{A, LARGEST, assert_is};
-use locked_map::{Client, MOST_SEATS, Room, Seat, SharedMap, with_clients};
-use std::alloc::{AllocError, Global};
-use std::sync::atomic::{AtomicBool, Ordering};
+use hash_path::Bound;
+use locked_map::{Client, Gate, MOST_SEATS, Room, Seat, SharedMap, with_clients};
+use std::alloc::Global;
+use std::process::Abort;
+use std::sync::atomic::{AtomicU32, Ordering};
 use std::sync::{Arc, Wait};
-use std::test::Fail;
 use std::thread;
 use std::thread::Threads;
 use test_keys::ChosenKey;
-use versions::Refusal;
 
-// How many turns a client waits for another at most.
+// How often a thread lets others run before it gives up.
 const MOST_TURNS: u32 = 10_000_000;
 
-// What two clients tell one another.
+// What the threads of a test tell one another. Each number counts up from 0.
 #[derive(Drop)]
 struct Signs {
-    // The closure has begun.
-    begun: AtomicBool,
-    // The put that was made since then is answered.
-    answered: AtomicBool,
+    // Values that are being made, or pieces that were begun, by whichever worker.
+    begun: AtomicU32,
+    // Pieces that were begun while the first was held.
+    others: AtomicU32,
+    // Puts that were answered since.
+    answered: AtomicU32,
+    // Waits that ran out.
+    ran_out: AtomicU32,
+    // Pieces that the caller of the crew began.
+    callers: AtomicU32,
 }
 
-// Waits until the sign is given: whether it was before the turns ran out.
-fn is_given(sign: &AtomicBool) -> bool {
+// Nothing was begun.
+fn no_signs() -> Signs {
+    Signs {
+        begun: AtomicU32::new(0),
+        others: AtomicU32::new(0),
+        answered: AtomicU32::new(0),
+        ran_out: AtomicU32::new(0),
+        callers: AtomicU32::new(0),
+    }
+}
+
+/// Waits until the sign is set, and answers whether it was.
+pub fn wait_for(sign: &AtomicU32) -> bool {
     for _ in 0..MOST_TURNS {
-        if sign.load(Ordering::SeqCst) {
+        if sign.load(Ordering::SeqCst) != 0 {
             return true;
         }
         thread::yield_now();
@@ -40,18 +60,44 @@ fn is_given(sign: &AtomicBool) -> bool {
     false
 }
 
-// The two clients.
+// The first piece that is begun is held until the other worker has begun one and the put has been answered.
+impl Gate for Signs {
+    fn before(&self, worker: u32, _lo: Bound, _hi: Bound) {
+        if worker >= WORKERS {
+            self.callers.fetch_add(1, Ordering::SeqCst);
+        }
+        if self.begun.fetch_add(1, Ordering::SeqCst) > 0 {
+            self.others.store(1, Ordering::SeqCst);
+        } else if !wait_for(&self.others) || !wait_for(&self.answered) {
+            self.ran_out.store(1, Ordering::SeqCst);
+        }
+    }
+}
+
+impl Signs {
+    // A value that is made is held until the put has been answered.
+    fn make(&self) -> u64 {
+        self.begun.store(1, Ordering::SeqCst);
+        if !wait_for(&self.answered) {
+            self.ran_out.store(1, Ordering::SeqCst);
+        }
+        7
+    }
+}
+
+// The clients, of which two meet.
 #[derive(Drop)]
 enum Meeter {
     // Opens the handle and gets A, or stores 7, which is made only once the other one's put is answered.
-    Getter(Arc<Signs>),
-    // Puts 2 at A once the closure has begun.
-    Putter(Arc<Signs>),
+    Getter(Arc<Signs, Global>),
+    // Opens the handle, puts 64 keys of different positions, and has a crew count them.
+    Counter(Arc<Signs, Global>),
+    // Puts 2 at A once the other one has begun.
+    Putter(Arc<Signs, Global>),
 }
 
 impl Client<ChosenKey, u64, Query> for Meeter {
-    // Whether it was in time, and the value that it got or the outcome of its put.
-    type Out = Result<(bool, Outcome), Refusal>;
+    type Out = Outcome;
 
     ghost needs = { λ _. ⊤ };
 
@@ -63,67 +109,176 @@ impl Client<ChosenKey, u64, Query> for Meeter {
         alloc: Global,
         map: &SharedMap<ChosenKey, u64, Query, J>,
         seat: &mut Seat<ChosenKey, u64, Query, J>,
-    ) -> Result<(bool, Outcome), Refusal> {
-        let mut tickets = Vec::new(alloc);
+    ) -> Outcome {
         match self {
-            Meeter::Getter(signs) => {
-                make(rt, alloc, map, seat, &mut tickets, open(1))?;
-                let mut in_time = false;
-                let key = shared_key(alloc, A)?;
-                let value = map.get_or_else_update(rt, seat, 1, key, || {
-                    signs.begun.store(true, Ordering::SeqCst);
-                    in_time = is_given(&signs.answered);
-                    7
-                })?;
-                Ok((in_time, Outcome::Old(Some(*value))))
-            }
-            Meeter::Putter(signs) => {
-                let in_time = is_given(&signs.begun);
-                let told = make(rt, alloc, map, seat, &mut tickets, put(A, 2))?;
-                signs.answered.store(true, Ordering::SeqCst);
-                Ok((in_time, told))
-            }
+            Meeter::Getter(signs) => play_getter(rt, alloc, map, seat, &signs),
+            Meeter::Counter(signs) => play_counter(rt, alloc, map, seat, &signs),
+            Meeter::Putter(signs) => play_putter(rt, alloc, map, seat, &signs),
         }
     }
 }
 
-// The two clients, with their signs.
-fn two_clients(alloc: Global) -> Result<Vec<Meeter>, AllocError> {
-    let signs = Arc::new(
-        alloc,
-        Signs {
-            begun: AtomicBool::new(false),
-            answered: AtomicBool::new(false),
-        },
-    )?;
-    let mut clients = Vec::new(alloc);
-    clients.push(Meeter::Getter(Arc::try_clone(&signs)?))?;
-    clients.push(Meeter::Putter(signs))?;
-    Ok(clients)
+fn play_getter<J: Room, R: Threads + Wait + Sync>(
+    rt: &R,
+    alloc: Global,
+    map: &TestMap<J>,
+    seat: &mut TestSeat<J>,
+    signs: &Signs,
+) -> Outcome {
+    let mut tickets = Vec::new(alloc);
+    act(rt, alloc, map, seat, &mut tickets, Deed::Ask(Open(1)));
+    let Ok(key) = shared_key(alloc, A) else {
+        return Outcome::Lost;
+    };
+    match map.get_or_else_update(rt, seat, 1, key, || signs.make()) {
+        Ok(value) => Outcome::Old(Some(*value)),
+        Err(refusal) => Outcome::Refused(refusal),
+    }
 }
 
-// Were the closure run under the lock, the put would wait for its end, and the turns would run out.
-#[test]
-fn a_value_is_made_with_no_lock_held(rt: HostRuntime) -> Result<(), Fail> {
-    let alloc = rt.alloc();
-    let clients = two_clients(alloc)?;
-    assert!(rt; clients.len() <= MOST_SEATS as usize);
-    let (outs, closed) = with_clients(&rt, alloc, LARGEST, clients)?;
-    let mut outs = outs.into_iter();
-    let getter = outs.next().ok_or("what the first came to")??;
-    let putter = outs.next().ok_or("what the second came to")??;
-    assert_is(&rt, getter, (true, Outcome::Old(Some(2))));
-    assert_is(&rt, putter, (true, Outcome::Old(None)));
-    let wanted = [
-        (0, open(1), Outcome::Unit),
-        (0, get(A), Outcome::Old(None)),
-        (1, put(A, 2), Outcome::Old(None)),
-        (0, on(1, Do::PutIfAbsent(A, 7)), Outcome::Old(Some(2))),
-    ];
-    let entries = entries_of(alloc, &closed)?;
-    assert_is(&rt, entries.len(), wanted.len());
-    for (entry, wanted) in entries.iter().zip(wanted) {
-        assert_is(&rt, (entry.seat, entry.request, entry.outcome), wanted);
+// How many keys are counted. Their path words count up from 0, and A is not among them.
+const PAIRS: u64 = 64;
+
+fn play_counter<J: Room, R: Threads + Wait + Sync>(
+    rt: &R,
+    alloc: Global,
+    map: &TestMap<J>,
+    seat: &mut TestSeat<J>,
+    signs: &Signs,
+) -> Outcome {
+    let mut tickets = Vec::new(alloc);
+    act(rt, alloc, map, seat, &mut tickets, Deed::Ask(Open(1)));
+    for key in 0..PAIRS {
+        act(
+            rt,
+            alloc,
+            map,
+            seat,
+            &mut tickets,
+            Deed::Ask(On(1, Put(key, key))),
+        );
     }
-    Ok(())
+    match Arc::new(alloc, query_of(Question::Count(ALL))) {
+        Ok(query) => bulk(rt, map, seat, &mut tickets, 1, &query, signs),
+        Err(_) => Outcome::Lost,
+    }
+}
+
+fn play_putter<J: Room, R: Threads + Wait + Sync>(
+    rt: &R,
+    alloc: Global,
+    map: &TestMap<J>,
+    seat: &mut TestSeat<J>,
+    signs: &Signs,
+) -> Outcome {
+    let mut tickets = Vec::new(alloc);
+    if !wait_for(&signs.begun) {
+        return Outcome::Lost;
+    }
+    let told = act(
+        rt,
+        alloc,
+        map,
+        seat,
+        &mut tickets,
+        Deed::Ask(On(1, Put(A, 2))),
+    );
+    signs.answered.store(1, Ordering::SeqCst);
+    told
+}
+
+// A client that gets a value or counts, and one that puts.
+fn two_clients(
+    rt: &impl Abort,
+    alloc: Global,
+    signs: &Arc<Signs, Global>,
+    counts: bool,
+) -> Vec<Meeter> {
+    let mine = Arc::try_clone(signs).expect(rt, "no signs");
+    let first = if counts {
+        Meeter::Counter(mine)
+    } else {
+        Meeter::Getter(mine)
+    };
+    let theirs = Arc::try_clone(signs).expect(rt, "no signs");
+    let mut clients = Vec::new(alloc);
+    clients.push(first).expect(rt, "no room");
+    clients.push(Meeter::Putter(theirs)).expect(rt, "no room");
+    clients
+}
+
+// What both clients were told, how many waits ran out, how many pieces the caller of the crew began, and the entries.
+type Met = (Vec<Outcome>, u32, u32, Vec<Entered>);
+
+fn run_pair<R: AllocGlobal + Abort + Threads + Wait + Sync>(rt: &R, counts: bool) -> Met {
+    let alloc = rt.alloc();
+    let signs = Arc::new(alloc, no_signs()).expect(rt, "no signs");
+    let clients = two_clients(rt, alloc, &signs, counts);
+    assert!(rt; clients.len() <= MOST_SEATS as usize);
+    let run = with_clients(rt, alloc, LARGEST, clients);
+    let (told, closed) = run.expect(rt, "no journal");
+    let entries = entries_of(rt, alloc, &closed);
+    assert_replayed(rt, alloc, LARGEST, &closed, &entries);
+    let ran_out = signs.ran_out.load(Ordering::SeqCst);
+    let callers = signs.callers.load(Ordering::SeqCst);
+    (told, ran_out, callers, entries)
+}
+
+// The first client is told this and the put finds nothing, no wait runs out, the caller begins no piece, and behind so
+// many entries there are these.
+fn assert_met<R: AllocGlobal + Abort + Threads + Wait + Sync>(
+    rt: &R,
+    counts: bool,
+    first: Outcome,
+    before: usize,
+    wanted: &[Entered],
+) {
+    let (told, ran_out, callers, entries) = run_pair(rt, counts);
+    assert_is(rt, told.first().copied(), Some(first));
+    assert_is(rt, told.get(1).copied(), Some(Outcome::Old(None)));
+    assert_is(rt, (ran_out, callers), (0, 0));
+    assert_is(rt, entries.len(), before.saturating_add(wanted.len()));
+    for (entry, wanted) in entries.iter().skip(before).zip(wanted) {
+        assert_is(rt, *entry, *wanted);
+    }
+}
+
+fn by(seat: u32, request: Request, outcome: Outcome) -> Entered {
+    Entered {
+        seat,
+        request,
+        outcome,
+    }
+}
+
+// Were the value made under the lock, the put would wait for its end, and the turns would run out.
+#[test]
+fn a_value_is_made_with_no_lock_held(rt: HostRuntime) {
+    let found = Outcome::Old(Some(2));
+    let wanted = [
+        by(0, Open(1), Outcome::Unit),
+        by(0, On(1, Get(A)), Outcome::Old(None)),
+        by(1, On(1, Put(A, 2)), Outcome::Old(None)),
+        by(0, On(1, PutIfAbsent(A, 7)), found),
+    ];
+    assert_met(&rt, false, found, 0, &wanted);
+}
+
+// The keys that are counted, none of which is one of the others.
+const FROZEN: Seen = Seen {
+    len: PAIRS,
+    values: [None; 4],
+};
+
+// The crew counts the map of the freeze. Did it work under the lock, the put would wait for its end, and the turns would
+// run out; and so they would if one thread worked all pieces.
+#[test]
+fn a_crew_counts_with_no_lock_held(rt: HostRuntime) {
+    let freeze = Freeze(1, Question::Count(ALL));
+    let wanted = [
+        by(0, freeze, Outcome::Frozen(0, FROZEN)),
+        by(1, On(1, Put(A, 2)), Outcome::Old(None)),
+        by(0, Finish(0), Outcome::Count(64)),
+    ];
+    assert_met(&rt, true, Outcome::Count(64), 65, &wanted);
 }

@@ -1,0 +1,292 @@
+//! When the values of a map that is dropped or cleared are dropped.
+ghost use Rattle.std.specs.Prelude.{⊤};
+
+use super::requests::shared_key;
+use super::waiting::wait_for;
+use super::{A, LARGEST, assert_is};
+use bulk_ops::{PairFn, Query, Stored};
+use combiner::Sum;
+use handles::{Call, Command};
+use locked_map::{Client, Crew, Free, MOST_SEATS, Room, Seat, SharedMap, with_clients};
+use std::alloc::Global;
+use std::marker::Model;
+use std::process::Abort;
+use std::sync::atomic::{AtomicU32, Ordering};
+use std::sync::{Arc, Wait};
+use std::thread::Threads;
+use test_keys::ChosenKey;
+
+// What two clients tell one another. Each number counts up from 0.
+#[derive(Drop)]
+struct Signs {
+    // Values that are being dropped.
+    dropping: AtomicU32,
+    // Calls that were answered since.
+    answered: AtomicU32,
+    // Values that were dropped while a call could be answered, and while none could.
+    free: AtomicU32,
+    held: AtomicU32,
+}
+
+// A value whose drop waits until another client's call is answered, where it has the signs. Its number is all that is
+// seen of it.
+struct Waiting {
+    number: u32,
+    signs: Option<Arc<Signs, Global>>,
+}
+
+impl Model for Waiting {
+    ghost use Rattle.std.specs.Prelude.{ℕ};
+
+    ghost Value = { ℕ };
+
+    ghost view = { λ waiting. waiting.number };
+}
+
+impl PartialEq for Waiting {
+    ghost use Rattle.std.proofs.Common.{rules};
+    ghost use Rattle.std.specs.Cmp.Rules.{comparing};
+    ghost use Rattle.std.specs.Prelude.{◌==◌};
+
+    ghost eq = { ◌==◌ };
+
+    ghost laws = { Prim.search (comparing, rules) };
+
+    fn eq(&self, other: &Waiting) -> bool {
+        self.number == other.number
+    }
+}
+
+impl Eq for Waiting {
+    ghost use Rattle.std.proofs.Common.{rules};
+    ghost use Rattle.std.specs.Cmp.Rules.{comparing};
+
+    ghost laws = { Prim.search (comparing, rules) };
+}
+
+impl Drop for Waiting {
+    fn drop(self) {
+        let Waiting { number: _, signs } = self;
+        if let Some(signs) = signs {
+            signs.dropping.store(1, Ordering::SeqCst);
+            let count = if wait_for(&signs.answered) {
+                &signs.free
+            } else {
+                &signs.held
+            };
+            count.fetch_add(1, Ordering::SeqCst);
+        }
+    }
+}
+
+// Each pair's new value has the signs.
+#[derive(Drop)]
+struct Signed {
+    signs: Arc<Signs, Global>,
+}
+
+impl PairFn<ChosenKey, Waiting, Waiting> for Signed {
+    ghost use Rattle.std.specs.Prelude.{◌≡◌};
+
+    ghost can = { λ f. Unit {0} };
+
+    ghost gives = { λ f k v r. r ≡ 1 };
+
+    fn answer(&self, _key: &ChosenKey, _value: &Waiting) -> Waiting {
+        Waiting {
+            number: 1,
+            signs: Arc::try_clone(&self.signs).ok(),
+        }
+    }
+}
+
+// A test and an item that are asked of no pair.
+#[derive(Drop)]
+struct NoTest;
+
+impl PairFn<ChosenKey, Waiting, bool> for NoTest {
+    ghost use Rattle.std.specs.Prelude.{⊤};
+
+    ghost can = { λ f. Unit {0} };
+
+    ghost gives = { λ f k v r. ⊤ };
+
+    fn answer(&self, _key: &ChosenKey, _value: &Waiting) -> bool {
+        true
+    }
+}
+
+#[derive(Drop)]
+struct NoItem;
+
+impl PairFn<ChosenKey, Waiting, i128> for NoItem {
+    ghost use Rattle.std.specs.Prelude.{⊤};
+
+    ghost can = { λ f. Unit {0} };
+
+    ghost gives = { λ f k v r. ⊤ };
+
+    fn answer(&self, _key: &ChosenKey, _value: &Waiting) -> i128 {
+        0
+    }
+}
+
+type Signing = Query<ChosenKey, Waiting, NoTest, Signed, Sum, NoItem>;
+
+type WaitingMap<J> = SharedMap<ChosenKey, Waiting, Signing, J>;
+
+type WaitingSeat<J> = Seat<ChosenKey, Waiting, Signing, J>;
+
+// The map of new values, for handle 2.
+fn query_of(signs: Arc<Signs, Global>) -> Signing {
+    Query::MapValues(Stored::new(Signed { signs }), 2)
+}
+
+// The two clients. They come to how often they were answered.
+#[derive(Drop)]
+enum Freer {
+    // Has a crew make a map for handle 2, and clears it, where this says so, or drops it.
+    Dropper(Arc<Signs, Global>, bool),
+    // Opens handle 3 once a value is being dropped.
+    Opener(Arc<Signs, Global>),
+}
+
+impl Client<ChosenKey, Waiting, Signing> for Freer {
+    type Out = bool;
+
+    ghost needs = { λ _. ⊤ };
+
+    ghost gives = { λ _ _ _. ⊤ };
+
+    fn run<J: Room, R: Threads + Wait + Sync>(
+        self,
+        rt: &R,
+        alloc: Global,
+        map: &SharedMap<ChosenKey, Waiting, Signing, J>,
+        seat: &mut Seat<ChosenKey, Waiting, Signing, J>,
+    ) -> bool {
+        match self {
+            Freer::Dropper(signs, clears) => {
+                put_one(rt, alloc, map, seat)
+                    && make_map(rt, alloc, map, seat, signs)
+                    && let_go(rt, map, seat, clears)
+            }
+            Freer::Opener(signs) => open(rt, map, seat, &signs),
+        }
+    }
+}
+
+// Opens handle 1 and puts a pair.
+fn put_one<J: Room, R: Wait>(
+    rt: &R,
+    alloc: Global,
+    map: &WaitingMap<J>,
+    seat: &mut WaitingSeat<J>,
+) -> bool {
+    let value = Waiting {
+        number: 0,
+        signs: None,
+    };
+    let Ok(key) = shared_key(alloc, A) else {
+        return false;
+    };
+    let Ok(value) = Arc::new(alloc, value) else {
+        return false;
+    };
+    map.call(rt, seat, Call::Open(1)).is_ok()
+        && map
+            .call(rt, seat, Call::On(1, Command::Put(key, value)))
+            .is_ok()
+}
+
+// Has a crew make a map of a new value for handle 2. The journal does not have that value.
+fn make_map<J: Room, R: Threads + Wait + Sync>(
+    rt: &R,
+    alloc: Global,
+    map: &WaitingMap<J>,
+    seat: &mut WaitingSeat<J>,
+    signs: Arc<Signs, Global>,
+) -> bool {
+    let Ok(query) = Arc::new(alloc, query_of(signs)) else {
+        return false;
+    };
+    map.bulk(rt, seat, 1, query, Crew::of(1), &Free).is_ok()
+}
+
+fn let_go<J: Room, R: Wait>(
+    rt: &R,
+    map: &WaitingMap<J>,
+    seat: &mut WaitingSeat<J>,
+    clears: bool,
+) -> bool {
+    let call = if clears {
+        Call::On(2, Command::Clear)
+    } else {
+        Call::Drop(2)
+    };
+    map.call(rt, seat, call).is_ok()
+}
+
+fn open<J: Room, R: Wait>(
+    rt: &R,
+    map: &WaitingMap<J>,
+    seat: &mut WaitingSeat<J>,
+    signs: &Signs,
+) -> bool {
+    let is_opened = wait_for(&signs.dropping) && map.call(rt, seat, Call::Open(3)).is_ok();
+    signs.answered.store(1, Ordering::SeqCst);
+    is_opened
+}
+
+// The two clients, with their signs.
+fn two_clients(
+    rt: &impl Abort,
+    alloc: Global,
+    signs: &Arc<Signs, Global>,
+    clears: bool,
+) -> Vec<Freer> {
+    let mine = Arc::try_clone(signs).expect(rt, "no signs");
+    let theirs = Arc::try_clone(signs).expect(rt, "no signs");
+    let mut clients = Vec::new(alloc);
+    clients
+        .push(Freer::Dropper(mine, clears))
+        .expect(rt, "no room");
+    clients.push(Freer::Opener(theirs)).expect(rt, "no room");
+    clients
+}
+
+fn no_signs(rt: &impl Abort, alloc: Global) -> Arc<Signs, Global> {
+    let signs = Signs {
+        dropping: AtomicU32::new(0),
+        answered: AtomicU32::new(0),
+        free: AtomicU32::new(0),
+        held: AtomicU32::new(0),
+    };
+    Arc::new(alloc, signs).expect(rt, "no signs")
+}
+
+// How many values are dropped while a call can be answered, and while none can.
+fn dropped<R: AllocGlobal + Abort + Threads + Wait + Sync>(rt: &R, clears: bool) -> (u32, u32) {
+    let signs = no_signs(rt, rt.alloc());
+    let clients = two_clients(rt, rt.alloc(), &signs, clears);
+    assert!(rt; clients.len() <= MOST_SEATS as usize);
+    let (answered, closed) = with_clients(rt, rt.alloc(), LARGEST, clients).expect(
+        rt,
+        "no journal",
+    );
+    drop(closed);
+    for answered in answered {
+        assert_is(rt, answered, true);
+    }
+    (
+        signs.free.load(Ordering::SeqCst),
+        signs.held.load(Ordering::SeqCst),
+    )
+}
+
+// Were the value dropped under the lock, the call would wait for its end, and it for the call's answer in vain.
+#[test]
+fn a_map_is_freed_with_no_lock_held(rt: HostRuntime) {
+    assert_is(&rt, dropped(&rt, false), (1, 0));
+    assert_is(&rt, dropped(&rt, true), (1, 0));
+}

@@ -1,0 +1,127 @@
+//! The steps of a list, as plain values: what each does, what it is told, and what it files.
+use super::entries::Entered;
+use super::outcomes::{Outcome, Seen};
+use super::questions::Question;
+use super::requests::{Deed, Do, Request};
+use std::alloc::Global;
+use std::process::Abort;
+
+/// A step of the thread. The first number is that of the seat.
+#[derive(Clone, Copy)]
+pub enum Step {
+    /// The seat makes the request, and is told so.
+    Ask(u32, Request, Outcome),
+    /// The same with every request for memory refused.
+    Dry(u32, Request, Outcome),
+    /// The same with requests for memory refused until one more is not.
+    Short(u32, Request, Outcome),
+    /// The seat gets the value of the key on the handle or stores this one, and is told so.
+    GetOrStore(u32, u32, u64, u64, Outcome),
+    /// The same with requests for memory refused until one more is not.
+    ShortGet(u32, u32, u64, u64, Outcome),
+    /// A crew answers the question about the handle's map, and the seat is told so.
+    Bulk(u32, u32, Question, Outcome),
+    /// The same with every request for memory refused.
+    DryBulk(u32, u32, Question, Outcome),
+    /// The same with requests for memory refused until one more is not.
+    ShortBulk(u32, u32, Question, Outcome),
+    /// The seat finishes every job whose ticket there is, and is told this of each.
+    FinishAll(u32, Outcome),
+    /// The seat takes a view of the handle that shows this, and shows it still once the map is gone.
+    Keep(u32, u32, Seen),
+    /// The step before files this entry, by what is no request.
+    Files(u32, Request, Outcome),
+    /// Seats 0 and 1 meet.
+    Meet,
+    /// The ticket of the job is dropped.
+    Lose(u64),
+}
+
+/// How much memory there is.
+#[derive(Clone, Copy)]
+pub enum Memory {
+    Ample,
+    Wanting,
+    None,
+}
+
+/// What a seat does in a step, and what it is told.
+pub type Turn = (u32, Memory, Deed, Outcome);
+
+/// What a seat does in the step, if it is such a step.
+pub fn turn_of(step: Step) -> Option<Turn> {
+    match step {
+        Step::Ask(seat, request, told) => Some((seat, Memory::Ample, Deed::Ask(request), told)),
+        Step::Dry(seat, request, told) => Some((seat, Memory::None, Deed::Ask(request), told)),
+        Step::Short(seat, request, told) => {
+            Some((seat, Memory::Wanting, Deed::Ask(request), told))
+        }
+        Step::GetOrStore(seat, handle, key, value, told) => {
+            let deed = Deed::GetOrStore(handle, key, value);
+            Some((seat, Memory::Ample, deed, told))
+        }
+        Step::ShortGet(seat, handle, key, value, told) => {
+            let deed = Deed::GetOrStore(handle, key, value);
+            Some((seat, Memory::Wanting, deed, told))
+        }
+        Step::Bulk(seat, handle, question, told) => {
+            Some((seat, Memory::Ample, Deed::Bulk(handle, question), told))
+        }
+        Step::DryBulk(seat, handle, question, told) => {
+            Some((seat, Memory::None, Deed::Bulk(handle, question), told))
+        }
+        Step::ShortBulk(seat, handle, question, told) => {
+            Some((seat, Memory::Wanting, Deed::Bulk(handle, question), told))
+        }
+        _ => None,
+    }
+}
+
+/// What a step is to be told.
+pub fn told_in(step: Step) -> Outcome {
+    match step {
+        Step::Keep(_, _, seen) => Outcome::View(seen),
+        Step::FinishAll(_, told) => told,
+        _ => match turn_of(step) {
+            Some((_, _, _, told)) => told,
+            None => Outcome::Unit,
+        },
+    }
+}
+
+/// The entry of a step, where it is known which that is.
+pub fn entry_in(step: Step) -> Option<Entered> {
+    let (seat, request, outcome) = match step {
+        Step::Ask(seat, request, told) => (seat, request, told),
+        Step::Dry(seat, request, told) => (seat, request, told),
+        Step::Short(seat, request, told) => (seat, request, told),
+        Step::Keep(seat, handle, seen) => (seat, Request::View(handle), Outcome::View(seen)),
+        Step::Files(seat, request, told) => (seat, request, told),
+        _ => return None,
+    };
+    if outcome.is_entry() {
+        Some(Entered {
+            seat,
+            request,
+            outcome,
+        })
+    } else {
+        None
+    }
+}
+
+/// The first steps, and so many sizes of handle 1 with so many pairs that there are as many steps as there are to be.
+pub fn filled(
+    rt: &impl Abort,
+    alloc: Global,
+    first: &[Step],
+    count: usize,
+    pairs: u64,
+) -> Vec<Step> {
+    let mut steps = Vec::from_slice(alloc, first).expect(rt, "no steps");
+    for _ in first.len()..count {
+        let size = Step::Ask(0, Request::On(1, Do::Size), Outcome::Size(pairs));
+        steps.push(size).expect(rt, "no room");
+    }
+    steps
+}
