@@ -210,6 +210,15 @@ fn make_map<J: Room, R: Threads + Wait + Sync>(
     let Ok(query) = Arc::new(alloc, query_of(signs)) else {
         return false;
     };
+    ask(rt, map, seat, query)
+}
+
+fn ask<J: Room, R: Threads + Wait + Sync>(
+    rt: &R,
+    map: &WaitingMap<J>,
+    seat: &mut WaitingSeat<J>,
+    query: Arc<Signing>,
+) -> bool {
     map.bulk(rt, seat, 1, query, Crew::of(1), &Free).is_ok()
 }
 

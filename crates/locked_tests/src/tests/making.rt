@@ -64,7 +64,7 @@ pub fn take<J: Room, R: Threads + Wait + Sync>(
         Prepared::GetOrStore(handle, key, value) => {
             get_or_store(rt, map, seat, *handle, key, *value)
         }
-        Prepared::Bulk(handle, query) => bulk(rt, map, seat, tickets, *handle, query, &Free),
+        Prepared::Bulk(handle, query) => take_bulk(rt, map, seat, tickets, *handle, query),
     }
 }
 
@@ -176,6 +176,20 @@ fn get_or_store<J: Room, R: Wait>(
     told_of_got(is_made, &answer)
 }
 
+fn take_bulk<J: Room, R: Threads + Wait + Sync>(
+    rt: &R,
+    map: &TestMap<J>,
+    seat: &mut TestSeat<J>,
+    tickets: &mut Vec<TestTicket<J>>,
+    handle: u32,
+    query: &Arc<Query>,
+) -> Outcome {
+    match Arc::try_clone(query) {
+        Ok(query) => bulk(rt, map, seat, tickets, handle, query, &Free),
+        Err(_) => Outcome::Lost,
+    }
+}
+
 /// Has a crew answer the query, which asks the gate before each piece. A ticket that comes back is added to these.
 pub fn bulk<J: Room, G: Gate + Sync, R: Threads + Wait + Sync>(
     rt: &R,
@@ -183,12 +197,9 @@ pub fn bulk<J: Room, G: Gate + Sync, R: Threads + Wait + Sync>(
     seat: &mut TestSeat<J>,
     tickets: &mut Vec<TestTicket<J>>,
     handle: u32,
-    query: &Arc<Query>,
+    query: Arc<Query>,
     gate: &G,
 ) -> Outcome {
-    let Ok(query) = Arc::try_clone(query) else {
-        return Outcome::Lost;
-    };
     match map.bulk(rt, seat, handle, query, CREW, gate) {
         Ok(answer) => told_of_answer(&answer),
         Err((refusal, ticket)) => match ticket {

@@ -159,7 +159,7 @@ fn play_counter<J: Room, R: Threads + Wait + Sync>(
         );
     }
     match Arc::new(alloc, query_of(Question::Count(ALL))) {
-        Ok(query) => bulk(rt, map, seat, &mut tickets, 1, &query, signs),
+        Ok(query) => bulk(rt, map, seat, &mut tickets, 1, query, signs),
         Err(_) => Outcome::Lost,
     }
 }
