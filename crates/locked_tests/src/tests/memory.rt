@@ -15,7 +15,7 @@ use versions::Refusal;
 const STEP: usize = 16;
 
 // How many are given after a bulk call whose ticket came back, since its job stays open and a table has 64 at most.
-const LARGE_STEP: usize = 1_024;
+const LARGE_STEP: usize = 4_096;
 
 // How often something is tried at most.
 const TRIES: u32 = 4_096;

@@ -113,26 +113,33 @@ fn assert_gets(rt: &impl Abort, entries: &[Entered]) {
     assert_is(rt, entries.len(), made);
 }
 
-const FROZEN: Outcome = Outcome::Frozen(0, FOUR_AND_FIVE);
-
 const TWO: [Step; 3] = [
     Ask(0, Open(1), Outcome::Unit),
     Ask(0, On(1, Put(A, 4)), Outcome::Old(None)),
     Ask(0, On(1, Put(B, 5)), Outcome::Old(None)),
 ];
 
+// The same, and room for a job, which was opened and abandoned.
+const WITH_ROOM: [Step; 5] = [
+    Ask(0, Open(1), Outcome::Unit),
+    Ask(0, On(1, Put(A, 4)), Outcome::Old(None)),
+    Ask(0, On(1, Put(B, 5)), Outcome::Old(None)),
+    Ask(0, Freeze(1, COUNT), Outcome::Frozen(0, FOUR_AND_FIVE)),
+    Ask(0, Abandon(0), Outcome::Abandoned),
+];
+
 // There is room for one entry more, which is that of the freeze. The ticket comes back, and finishes the job by the
 // pairs that there were. The key that was put since is not counted.
 const FINISHED: [Step; 4] = [
     DryBulk(0, 1, COUNT, Outcome::Returned(Refusal::NoMemory)),
-    Files(0, Freeze(1, COUNT), FROZEN),
+    Files(0, Freeze(1, COUNT), Outcome::Frozen(1, FOUR_AND_FIVE)),
     Ask(1, On(1, Put(99, 6)), Outcome::Old(None)),
-    Ask(1, Finish(0), Outcome::Count(2)),
+    Ask(1, Finish(1), Outcome::Count(2)),
 ];
 
 #[test]
 fn the_ticket_of_a_bulk_call_comes_back(rt: HostRuntime) {
-    let mut steps = filled(&rt, rt.alloc(), &TWO, ENTRIES - 1, 2);
+    let mut steps = filled(&rt, rt.alloc(), &WITH_ROOM, ENTRIES - 1, 2);
     for step in FINISHED {
         steps.push(step).expect(&rt, "no room");
     }
