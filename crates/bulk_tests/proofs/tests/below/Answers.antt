@@ -1,5 +1,0 @@
-use Rattle.std.proofs.Common.{nat_lt}
-use Rattle.bulk_tests.proofs.tests.below.Goals as goal
-
-pub new-requires : goal.new-requires
-new-requires c = ((λ k v. nat_lt k.id c.args.id), λ k v r is. is)

@@ -1,5 +1,0 @@
-use Rattle.std.proofs.Common.{pos}
-use Rattle.bulk_tests.proofs.tests.instead.Goals as goal
-
-pub new-requires : goal.new-requires
-new-requires c = ((λ k v. pos c.args.value), λ k v r is. is)

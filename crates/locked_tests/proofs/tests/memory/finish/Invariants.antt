@@ -1,5 +1,0 @@
-use Rattle.locked_tests.proofs.tests.memory.finish.Given as goal
-
--- the part that was handed back answers the query of the ticket that was
-abbrev pub invariant-loop-refused : goal.invariant-loop-refused
-invariant-loop-refused g l = g.Q.Bulk.answers l.ticket.query l.ticket.frozen l.part

@@ -1,0 +1,67 @@
+-- Queries that ask how many pairs a map has, and what is told where there is something.
+use Rattle.std.proofs.Common.{◌≡◌, ℕ, true, [], ◌∷◌, length, filter, refl, ap, sym, subst, ◌∙◌, Option, Some, None}
+use Rattle.std.specs.Prelude.{Result, Ok, Err, IfOk, IfSome}
+use Rattle.versions.specs.Map.{Map}
+use Rattle.bulk_ops.specs.Answers.{Answer, Told, answers, count, passes, told}
+use Rattle.bulk_ops.specs.Told.{told_of}
+use Rattle.bulk_ops.specs.declared.asks.Answer as code
+use Rattle.bulk_ops.specs.declared.asks.Answer.TheVariants.{Count, Truth, Found, Made, Item}
+use Rattle.handles.specs.Machine.{State, Job}
+use Rattle.tests_core_steps.specs.Clients.{AsksSize, IsOnlyJob, IsToldOf, TellsCount}
+
+-- every pair passes
+all_pass : {K V : Type 0} (m : Map K V) → filter (passes (λ k v. true)) m ≡ m
+all_pass [] = refl
+all_pass {K = K} {V = V} (x ∷ m) = ap (λ (n : Map K V). x ∷ n) (all_pass m)
+
+-- a count of all pairs has one answer
+pub size_answer : {K V I : Type 0} (m : Map K V) (a : Answer K V I) → answers (count (λ k v. true)) m a → a ≡ Answer.number (length m)
+size_answer {K = K} {V = V} {I = I} m (Answer.number n) e =
+    let of_number : ℕ → Answer K V I = λ k. Answer.number k in
+    ap of_number (e ∙ ap length (all_pass m))
+size_answer m (Answer.truth b) e = absurd e
+size_answer m (Answer.found x) e = absurd e
+size_answer m (Answer.made n) e = absurd e
+size_answer m (Answer.item i) e = absurd e
+
+-- where a number is told, it is a count's
+pub tells_count : {K V I : Type 0} (a : code.Answer K V I) (n : ℕ) → told_of a ≡ Told.number n → TellsCount a
+tells_count (Count k) n e = tt
+tells_count (Truth b) n e = cc
+tells_count (Found x) n e = cc
+tells_count (Made k) n e = cc
+tells_count (Item i) n e = cc
+
+abbrev number_in : {K V I : Type 0} → Told K V I → ℕ
+number_in (Told.number n) = n
+number_in (Told.truth b) = 0
+number_in (Told.found x) = 0
+number_in (Told.made n) = 0
+number_in (Told.item i) = 0
+
+pub count_is : {K V I : Type 0} (a : code.Answer K V I) (k n : ℕ) → a ≡ Count k → told_of a ≡ Told.number n → k ≡ n
+count_is {K = K} {V = V} {I = I} a k n is e = ap (λ (b : code.Answer K V I). number_in (told_of b)) (sym is) ∙ ap (λ (t : Told K V I). number_in t) e
+
+module _ {K V Q I : Type 0} (answered : Q → Map K V → Answer K V I → Type 0) (q : Q) (m : Map K V) where
+  -- what is told of it is the size
+  pub size_is_told : (a : code.Answer K V I) → AsksSize answered q → IsToldOf answered q m a → told_of a ≡ Told.number (length m)
+  size_is_told a asks is = is.told_so ∙ ap (λ (x : Answer K V I). told x) (asks m is.answer is.is_answer)
+
+  -- what is told of a job that is the number's only one
+  pub told_of_only : {E : Type 0} (s : State K V Q) (j : ℕ) (r : Result (Option (code.Answer K V I)) E) → IsOnlyJob s j (record { query = q; frozen = m })
+      → IfOk r (λ o. IfSome o (λ a. (p : Q) (n : Map K V) → IsOnlyJob s j (record { query = p; frozen = n }) → IsToldOf answered p n a)) → IfOk r (λ o. IfSome o (λ a. IsToldOf answered q m a))
+  told_of_only s j (Ok (Some a)) only told = told q m only
+  told_of_only s j (Ok None) only told = tt
+  told_of_only s j (Err e) only told = tt
+
+  pub told_here : (o : Option (code.Answer K V I)) (a : code.Answer K V I) → o ≡ Some a → IfSome o (λ b. IsToldOf answered q m b) → IsToldOf answered q m a
+  told_here o a e h = subst (λ (p : Option (code.Answer K V I)). IfSome p (λ b. IsToldOf answered q m b)) e h
+
+pub only_here : {K V Q : Type 0} (s : State K V Q) (job : Job K V Q) (o : Option ℕ) (j : ℕ) → o ≡ Some j → IfSome o (λ n. IsOnlyJob s n job) → IsOnlyJob s j job
+only_here s job o j e h = subst (λ (p : Option ℕ). IfSome p (λ n. IsOnlyJob s n job)) e h
+
+pub size_here : (size : ℕ) (o : Option ℕ) (n : ℕ) → o ≡ Some n → IfSome o (λ k. k ≡ size) → n ≡ size
+size_here size o n e h = subst (λ (p : Option ℕ). IfSome p (λ k. k ≡ size)) e h
+
+pub same_here : {M : Type 0} (a b : M) (o : Option ℕ) (n : ℕ) → o ≡ Some n → IfSome o (λ k. a ≡ b) → a ≡ b
+same_here a b o n e h = subst (λ (p : Option ℕ). IfSome p (λ k. a ≡ b)) e h
