@@ -10,7 +10,8 @@ use trie_node::{NoMemory, walk_lists_map};
 
 /// The part of the piece's pairs, for any operation.
 ///
-/// It walks the piece, adds pair after pair to one part, and stops as soon as the part is settled.
+/// It walks the piece, whose pairs it has taken from the trie in bunches, adds pair after pair to one part, and stops as
+/// soon as the part is settled.
 pub fn work<K: PathKey, V, B: Bulk<K, V>>(
     alloc: Global,
     piece: &Piece<K, V>,
@@ -21,7 +22,7 @@ pub fn work<K: PathKey, V, B: Bulk<K, V>>(
 {
     walk_lists_map::<K, V>();
     let mut made = bulk.unit(alloc)?;
-    for (key, value) in piece.pairs()? {
+    for (key, value) in piece.bunched_pairs() {
         bulk.add(alloc, &mut made, key, value)?;
         if bulk.settled(&made) {
             return Ok(made);

@@ -5,6 +5,7 @@ ghost use Rattle.hash_path.specs.Digits.{last_level};
 ghost use Rattle.trie_shape.specs.Outline.{children};
 ghost use Rattle.trie_shape.specs.Tree.{IsTrie};
 ghost use Rattle.trie_shape.specs.View.{pair_values, tree};
+ghost use Rattle.iter.specs.Bunches.{IsFew, pairs_at};
 ghost use Rattle.iter.specs.Subtries.{children_between, nodes_of_all, pairs_of_all};
 ghost use Rattle.iter.specs.Stacks.{IsSound, subtries};
 
@@ -15,12 +16,21 @@ use std::alloc::Global;
 use std::mem;
 use std::sync::Arc;
 use trie_node::{
-    Look, Node, bitmap_counts_children, branch_is_its_children, leaf_is_its_pairs, look,
+    Look, Node, bitmap_counts_children, branch_is_its_children, leaf_is_its_pairs, look, size,
     trie_follows_digits,
 };
 
 /// How many nodes a path has at most: a branch for each digit, and a leaf or bucket.
 const MOST_ON_PATH: usize = WORD_DIGITS as usize + 1;
+
+/// Where a walk stops that takes many pairs at a time.
+#[derive(Drop)]
+pub(crate) enum Stop<'a, K, V> {
+    /// A subtrie of few pairs.
+    Few(&'a Node<K, V>),
+    /// The pairs of a bucket that has more.
+    Bucket(&'a [(Arc<K>, Arc<V>)]),
+}
 
 /// The subtries that a walk has still to enter: children of the branch that it entered last, and of
 /// the branches above that one, the lowest of them last.
@@ -80,6 +90,42 @@ impl<'a, K: PathKey, V> Ahead<'a, K, V> {
             self.entered = self.entered.saturating_add(1);
             match look(node) {
                 Look::Pairs(pairs) => return Some(pairs),
+                Look::Branch(bitmap) => {
+                    let below = Children::between(node, 0, bitmap.count_ones());
+                    self.above
+                        .push_reserved(mem::replace(&mut self.here, below));
+                    self.level += 1;
+                }
+            }
+        }
+    }
+
+    /// Enters subtries up to the next one of at most `most` pairs, or bucket of more, and gives it, where there is one.
+    /// What it enters it does not count.
+    pub(crate) fn next_few(&mut self, most: u64) -> Option<Stop<'a, K, V>>
+        requires sound { IsSound K.cmp K.path_of self.old }
+        ensures sound { IsSound K.cmp K.path_of self.new }
+        ensures some { IfSome result (λ stop. pairs_of_all (subtries self.old) ≡ pairs_at stop ++ pairs_of_all (subtries self.new)) }
+        ensures few { IfSome result (λ stop. IsFew most stop) }
+        ensures pairs { IfSome result (λ stop. 0 < length (pairs_at stop)) }
+        ensures none { IfNone result ((pairs_of_all (subtries self.old) ≡ []) × (subtries self.new ≡ [])) }
+    {
+        bitmap_counts_children::<K, V>();
+        branch_is_its_children::<K, V>();
+        leaf_is_its_pairs::<K, V>();
+        trie_follows_digits::<K, V>();
+        loop {
+            let Some(node) = self.here.take_first() else {
+                self.here = self.above.pop()?;
+                self.level -= 1;
+                continue;
+            };
+            let few = size(node) <= most;
+            if few {
+                return Some(Stop::Few(node));
+            }
+            match look(node) {
+                Look::Pairs(pairs) => return Some(Stop::Bucket(pairs)),
                 Look::Branch(bitmap) => {
                     let below = Children::between(node, 0, bitmap.count_ones());
                     self.above

@@ -2,12 +2,16 @@
 #![tactic(auto)]
 
 mod ahead;
+mod bunched;
 mod children;
 mod interval;
 mod laws;
+mod pouring;
 mod start;
+mod unpoured;
 mod walk;
 
+pub use bunched::BunchedPairs;
 pub use interval::Interval;
 pub use laws::{intervals_tile, parts_follow_intervals};
 pub use start::{pairs, pairs_of};

@@ -11,7 +11,7 @@ ghost use Rattle.splitter.specs.Places.{IsPlace};
 
 use crate::place::{Place, Spot};
 use hash_path::{Bound, PathKey, WORD_BITS};
-use iter::{Interval, Pairs, parts_follow_intervals};
+use iter::{BunchedPairs, Interval, Pairs, parts_follow_intervals};
 use std::alloc::Global;
 use std::marker::Model;
 use trie_node::{
@@ -106,6 +106,26 @@ impl<K: PathKey, V> Piece<K, V> {
             ..
         } = self.spot();
         Ok(Pairs::below(self.alloc, branch, level, from, to, self.count))
+    }
+
+    /// The same walk, which takes its pairs from the trie in bunches: for whoever looks at all of them.
+    pub fn bunched_pairs(&self) -> BunchedPairs<'_, K, V>
+        ensures sorted { IsMap K.cmp self.now.map }
+        ensures few { length self.now.map ≤ MOST_PAIRS }
+        ensures walk { result ≡ walked K.cmp K.path_of (part K.path_of self.now.map self.now.interval) }
+    {
+        self.view.len();
+        parts_follow_intervals::<K, V>();
+        trie_follows_digits::<K, V>();
+        walk_lists_map::<K, V>();
+        let Spot {
+            branch,
+            level,
+            from,
+            to,
+            ..
+        } = self.spot();
+        BunchedPairs::below(self.alloc, branch, level, from, to)
     }
 
     /// Where the pairs of the piece stand: of the whole, below the root.

@@ -107,6 +107,24 @@ fn first(alloc: Global, number: usize) -> Result<View<ChosenKey, i64>, Fail> {
     Ok(version.view()?)
 }
 
+// So many pairs, numbered from 0. Every second has the path word 7, so that half of them share a bucket.
+fn many(alloc: Global, count: u32) -> Result<View<ChosenKey, i64>, Fail> {
+    let mut version = Version::empty(alloc, u64::from(count), Stamp(1))?;
+    for id in 0..count {
+        let path = if id % 2 == 0 {
+            7
+        } else {
+            u64::from(id).wrapping_mul(0x9e37_79b9_7f4a_7c15)
+        };
+        version.put(
+            alloc,
+            Arc::new(alloc, chosen(path, id))?,
+            Arc::new(alloc, i64::from(id))?,
+        )?;
+    }
+    Ok(version.view()?)
+}
+
 // What the map has at the three keys.
 fn at_three(made: &Version<ChosenKey, i64>) -> (Option<i64>, Option<i64>, Option<i64>) {
     (

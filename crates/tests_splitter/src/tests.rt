@@ -1,5 +1,6 @@
 //! Walks and pieces beside plain lists.
 
+mod bunches;
 mod cuts;
 mod memory;
 mod small_cuts;

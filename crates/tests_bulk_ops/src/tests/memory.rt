@@ -1,6 +1,6 @@
 //! Operations whose requests for memory are refused: the first, then the second, and so on.
 
-use super::{Asked, at, at_three, below, chosen, first, instead, plainly, values};
+use super::{Asked, at, at_three, below, chosen, first, instead, many, plainly, values};
 use bulk_ops::{Part, work};
 use combiner::{Both, Bulk, Greatest, Least, Sum, merge};
 use splitter::{Piece, whole};
@@ -93,6 +93,22 @@ fn what_makes_no_map_asks_for_no_memory(rt: HostRuntime) -> Result<(), Fail> {
     assert_eq!(rt; found, Some((1, i64::MIN)));
     let sums = (9_223_372_036_854_775_806, (Some(i64::MIN), Some(i64::MAX)));
     assert!(rt; matches!(&fold, Ok(Part::Item(item)) if *item == sums));
+    Ok(())
+}
+
+// Nor does it where the pairs are more than are taken from the trie at a time.
+#[test]
+fn a_count_of_many_pairs_asks_for_no_memory(rt: HostRuntime) -> Result<(), Fail> {
+    let alloc = rt.alloc();
+    let piece = whole(alloc, many(alloc, 1_200)?);
+    let taken = take_all(alloc)?;
+    let all = work(alloc, &piece, &Asked::Count(below(1_200)));
+    let some = work(alloc, &piece, &Asked::Count(below(301)));
+    let exists = work(alloc, &piece, &Asked::Exists(below(0)));
+    drop(taken);
+    assert!(rt; matches!(&all, Ok(Part::Number(1_200))));
+    assert!(rt; matches!(&some, Ok(Part::Number(301))));
+    assert!(rt; matches!(&exists, Ok(Part::Truth(false))));
     Ok(())
 }
 

@@ -7,5 +7,5 @@ abbrev pub invariant-loop-key : goal.invariant-loop-key
 invariant-loop-key g l = record {
   next : (goal.iterator-loop-key g).can_next l.key-iterator;
   finite : (goal.iterator-loop-key g).is_finite l.key-iterator;
-  working : Working g.K.Ord.cmp (g.B.Bulk.answers l.bulk) l.key-iterator.rest (part g.K.PathKey.path_of l.piece.map l.piece.interval) l.made;
+  working : Working g.K.Ord.cmp (g.B.Bulk.answers l.bulk) l.key-iterator (part g.K.PathKey.path_of l.piece.map l.piece.interval) l.made;
 }

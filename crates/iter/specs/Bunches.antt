@@ -1,0 +1,37 @@
+-- Pairs that are taken from a trie many at a time.
+use Rattle.std.specs.Prelude.{ℕ, ◌≤◌, List, ◌++◌, length, map, flat_map, option_map, Option}
+use Rattle.std.specs.Option.{option_to_list}
+use Rattle.std.specs.declared.sync.Arc.{Arc}
+use Rattle.std.specs.declared.alloc.Global.{Global}
+use Rattle.trie_shape.specs.Shape.{Fits}
+use Rattle.trie_shape.specs.Tree.{entries}
+use Rattle.trie_shape.specs.View.{pair_values, tree}
+use Rattle.iter.specs.Subtries.{pairs_of_all}
+use Rattle.iter.specs.Stacks.{subtries}
+use Rattle.iter.specs.declared.ahead.Stop.{Stop}
+use Rattle.iter.specs.declared.ahead.Stop.TheVariants.{Few, Bucket}
+use Rattle.iter.specs.declared.unpoured.Unpoured.{Unpoured}
+use denote.Ref.{Bor}
+
+module _ {K V : Type 0} where
+  -- the pair that a place of a bunch holds, without where its parts lie
+  abbrev pub held : Option (Bor (Arc K Global × Arc V Global)) → Option (K × V)
+  held place = option_map (λ pair. pair_values pair.now) place
+
+  -- the pairs that places hold, one after another
+  abbrev pub pairs_held : List (Option (Bor (Arc K Global × Arc V Global))) → List (K × V)
+  pairs_held places = flat_map (λ place. option_to_list (held place)) places
+
+  -- the pairs where a walk stops
+  abbrev pub pairs_at : Stop K V → List (K × V)
+  pairs_at (Few node) = entries (tree node.now)
+  pairs_at (Bucket pairs) = map pair_values pairs.now
+
+  -- a subtrie where a walk stops has at most so many pairs
+  abbrev pub IsFew : ℕ → Stop K V → Type 0
+  IsFew most (Few node) = Fits (tree node.now) × (length (entries (tree node.now)) ≤ most)
+  IsFew most (Bucket pairs) = Unit {0}
+
+  -- the pairs that have still to be poured into a bunch
+  abbrev pub unpoured : Unpoured K V → List (K × V)
+  unpoured u = map pair_values u.bucket.now ++ pairs_of_all (subtries u.ahead)

@@ -1,0 +1,55 @@
+//! How a subtrie's pairs are poured into a bunch.
+
+ghost use Rattle.std.specs.Prelude.{◌≡◌, ◌+◌, ◌≤◌, ◌++◌, Some, length, map};
+ghost use Rattle.arrayvec.specs.ArrayVec.{array_vec_len};
+ghost use Rattle.trie_shape.specs.Outline.{children};
+ghost use Rattle.trie_shape.specs.Shape.{Fits};
+ghost use Rattle.trie_shape.specs.Tree.{entries};
+ghost use Rattle.trie_shape.specs.View.{pair_values, tree};
+ghost use Rattle.iter.specs.Bunches.{held};
+
+use arrayvec::ArrayVec;
+use std::sync::Arc;
+use trie_node::{
+    Look, Node, bitmap_counts_children, branch_is_its_children, child, leaf_is_its_pairs, look,
+};
+
+/// How many pairs a bunch has at most.
+pub(crate) const MOST_OF_BUNCH: usize = 256;
+
+/// Pairs where they lie in their nodes, in the order of a walk. A bunch has room of its own and asks for no memory; its
+/// places hold options, since each place has to hold something from the start.
+pub(crate) type Bunch<'a, K, V> = ArrayVec<Option<&'a (Arc<K>, Arc<V>)>, MOST_OF_BUNCH>;
+
+/// Appends the pairs of a node.
+pub(crate) fn pour<'a, K, V>(node: &'a Node<K, V>, bunch: &mut Bunch<'a, K, V>)
+    requires fits { Fits (tree node.now) }
+    requires room { array_vec_len bunch.old + length (entries (tree node.now)) ≤ MOST_OF_BUNCH }
+    ensures { map held bunch.new.items ≡ map held bunch.old.items ++ map Some (entries (tree node.now)) }
+{
+    match look(node) {
+        Look::Pairs(pairs) => {
+            leaf_is_its_pairs::<K, V>();
+            pour_pairs(pairs, bunch);
+        }
+        Look::Branch(bitmap) => {
+            bitmap_counts_children::<K, V>();
+            branch_is_its_children::<K, V>();
+            for n in 0..bitmap.count_ones() {
+                pour(child(node, n), bunch);
+            }
+        }
+    }
+}
+
+/// Appends pairs, and reads what lies behind each: a value's count stands beside the value. Nothing waits for that
+/// read, so the values of many pairs are fetched from memory at the same time.
+pub(crate) fn pour_pairs<'a, K, V>(pairs: &'a [(Arc<K>, Arc<V>)], bunch: &mut Bunch<'a, K, V>)
+    requires { array_vec_len bunch.old + length pairs.now ≤ MOST_OF_BUNCH }
+    ensures { map held bunch.new.items ≡ map held bunch.old.items ++ map Some (map pair_values pairs.now) }
+{
+    for pair in pairs {
+        let _ = Arc::strong_count(&pair.1);
+        bunch.push(Some(pair));
+    }
+}
