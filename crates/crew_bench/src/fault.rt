@@ -2,7 +2,7 @@
 
 use std::alloc::{AllocError, AllocFailed};
 use std::{fmt, io};
-use trie_map::{NoMemory, Refusal};
+use trie_map::{NoMemory, PutError};
 
 /// Why a benchmark stops.
 #[derive(Debug, Drop)]
@@ -46,9 +46,9 @@ impl From<NoMemory> for Fault {
     }
 }
 
-// A stripe of the benchmark's map is never full, so that a refusal is want of memory.
-impl From<Refusal> for Fault {
-    fn from(_: Refusal) -> Fault {
+// A stripe of the benchmark's map is never full, so that a put that is refused is want of memory.
+impl From<PutError> for Fault {
+    fn from(_: PutError) -> Fault {
         Fault::Memory
     }
 }

@@ -6,7 +6,6 @@
 
 mod ages;
 mod entry;
-mod fault;
 mod lookups;
 mod tour;
 
@@ -15,8 +14,8 @@ use std::process::ExitCode;
 fn main(rt: HostRuntime) -> ExitCode {
     match tour::tour(&rt) {
         Ok(()) => ExitCode::SUCCESS,
-        Err(fault) => {
-            let _ = rt.eprintln(format_args!("cache: {fault}"));
+        Err(error) => {
+            let _ = rt.eprintln(format_args!("cache: {error}"));
             ExitCode::FAILURE
         }
     }

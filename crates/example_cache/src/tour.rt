@@ -1,13 +1,13 @@
 //! What the program does.
 
 use crate::ages::{expire, made_since};
-use crate::fault::Fault;
 use crate::lookups::{Cache, sum_of};
+use anyhow::Result;
 use std::rt::Runtime;
 use std::sync::Wait;
 use std::thread;
 use std::thread::Threads;
-use trie_map::{NoMemory, TrieMap};
+use trie_map::TrieMap;
 
 /// How many threads share the cache, and how many numbers each looks up.
 const THREADS: usize = 4;
@@ -15,7 +15,7 @@ const THREADS: usize = 4;
 const LOOKUPS: u64 = 1_000;
 
 /// Fills a cache by four threads, counts a snapshot while they write, and filters old entries out.
-pub fn tour<R: Runtime + AllocGlobal + Threads + Wait + Sync>(rt: &R) -> Result<(), Fault> {
+pub fn tour<R: Runtime + AllocGlobal + Threads + Wait + Sync>(rt: &R) -> Result<()> {
     let alloc = rt.alloc();
     let made: Cache = TrieMap::new(rt)?;
     let cache = &made;
@@ -38,9 +38,9 @@ pub fn tour<R: Runtime + AllocGlobal + Threads + Wait + Sync>(rt: &R) -> Result<
         rt,
         alloc,
         THREADS,
-        &|place: usize| -> Result<u64, Fault> {
+        &|place: usize| -> Result<u64> {
             if place == 0 {
-                return Ok(counted(rt, snapshot)?);
+                return counted(rt, snapshot);
             }
             sum_of(rt, cache, LOOKUPS * place as u64, LOOKUPS)?;
             Ok(0)
@@ -56,7 +56,7 @@ pub fn tour<R: Runtime + AllocGlobal + Threads + Wait + Sync>(rt: &R) -> Result<
 }
 
 // Counts what was made since second 5, and lets the rest go.
-fn aged<R: Runtime + AllocGlobal + Wait>(rt: &R, cache: &Cache) -> Result<(), Fault> {
+fn aged<R: Runtime + AllocGlobal + Wait>(rt: &R, cache: &Cache) -> Result<()> {
     // A question is asked of the cache as it stands, and nobody waits for the answer.
     let (_, young) = cache.query(rt, &made_since(5))?;
     if let Some(young) = young {
@@ -68,7 +68,7 @@ fn aged<R: Runtime + AllocGlobal + Wait>(rt: &R, cache: &Cache) -> Result<(), Fa
 }
 
 // The pairs of a view of the map, one by one.
-fn counted<R: Wait>(rt: &R, map: &Cache) -> Result<u64, NoMemory> {
+fn counted<R: Wait>(rt: &R, map: &Cache) -> Result<u64> {
     let mut count = 0u64;
     for _ in map.view(rt)?.pairs()? {
         count = count.wrapping_add(1);

@@ -2,6 +2,7 @@
 
 use std::alloc::AllocError;
 use std::{fmt, io};
+use trie_map::PutError;
 use trie_node::NoMemory;
 use versions::Refusal;
 
@@ -26,6 +27,12 @@ impl fmt::Display for Fault {
 impl From<Refusal> for Fault {
     fn from(refusal: Refusal) -> Fault {
         Fault::Refused(refusal)
+    }
+}
+
+impl From<PutError> for Fault {
+    fn from(error: PutError) -> Fault {
+        Fault::Refused(Refusal::from(error))
     }
 }
 

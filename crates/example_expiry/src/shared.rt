@@ -10,7 +10,7 @@ use std::sync::Wait;
 use std::thread;
 use std::thread::Threads;
 use task_pool::{Crew, Free, run_crew};
-use trie_map::{NoMemory, Refusal, TrieMap, View};
+use trie_map::{NoMemory, PutError, TrieMap, View};
 
 /// The leases of clients, by their numbers.
 type Registry = TrieMap<u64, Lease>;
@@ -92,7 +92,7 @@ fn outlook_of<R: AllocGlobal + Threads + Wait + Sync>(
 fn write<R: AllocGlobal + Threads + Wait + Sync>(
     rt: &R,
     registry: &Registry,
-) -> Result<(), Refusal> {
+) -> Result<(), PutError> {
     let write_some = |writer: usize| lease_from(rt, registry, first_of(writer), 900);
     for written in thread::map_indices(rt, rt.alloc(), WRITERS, &write_some)? {
         written?;
@@ -111,7 +111,7 @@ fn lease_from<R: Wait>(
     registry: &Registry,
     first: u64,
     earliest: u64,
-) -> Result<(), Refusal> {
+) -> Result<(), PutError> {
     for place in 0..CLIENTS {
         let client = first.wrapping_add(place);
         let until = earliest.wrapping_add(client % 200);

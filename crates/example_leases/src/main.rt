@@ -5,7 +5,7 @@ use std::rt::Runtime;
 use std::sync::Wait;
 use std::thread::Threads;
 use std::{io, thread};
-use tambyulo::{Crew, Refusal, Sum, TrieMap};
+use tambyulo::{Crew, PutError, Sum, TrieMap};
 
 /// The port that a client has.
 #[derive(Drop)]
@@ -16,7 +16,7 @@ struct Lease {
 type Leases = TrieMap<u64, Lease>;
 
 /// Gives a thousand clients of this thread their ports, and takes every fourth away again.
-fn serve<R: Wait>(rt: &R, leases: &Leases, thread: usize) -> Result<(), Refusal> {
+fn serve<R: Wait>(rt: &R, leases: &Leases, thread: usize) -> Result<(), PutError> {
     for client in 0..1_000u64 {
         let key = client.wrapping_mul(4).wrapping_add(thread as u64);
         let port = if client % 2 == 0 { 80 } else { 443 };
@@ -32,7 +32,7 @@ fn serve<R: Wait>(rt: &R, leases: &Leases, thread: usize) -> Result<(), Refusal>
 fn serve_all<R: AllocGlobal + Threads + Wait + Sync>(
     rt: &R,
     leases: &Leases,
-) -> Result<(), Refusal> {
+) -> Result<(), PutError> {
     let serve_one = |place: usize| serve(rt, leases, place);
     for done in thread::map_indices(rt, rt.alloc(), 4, &serve_one)? {
         done?;
@@ -45,7 +45,7 @@ fn serve_all<R: AllocGlobal + Threads + Wait + Sync>(
 type Told = (u16, u64, i128, u64, u64);
 
 /// Takes a tour of the map that four threads have filled.
-fn tour<R: AllocGlobal + Threads + Wait + Sync>(rt: &R) -> Result<Told, Refusal> {
+fn tour<R: AllocGlobal + Threads + Wait + Sync>(rt: &R) -> Result<Told, PutError> {
     let leases: Leases = TrieMap::new(rt)?;
     serve_all(rt, &leases)?;
     leases.put(rt, 5, Lease { port: 8_443 })?;
@@ -68,6 +68,6 @@ fn print_told<R: Runtime>(rt: &R, told: Told) -> io::Result<()> {
 fn main(rt: HostRuntime) -> io::Result<()> {
     match tour(&rt) {
         Ok(told) => print_told(&rt, told),
-        Err(refusal) => println!(rt; "refused: {refusal}"),
+        Err(error) => println!(rt; "refused: {error}"),
     }
 }

@@ -1,31 +1,22 @@
 //! The map that threads share.
-ghost use Rattle.std.specs.Prelude.{◌≡◌, ◌≤◌, All, Bool, IfErr, IfOk, IfSome, IsTrue, None, false, length, option_map};
-ghost use Rattle.std.specs.List.{list_all, list_any};
-ghost use Rattle.bulk_ops.specs.Answers.{items_of, passes, passing};
-ghost use Rattle.bulk_ops.specs.Meanings.{MayAnswer, Means};
-ghost use Rattle.bulk_ops.specs.Parts.{pair_of};
-ghost use Rattle.combiner.specs.Monoids.{folded};
+ghost use Rattle.std.specs.Prelude.{◌≡◌, ◌≤◌, All, IfOk, IfSome, IsTrue, None, false, length};
 ghost use Rattle.hash_path.specs.Digits.{fan_out};
-ghost use Rattle.stripes.specs.Rules.{AllKeep, IsPutRefusal};
+ghost use Rattle.stripes.specs.Rules.{AllKeep};
 ghost use Rattle.stripes.specs.Stripes.{digits_of, up_to};
-ghost use Rattle.trie_map.specs.Questions.{IsAnsweredOfKept, IsFound};
-ghost use Rattle.versions.specs.Map.{Map};
 ghost use Rattle.versions.specs.declared.version.TheConstants.{MOST_PAIRS};
 
+mod asking;
 mod deciding;
 
 use crate::origin::{Origin, found_or_made};
+use crate::put_error::PutError;
 use crate::view::View;
-use bulk_ops::{Answer, Asks, Pair};
-use combiner::Monoid;
 use hash_path::PathKey;
 use std::alloc::Global;
 use std::sync::{Arc, Wait};
-use std::thread::Threads;
 use stripes::{Anything, Keeps, Row, Stripe, blanks, clear_all, empties, forks, joined};
-use task_pool::Crew;
 use trie_node::{Always, Condition, IfAbsent, IfEqual, IfPresent, NoMemory};
-use versions::{Change, Refusal, Version};
+use versions::{Change, Refusal};
 
 /// A map that threads share by reference, for as long as a service runs.
 ///
@@ -111,10 +102,9 @@ impl<K: PathKey + Drop, V: Drop, P: Keeps<K, V>> TrieMap<K, V, P> {
     ///
     /// It is refused as `Full` where the key is new and its stripe has 524,288 pairs, and as `NoMemory` for want of
     /// memory.
-    pub fn put<R: Wait>(&self, rt: &R, key: K, value: V) -> Result<Option<Arc<V>>, Refusal>
+    pub fn put<R: Wait>(&self, rt: &R, key: K, value: V) -> Result<Option<Arc<V>>, PutError>
         requires { P.holds key value }
         ensures kept { IfOk result (λ before. IfSome before (λ found. P.holds key found.value)) }
-        ensures refused { IfErr result IsPutRefusal }
     {
         let key = Arc::new(self.alloc, key)?;
         let value = Arc::new(self.alloc, value)?;
@@ -129,10 +119,9 @@ impl<K: PathKey + Drop, V: Drop, P: Keeps<K, V>> TrieMap<K, V, P> {
         rt: &R,
         key: K,
         value: V,
-    ) -> Result<Option<Arc<V>>, Refusal>
+    ) -> Result<Option<Arc<V>>, PutError>
         requires { P.holds key value }
         ensures kept { IfOk result (λ before. IfSome before (λ found. P.holds key found.value)) }
-        ensures refused { IfErr result IsPutRefusal }
     {
         let key = Arc::new(self.alloc, key)?;
         let value = Arc::new(self.alloc, value)?;
@@ -142,14 +131,13 @@ impl<K: PathKey + Drop, V: Drop, P: Keeps<K, V>> TrieMap<K, V, P> {
     /// Maps the key to the value where the key is present, and answers the value before, or none.
     ///
     /// It is refused for want of memory alone.
-    pub fn replace<R: Wait>(&self, rt: &R, key: K, value: V) -> Result<Option<Arc<V>>, Refusal>
+    pub fn replace<R: Wait>(&self, rt: &R, key: K, value: V) -> Result<Option<Arc<V>>, NoMemory>
         requires { P.holds key value }
         ensures kept { IfOk result (λ before. IfSome before (λ found. P.holds key found.value)) }
-        ensures refused { IfErr result (λ e. e ≡ Refusal.NoMemory) }
     {
         let key = Arc::new(self.alloc, key)?;
         let value = Arc::new(self.alloc, value)?;
-        Ok(self.write(rt, key, value, &IfPresent)?.previous)
+        Ok(self.write_present(rt, key, value, &IfPresent)?.previous)
     }
 
     /// Removes the key, and answers the value before, or none. It is refused for want of memory alone.
@@ -169,11 +157,10 @@ impl<K: PathKey + Drop, V: Drop, P: Keeps<K, V>> TrieMap<K, V, P> {
         rt: &R,
         key: K,
         make: F,
-    ) -> Result<Arc<V>, Refusal>
+    ) -> Result<Arc<V>, PutError>
         requires callable { F.pre make }
         requires rule { (value : V) → F.post make value → P.holds key value }
         ensures kept { IfOk result (λ value. P.holds key value.value) }
-        ensures refused { IfErr result IsPutRefusal }
     {
         let made = match found_or_made(self.get(rt, &key)?, make) {
             Origin::Found(found) => return Ok(found),
@@ -188,65 +175,13 @@ impl<K: PathKey + Drop, V: Drop, P: Keeps<K, V>> TrieMap<K, V, P> {
     }
 
     /// Puts each of the pairs, in order. Where one is refused, as `put` is, those before it are in the map.
-    pub fn extend<R: Wait>(&self, rt: &R, pairs: Vec<(K, V)>) -> Result<(), Refusal>
+    pub fn extend<R: Wait>(&self, rt: &R, pairs: Vec<(K, V)>) -> Result<(), PutError>
         requires { All (λ pair. P.holds pair.0 pair.1) pairs.items }
-        ensures refused { IfErr result IsPutRefusal }
     {
         for (key, value) in pairs {
             self.put(rt, key, value)?;
         }
         Ok(())
-    }
-
-    /// How many pairs pass the test, of the map as it stands at one moment of the call: a view is taken and walked.
-    pub fn count<R: Wait, F: Fn(&K, &V) -> bool>(&self, rt: &R, test: F) -> Result<u64, NoMemory>
-        requires callable { F.IsAlwaysCallable test }
-        ensures { IfOk result (λ count. (m : Map K V) × AllKeep K.cmp P.holds m × ((p : K → V → Bool) → Means (MayAnswer F.Fn test) p → count ≡ length (passing p m))) }
-    {
-        self.view(rt)?.count(test)
-    }
-
-    /// Whether some pair passes the test, of the map as it stands at one moment of the call.
-    pub fn exists<R: Wait, F: Fn(&K, &V) -> bool>(&self, rt: &R, test: F) -> Result<bool, NoMemory>
-        requires callable { F.IsAlwaysCallable test }
-        ensures { IfOk result (λ some. (m : Map K V) × AllKeep K.cmp P.holds m × ((p : K → V → Bool) → Means (MayAnswer F.Fn test) p → some ≡ list_any (passes p) m)) }
-    {
-        self.view(rt)?.exists(test)
-    }
-
-    /// Whether every pair passes the test, of the map as it stands at one moment of the call.
-    pub fn for_all<R: Wait, F: Fn(&K, &V) -> bool>(&self, rt: &R, test: F) -> Result<bool, NoMemory>
-        requires callable { F.IsAlwaysCallable test }
-        ensures { IfOk result (λ all. (m : Map K V) × AllKeep K.cmp P.holds m × ((p : K → V → Bool) → Means (MayAnswer F.Fn test) p → all ≡ list_all (passes p) m)) }
-    {
-        self.view(rt)?.for_all(test)
-    }
-
-    /// A pair that passes the test, if there is one, of the map as it stands at one moment of the call: the first on a
-    /// walk of a view. It keeps the rule.
-    pub fn find<R: Wait, F: Fn(&K, &V) -> bool>(
-        &self,
-        rt: &R,
-        test: F,
-    ) -> Result<Option<Pair<K, V>>, NoMemory>
-        requires callable { F.IsAlwaysCallable test }
-        ensures found { IfOk result (λ found. (m : Map K V) × AllKeep K.cmp P.holds m × ((p : K → V → Bool) → Means (MayAnswer F.Fn test) p → IsFound p m (option_map pair_of found))) }
-        ensures kept { IfOk result (λ found. IfSome found (λ pair. P.holds pair.0.value pair.1.value)) }
-    {
-        self.view(rt)?.find(test)
-    }
-
-    /// The items of all pairs combined by the monoid, of the map as it stands at one moment of the call.
-    pub fn fold<R: Wait, M: Monoid, G: Fn(&K, &V) -> M::Item>(
-        &self,
-        rt: &R,
-        monoid: &M,
-        item: G,
-    ) -> Result<M::Item, NoMemory>
-        requires callable { G.IsAlwaysCallable item }
-        ensures { IfOk result (λ all. (m : Map K V) × AllKeep K.cmp P.holds m × ((i : K → V → M.Item) → Means (MayAnswer G.Fn item) i → all ≡ folded (M.combine monoid.now) (M.unit_of monoid.now) (items_of i m))) }
-    {
-        self.view(rt)?.fold(monoid, item)
     }
 
     /// Removes all pairs at one moment of the call, when all stripes are held. They are dropped once the locks are free.
@@ -285,20 +220,6 @@ impl<K: PathKey + Drop, V: Drop, P: Keeps<K, V>> TrieMap<K, V, P> {
         })
     }
 
-    /// What the query is answered for the map as it stands at one moment of the call, and the map that it makes where
-    /// it has a target. It is worked over a view, so that nobody waits for it. The map that it is answered for is one
-    /// whose pairs all keep the rule.
-    pub fn query<R: Wait, Q: Asks<K, V>>(
-        &self,
-        rt: &R,
-        query: &Q,
-    ) -> Result<(Answer<K, V, Q::Item>, Option<Version<K, V>>), NoMemory>
-        requires { Q.ready query.now }
-        ensures { IfOk result (λ answer. IsAnsweredOfKept K.cmp P.holds (Q.answered query.now) (Q.target_of query.now) answer.0 answer.1) }
-    {
-        self.view(rt)?.query(query)
-    }
-
     // A write of a pair that keeps the rule, where the condition holds.
     fn write<R: Wait, C: Condition<V>>(
         &self,
@@ -306,14 +227,36 @@ impl<K: PathKey + Drop, V: Drop, P: Keeps<K, V>> TrieMap<K, V, P> {
         key: Arc<K>,
         value: Arc<V>,
         condition: &C,
-    ) -> Result<Change<V>, Refusal>
+    ) -> Result<Change<V>, PutError>
         requires { P.holds key.value value.value }
         ensures kept { IfOk result (λ change. IfSome change.previous (λ found. P.holds key.value found.value)) }
-        ensures refused { IfErr result IsPutRefusal }
-        ensures present { C.holds condition.now None ≡ false → IfErr result (λ e. e ≡ Refusal.NoMemory) }
     {
         let mut stripe = self.row.stripe_of(rt, &key);
-        stripe.put_where(self.alloc, key, value, condition)
+        match stripe.put_where(self.alloc, key, value, condition) {
+            Ok(change) => Ok(change),
+            Err(refusal) => Err(PutError::of(refusal)),
+        }
+    }
+
+    // A write of a pair that keeps the rule, where the condition holds, which it never does of an absent key. So no
+    // stripe is too full for it.
+    fn write_present<R: Wait, C: Condition<V>>(
+        &self,
+        rt: &R,
+        key: Arc<K>,
+        value: Arc<V>,
+        condition: &C,
+    ) -> Result<Change<V>, NoMemory>
+        requires rule { P.holds key.value value.value }
+        requires present { C.holds condition.now None ≡ false }
+        ensures kept { IfOk result (λ change. IfSome change.previous (λ found. P.holds key.value found.value)) }
+    {
+        let mut stripe = self.row.stripe_of(rt, &key);
+        match stripe.put_where(self.alloc, key, value, condition) {
+            Ok(change) => Ok(change),
+            Err(Refusal::NoMemory) => Err(NoMemory),
+            Err(_) => unreachable!(),
+        }
     }
 
     // A removal of a key, where the condition holds of its value. The lock is free again when the answer is dropped.
@@ -339,40 +282,16 @@ impl<K: PathKey + Drop, V: Drop, P: Keeps<K, V>> TrieMap<K, V, P> {
     }
 }
 
-impl<K: PathKey + Drop + Send + Sync, V: Drop + Send + Sync, P: Keeps<K, V>> TrieMap<K, V, P> {
-    /// What `query` answers, of the map as it stands at one moment of the call, worked by a crew of threads over a view.
-    ///
-    /// The stripes are held for the view alone, as by `view`: while the crew works no lock is held, and writers go on.
-    /// What runs where, and what is refused, is as for [`View::query_by`](crate::View::query_by): a map with no more
-    /// pairs than the crew's grain is worked by the caller alone.
-    pub fn query_by<R, Q>(
-        &self,
-        rt: &R,
-        query: &Q,
-        crew: Crew,
-    ) -> Result<(Answer<K, V, Q::Item>, Option<Version<K, V>>), NoMemory>
-    where
-        R: Threads + Wait + Sync,
-        Q: Asks<K, V> + Sync,
-        Q::Part: Send,
-        requires { Q.ready query.now }
-        ensures { IfOk result (λ answer. IsAnsweredOfKept K.cmp P.holds (Q.answered query.now) (Q.target_of query.now) answer.0 answer.1) }
-    {
-        self.view(rt)?.query_by(rt, query, crew)
-    }
-}
-
 impl<K: PathKey + Drop, V: Eq + Drop, P: Keeps<K, V>> TrieMap<K, V, P> {
     /// Maps the key to the value where it is mapped to a value equal to `old`, and answers whether it was.
     ///
     /// It is refused for want of memory alone.
-    pub fn replace_if<R: Wait>(&self, rt: &R, key: K, old: &V, value: V) -> Result<bool, Refusal>
+    pub fn replace_if<R: Wait>(&self, rt: &R, key: K, old: &V, value: V) -> Result<bool, NoMemory>
         requires { P.holds key value }
-        ensures refused { IfErr result (λ e. e ≡ Refusal.NoMemory) }
     {
         let key = Arc::new(self.alloc, key)?;
         let value = Arc::new(self.alloc, value)?;
-        Ok(self.write(rt, key, value, &IfEqual(old))?.done)
+        Ok(self.write_present(rt, key, value, &IfEqual(old))?.done)
     }
 
     /// Removes the key where it is mapped to a value equal to `value`, and answers whether it was.

@@ -7,10 +7,10 @@ use std::alloc::Global;
 use std::process::Abort;
 use std::sync::Wait;
 use test_keys::ChosenKey;
-use trie_map::{Answer, ByteText, NoMemory, PairFn, Query, Refusal, Stored, TrieMap};
+use trie_map::{Answer, ByteText, NoMemory, PairFn, PutError, Query, Stored, TrieMap};
 
 // What writes of one key answer, from no pairs on.
-fn written<R: Wait>(rt: &R, map: &Map) -> Result<[Option<u64>; 6], Refusal> {
+fn written<R: Wait>(rt: &R, map: &Map) -> Result<[Option<u64>; 6], PutError> {
     let one = key(3, 0);
     Ok([
         plain(map.get(rt, &one)?),
@@ -23,7 +23,7 @@ fn written<R: Wait>(rt: &R, map: &Map) -> Result<[Option<u64>; 6], Refusal> {
 }
 
 // Whether a key whose value is 8 is written where its value is to be equal to another.
-fn exchanged<R: Wait>(rt: &R, map: &Map) -> Result<[bool; 3], Refusal> {
+fn exchanged<R: Wait>(rt: &R, map: &Map) -> Result<[bool; 3], PutError> {
     let one = key(3, 0);
     Ok([
         map.replace_if(rt, one, &6, 9)?,
@@ -43,7 +43,7 @@ fn removed<R: Wait>(rt: &R, map: &Map) -> Result<[bool; 3], NoMemory> {
 }
 
 // What writes of a key that is not there answer.
-fn written_anew<R: Wait>(rt: &R, map: &Map) -> Result<[Option<u64>; 4], Refusal> {
+fn written_anew<R: Wait>(rt: &R, map: &Map) -> Result<[Option<u64>; 4], PutError> {
     let one = key(3, 0);
     Ok([
         plain(map.replace(rt, one, 1)?),
@@ -72,7 +72,7 @@ fn writes_of_one_key(rt: HostRuntime) {
 }
 
 // Puts two keys of each first digit, with the values 1 and 2.
-fn fill<R: Wait>(rt: &R, alloc: Global, map: &Map) -> Result<(), Refusal> {
+fn fill<R: Wait>(rt: &R, alloc: Global, map: &Map) -> Result<(), PutError> {
     let mut pairs = Vec::new(alloc);
     for digit in 0..32 {
         pairs.push((key(digit, 0), 1))?;
@@ -115,7 +115,7 @@ fn at_two<R: Wait>(rt: &R, map: &Map) -> Result<(Option<u64>, Option<u64>), NoMe
 }
 
 // Writes of a map, of its snapshot, and of the snapshot's.
-fn write_apart<R: Wait>(rt: &R, map: &Map, snapshot: &Map, again: &Map) -> Result<(), Refusal> {
+fn write_apart<R: Wait>(rt: &R, map: &Map, snapshot: &Map, again: &Map) -> Result<(), PutError> {
     map.put(rt, key(0, 0), 10)?;
     snapshot.put(rt, key(31, 0), 20)?;
     again.remove(rt, &key(0, 0))?;
@@ -136,7 +136,7 @@ fn a_snapshot_and_its_map_go_separate_ways(rt: HostRuntime) {
 }
 
 // Writes after a view was taken.
-fn write_after<R: Wait>(rt: &R, map: &Map) -> Result<(), Refusal> {
+fn write_after<R: Wait>(rt: &R, map: &Map) -> Result<(), PutError> {
     map.put(rt, key(7, 0), 2)?;
     map.put(rt, key(8, 0), 3)?;
     Ok(())
@@ -185,7 +185,7 @@ fn value_or<R: AllocGlobal + Wait>(
     rt: &R,
     map: &TrieMap<ByteText, u64>,
     value: u64,
-) -> Result<(u64, u32), Refusal> {
+) -> Result<(u64, u32), PutError> {
     let mut runs = 0u32;
     let text = ByteText::from_text(rt.alloc(), "a")?;
     let found = map.get_or_else_update(rt, text, || {
@@ -203,7 +203,7 @@ fn the_closure_runs_where_the_key_is_absent_alone(rt: HostRuntime) {
 }
 
 // What is answered where the closure puts 7 under the key, and makes 8. It may use the map: no lock is held meanwhile.
-fn put_meanwhile<R: Wait>(rt: &R, map: &Map) -> Result<u64, Refusal> {
+fn put_meanwhile<R: Wait>(rt: &R, map: &Map) -> Result<u64, PutError> {
     let found = map.get_or_else_update(rt, key(1, 0), || {
         let _ = map.put(rt, key(1, 0), 7);
         8

@@ -6,7 +6,7 @@ use std::sync::{Arc, Wait};
 use std::thread;
 use std::thread::Threads;
 use test_keys::ChosenKey;
-use trie_map::{Refusal, TrieMap};
+use trie_map::{PutError, TrieMap};
 
 // How often a thread lets others run before it gives up.
 const PATIENCE: u32 = 4_000_000;
@@ -55,7 +55,11 @@ impl Drop for Waiting {
 type Values = TrieMap<ChosenKey, Waiting>;
 
 // Puts a pair, and clears the map.
-fn put_and_clear<R: Wait>(rt: &R, map: &Values, signs: &Arc<Signs, Global>) -> Result<(), Refusal> {
+fn put_and_clear<R: Wait>(
+    rt: &R,
+    map: &Values,
+    signs: &Arc<Signs, Global>,
+) -> Result<(), PutError> {
     let signs = Arc::try_clone(signs)?;
     map.put(rt, key(3, 0), Waiting { signs })?;
     map.clear(rt)?;
@@ -71,7 +75,7 @@ fn lock_all<R: Wait>(rt: &R, map: &Values, signs: &Signs) {
 }
 
 // The two threads: how many values were dropped while no lock was held, and how many while one was.
-fn dropped<R: AllocGlobal + Threads + Wait + Sync>(rt: &R) -> Result<(u32, u32), Refusal> {
+fn dropped<R: AllocGlobal + Threads + Wait + Sync>(rt: &R) -> Result<(u32, u32), PutError> {
     let made: Values = TrieMap::new(rt)?;
     let map = &made;
     let signs = Arc::new(

@@ -4,7 +4,7 @@ use std::alloc::{AllocError, Global};
 use std::sync::Wait;
 use std::test::Fail;
 use test_keys::take_all;
-use trie_map::{Refusal, TrieMap};
+use trie_map::{PutError, TrieMap};
 
 // The sizes of what a put asks for: an `Arc` of its key or value, and the first room for the children of a branch.
 const SMALL: usize = 16;
@@ -27,7 +27,7 @@ fn without_memory<R: Wait>(rt: &R, map: &Map) -> [bool; 7] {
             .is_ok_and(|found| plain(found) == Some(1)),
         map.contains_key(rt, &key(1, 1)),
         map.len(rt) == 2,
-        matches!(map.put(rt, key(2, 0), 3), Err(Refusal::NoMemory)),
+        matches!(map.put(rt, key(2, 0), 3), Err(PutError::NoMemory)),
         map.clear(rt).is_err(),
         map.view(rt).is_err(),
         map.snapshot(rt).is_err(),
@@ -63,7 +63,7 @@ fn put_in_room<R: Wait>(
     map: &Map,
     small: usize,
     large: usize,
-) -> Result<Result<Option<u64>, Refusal>, AllocError> {
+) -> Result<Result<Option<u64>, PutError>, AllocError> {
     let smalls = blocks(alloc, small, SMALL)?;
     let larges = blocks(alloc, large, LARGE)?;
     let taken = take_all(alloc)?;
@@ -78,7 +78,7 @@ fn put_in_room<R: Wait>(
 }
 
 // The values of the two keys.
-fn both<R: Wait>(rt: &R, map: &Map) -> Result<[Option<u64>; 2], Refusal> {
+fn both<R: Wait>(rt: &R, map: &Map) -> Result<[Option<u64>; 2], PutError> {
     Ok([
         plain(map.get(rt, &key(1, 0))?),
         plain(map.get(rt, &key(2, 0))?),
@@ -91,14 +91,14 @@ fn is_put_in_room<R: AllocGlobal + Wait>(
     rt: &R,
     small: usize,
     large: usize,
-) -> Result<Option<bool>, Refusal> {
+) -> Result<Option<bool>, PutError> {
     let map: Map = TrieMap::new(rt)?;
     map.put(rt, key(1, 0), 1)?;
     let answer = put_in_room(rt, rt.alloc(), &map, small, large)?;
     let values = both(rt, &map)?;
     match answer {
         Ok(None) if values == [Some(1), Some(2)] => Ok(Some(true)),
-        Err(Refusal::NoMemory) if values == [Some(1), None] => Ok(Some(false)),
+        Err(PutError::NoMemory) if values == [Some(1), None] => Ok(Some(false)),
         _ => Ok(None),
     }
 }
@@ -160,7 +160,7 @@ fn is_granted_in<R: Wait>(
 }
 
 // Puts a key of each first digit.
-fn fill<R: Wait>(rt: &R, map: &Map) -> Result<(), Refusal> {
+fn fill<R: Wait>(rt: &R, map: &Map) -> Result<(), PutError> {
     for digit in 0..32 {
         map.put(rt, key(digit, 0), u64::from(digit))?;
     }

@@ -7,7 +7,7 @@ use std::thread;
 use std::thread::Threads;
 use std::time::{Clock, Duration};
 use test_keys::ChosenKey;
-use trie_map::{NoMemory, Refusal, TrieMap};
+use trie_map::{NoMemory, PutError, TrieMap};
 
 // How often the writer writes. The reader looks until the writer is done.
 const TURNS: u32 = 5_000;
@@ -33,7 +33,7 @@ fn remove_and_put<R: Wait>(
     map: &Map,
     from: &ChosenKey,
     to: ChosenKey,
-) -> Result<(), Refusal> {
+) -> Result<(), PutError> {
     map.remove(rt, from)?;
     map.put(rt, to, 1)?;
     Ok(())
@@ -44,7 +44,7 @@ fn put_and_remove<R: Wait>(
     map: &Map,
     from: &ChosenKey,
     to: ChosenKey,
-) -> Result<(), Refusal> {
+) -> Result<(), PutError> {
     map.put(rt, to, 1)?;
     map.remove(rt, from)?;
     Ok(())
@@ -55,7 +55,7 @@ fn put_and_clear<R: Wait>(
     map: &Map,
     first: ChosenKey,
     second: ChosenKey,
-) -> Result<(), Refusal> {
+) -> Result<(), PutError> {
     map.put(rt, first, 1)?;
     map.put(rt, second, 2)?;
     map.clear(rt)?;
@@ -69,7 +69,7 @@ fn turn<R: Wait>(
     writes: Writes,
     first: ChosenKey,
     second: ChosenKey,
-) -> Result<(), Refusal> {
+) -> Result<(), PutError> {
     match writes {
         Writes::RemovedFirst => {
             remove_and_put(rt, map, &first, second)?;
@@ -94,7 +94,7 @@ fn write<R: Wait>(
     writes: Writes,
     first: ChosenKey,
     second: ChosenKey,
-) -> Result<(), Refusal> {
+) -> Result<(), PutError> {
     for _ in 0..TURNS {
         turn(rt, map, writes, first, second)?;
     }
@@ -136,7 +136,7 @@ fn look<R: Wait>(
     first: &ChosenKey,
     second: &ChosenKey,
     done: &AtomicU32,
-) -> Result<u32, Refusal> {
+) -> Result<u32, PutError> {
     let mut wrong = 0u32;
     for _ in rt.forever() {
         if is_wrong(rt, map, writes, first, second)? {
@@ -168,7 +168,7 @@ fn work<R: Wait + Clock + Abort>(
     keys: (ChosenKey, ChosenKey),
     done: &AtomicU32,
     number: usize,
-) -> Result<u32, Refusal> {
+) -> Result<u32, PutError> {
     if number == 0 {
         let written = write(rt, map, writes, keys.0, keys.1);
         done.store(1, Ordering::SeqCst);
@@ -188,7 +188,7 @@ fn wrong_looks<R: AllocGlobal + Threads + Wait + Clock + Abort + Sync>(
     writes: Writes,
     first: ChosenKey,
     second: ChosenKey,
-) -> Result<u32, Refusal> {
+) -> Result<u32, PutError> {
     let made: Map = TrieMap::new(rt)?;
     let map = &made;
     map.put(rt, first, 1)?;

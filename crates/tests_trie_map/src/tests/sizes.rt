@@ -3,7 +3,7 @@ use super::{Map, assert_is, empty, key, plain};
 use std::alloc::Global;
 use std::sync::Wait;
 use test_keys::ChosenKey;
-use trie_map::{MOST_PAIRS_OF_STRIPE, NoMemory, Refusal};
+use trie_map::{MOST_PAIRS_OF_STRIPE, NoMemory, PutError};
 
 // More pairs than numbers of 16 bits, twice over.
 const MANY: u64 = 131_073;
@@ -22,7 +22,7 @@ fn in_first_stripe(number: u64) -> ChosenKey {
 }
 
 // Puts many keys, and answers how many were there before.
-fn put_many<R: Wait>(rt: &R, map: &Map) -> Result<u64, Refusal> {
+fn put_many<R: Wait>(rt: &R, map: &Map) -> Result<u64, PutError> {
     let mut there = 0u64;
     for number in 0..MANY {
         if map.put(rt, numbered(number), number)?.is_some() {
@@ -78,7 +78,7 @@ fn many_pairs(rt: HostRuntime) {
 }
 
 // Puts as many keys of the first digit 0 as a stripe may have.
-fn fill<R: Wait>(rt: &R, map: &Map) -> Result<(), Refusal> {
+fn fill<R: Wait>(rt: &R, map: &Map) -> Result<(), PutError> {
     for number in 0..MOST_PAIRS_OF_STRIPE {
         map.put(rt, in_first_stripe(number), number)?;
     }
@@ -89,11 +89,11 @@ fn fill<R: Wait>(rt: &R, map: &Map) -> Result<(), Refusal> {
 fn of_new<R: Wait>(rt: &R, map: &Map) -> [bool; 8] {
     let new = in_first_stripe(MOST_PAIRS_OF_STRIPE);
     [
-        map.put(rt, new, 1).is_err_and(|e| e == Refusal::Full),
+        map.put(rt, new, 1).is_err_and(|e| e == PutError::Full),
         map.put_if_absent(rt, new, 1)
-            .is_err_and(|e| e == Refusal::Full),
+            .is_err_and(|e| e == PutError::Full),
         map.get_or_else_update(rt, new, || 1)
-            .is_err_and(|e| e == Refusal::Full),
+            .is_err_and(|e| e == PutError::Full),
         map.replace(rt, new, 1).is_ok_and(|found| found.is_none()),
         map.replace_if(rt, new, &1, 2).is_ok_and(|done| !done),
         map.remove(rt, &new).is_ok_and(|found| found.is_none()),
@@ -103,7 +103,7 @@ fn of_new<R: Wait>(rt: &R, map: &Map) -> [bool; 8] {
 }
 
 // What calls on a key of the full stripe are answered, whose value is 5.
-fn of_old<R: Wait>(rt: &R, map: &Map) -> Result<[u64; 6], Refusal> {
+fn of_old<R: Wait>(rt: &R, map: &Map) -> Result<[u64; 6], PutError> {
     let old = in_first_stripe(5);
     Ok([
         plain(map.get(rt, &old)?).unwrap_or(0),
@@ -116,7 +116,7 @@ fn of_old<R: Wait>(rt: &R, map: &Map) -> Result<[u64; 6], Refusal> {
 }
 
 // Puts a key of another stripe, one that is new to the full stripe, and one more, which is not reached.
-fn extended<R: Wait>(rt: &R, alloc: Global, map: &Map) -> Result<(), Refusal> {
+fn extended<R: Wait>(rt: &R, alloc: Global, map: &Map) -> Result<(), PutError> {
     let mut pairs = Vec::new(alloc);
     pairs.push((key(1, 0), 1))?;
     pairs.push((in_first_stripe(MOST_PAIRS_OF_STRIPE), 2))?;
@@ -125,7 +125,7 @@ fn extended<R: Wait>(rt: &R, alloc: Global, map: &Map) -> Result<(), Refusal> {
 }
 
 // Removes a key of the full stripe, and puts one that is new to it: what each is answered.
-fn made_room<R: Wait>(rt: &R, map: &Map) -> Result<[Option<u64>; 2], Refusal> {
+fn made_room<R: Wait>(rt: &R, map: &Map) -> Result<[Option<u64>; 2], PutError> {
     Ok([
         plain(map.remove(rt, &in_first_stripe(9))?),
         plain(map.put(rt, in_first_stripe(MOST_PAIRS_OF_STRIPE), 9)?),
@@ -139,7 +139,7 @@ fn a_full_stripe(rt: HostRuntime) {
     assert_is(&rt, of_new(&rt, &map), [true; 8]);
     assert_is(&rt, of_old(&rt, &map), Ok([5, 5, 6, 6, 1, 8]));
     let extension = extended(&rt, rt.alloc(), &map);
-    assert_is(&rt, extension, Err(Refusal::Full));
+    assert_is(&rt, extension, Err(PutError::Full));
     assert_is(&rt, map.contains_key(&rt, &key(1, 0)), true);
     assert_is(&rt, map.contains_key(&rt, &key(2, 0)), false);
     assert_is(&rt, made_room(&rt, &map), Ok([Some(9), None]));

@@ -5,7 +5,7 @@ use std::test::Fail;
 use std::thread;
 use std::thread::Threads;
 use test_keys::ChosenKey;
-use trie_map::{Refusal, TrieMap};
+use trie_map::{PutError, TrieMap};
 
 // How many threads there are, how many calls each makes, and how often all of it is done.
 const THREADS: u32 = 8;
@@ -91,7 +91,7 @@ fn share<R: Wait>(
     number: u32,
     call: u32,
     counts: &mut Counts,
-) -> Result<(), Refusal> {
+) -> Result<(), PutError> {
     let shared = key(number % 32, number % SHARED);
     if number % 3 == 0 {
         if map.remove(rt, &shared)?.is_some() {
@@ -114,7 +114,7 @@ fn own<R: Wait>(
     value: u64,
     left: &mut u64,
     counts: &mut Counts,
-) -> Result<(), Refusal> {
+) -> Result<(), PutError> {
     let mine = key(id % 32, id);
     let before = plain(map.put(rt, mine, value)?);
     counts.put(before);
@@ -131,7 +131,7 @@ fn write_pair<R: Wait>(
     of: u32,
     value: u64,
     counts: &mut Counts,
-) -> Result<(), Refusal> {
+) -> Result<(), PutError> {
     let (first, second) = pair(of);
     counts.put(plain(map.put(rt, first, value)?));
     counts.put(plain(map.put(rt, second, value)?));
@@ -149,7 +149,7 @@ fn look(view: &Seen, counts: &mut Counts) {
 }
 
 // The calls of one thread.
-fn work<R: Wait>(rt: &R, map: &Map, of: u32) -> Result<Counts, Refusal> {
+fn work<R: Wait>(rt: &R, map: &Map, of: u32) -> Result<Counts, PutError> {
     let mut counts = none();
     let mut left = [0u64; OWN];
     let mut state = u64::from(of) + 1;
@@ -178,7 +178,7 @@ fn work<R: Wait>(rt: &R, map: &Map, of: u32) -> Result<Counts, Refusal> {
 }
 
 // All of it once: the counts of all threads, and the size of the map at the end.
-fn one_round<R: AllocGlobal + Threads + Wait + Sync>(rt: &R) -> Result<(Counts, u64), Refusal> {
+fn one_round<R: AllocGlobal + Threads + Wait + Sync>(rt: &R) -> Result<(Counts, u64), PutError> {
     let made: Map = TrieMap::new(rt)?;
     let map = &made;
     let mut sum = none();

@@ -4,7 +4,7 @@ use std::sync::Wait;
 use std::thread;
 use std::thread::Threads;
 use test_keys::ChosenKey;
-use trie_map::{Refusal, TrieMap};
+use trie_map::{PutError, TrieMap};
 
 // How many threads count, and how often each does.
 const THREADS: usize = 4;
@@ -12,7 +12,7 @@ const THREADS: usize = 4;
 const TIMES: u32 = 1_000;
 
 // What updates of one key answer: it is stored, doubled twice, removed, and left absent.
-fn updated<R: Wait>(rt: &R, map: &Map) -> Result<[Option<u64>; 5], Refusal> {
+fn updated<R: Wait>(rt: &R, map: &Map) -> Result<[Option<u64>; 5], PutError> {
     let one = key(3, 0);
     Ok([
         plain(map.update(rt, one, |_| Some(5))?),
@@ -32,7 +32,7 @@ fn updates_of_one_key(rt: HostRuntime) {
 }
 
 // Counts the word once more, so often.
-fn count<R: Wait>(rt: &R, counts: &Map, word: ChosenKey) -> Result<(), Refusal> {
+fn count<R: Wait>(rt: &R, counts: &Map, word: ChosenKey) -> Result<(), PutError> {
     for _ in 0..TIMES {
         counts.update(rt, word, |old| Some(old.map_or(1, |n| n.saturating_add(1))))?;
     }
@@ -40,7 +40,7 @@ fn count<R: Wait>(rt: &R, counts: &Map, word: ChosenKey) -> Result<(), Refusal> 
 }
 
 // The count of a word that all threads count.
-fn counted<R: AllocGlobal + Threads + Wait + Sync>(rt: &R) -> Result<Option<u64>, Refusal> {
+fn counted<R: AllocGlobal + Threads + Wait + Sync>(rt: &R) -> Result<Option<u64>, PutError> {
     let made: Map = TrieMap::new(rt)?;
     let counts = &made;
     let word = key(5, 0);

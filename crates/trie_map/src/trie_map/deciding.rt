@@ -1,14 +1,13 @@
 //! Writes of a map that a closure decides on, under the lock of the key's stripe.
-ghost use Rattle.std.specs.Prelude.{◌≡◌, IfErr, IfOk, IfSome, Option, option_map};
+ghost use Rattle.std.specs.Prelude.{◌≡◌, IfOk, IfSome, Option, option_map};
 ghost use Rattle.std.specs.Arc.{arc_value};
-ghost use Rattle.stripes.specs.Rules.{IsPutRefusal};
 ghost use Rattle.stripes.specs.Updates.{MayMake};
 
 use super::TrieMap;
+use crate::put_error::PutError;
 use hash_path::PathKey;
 use std::sync::{Arc, Wait};
 use stripes::Keeps;
-use versions::Refusal;
 
 impl<K: PathKey + Drop, V: Drop, P: Keeps<K, V>> TrieMap<K, V, P> {
     /// Calls `change` at the value that the key has, or at none, and stores what it makes of it, as one step: no other
@@ -27,15 +26,17 @@ impl<K: PathKey + Drop, V: Drop, P: Keeps<K, V>> TrieMap<K, V, P> {
         rt: &R,
         key: K,
         change: F,
-    ) -> Result<Option<Arc<V>>, Refusal>
+    ) -> Result<Option<Arc<V>>, PutError>
         requires callable { (old : _) → IfSome old (λ value. P.holds key value.now) → F.pre change old }
         requires rule { (old : _) (made : _) → IfSome old (λ value. P.holds key value.now) → F.post change old made → IfSome made (P.holds key) }
         ensures made { IfOk result (λ before. (made : Option V) × MayMake F.FnOnce change (option_map arc_value before) made) }
         ensures kept { IfOk result (λ before. IfSome before (λ found. P.holds key found.value)) }
-        ensures refused { IfErr result IsPutRefusal }
     {
         let key = Arc::new(self.alloc, key)?;
         let mut stripe = self.row.stripe_of(rt, &key);
-        stripe.update(self.alloc, key, change)
+        match stripe.update(self.alloc, key, change) {
+            Ok(before) => Ok(before),
+            Err(refusal) => Err(PutError::of(refusal)),
+        }
     }
 }

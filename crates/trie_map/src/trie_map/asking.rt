@@ -1,0 +1,112 @@
+//! Questions about a map that threads share.
+ghost use Rattle.std.specs.Prelude.{◌≡◌, Bool, IfOk, IfSome, length, option_map};
+ghost use Rattle.std.specs.List.{list_all, list_any};
+ghost use Rattle.bulk_ops.specs.Answers.{items_of, passes, passing};
+ghost use Rattle.bulk_ops.specs.Meanings.{MayAnswer, Means};
+ghost use Rattle.bulk_ops.specs.Parts.{pair_of};
+ghost use Rattle.combiner.specs.Monoids.{folded};
+ghost use Rattle.stripes.specs.Rules.{AllKeep};
+ghost use Rattle.trie_map.specs.Questions.{IsAnsweredOfKept, IsFound};
+ghost use Rattle.versions.specs.Map.{Map};
+
+use super::TrieMap;
+use bulk_ops::{Answer, Asks, Pair};
+use combiner::Monoid;
+use hash_path::PathKey;
+use std::sync::Wait;
+use std::thread::Threads;
+use stripes::Keeps;
+use task_pool::Crew;
+use trie_node::NoMemory;
+use versions::Version;
+
+/// Each question takes a view and works it, so that nobody waits for the work.
+impl<K: PathKey + Drop, V: Drop, P: Keeps<K, V>> TrieMap<K, V, P> {
+    /// How many pairs pass the test, of the map as it stands at one moment of the call: a view is taken and walked.
+    pub fn count<R: Wait, F: Fn(&K, &V) -> bool>(&self, rt: &R, test: F) -> Result<u64, NoMemory>
+        requires callable { F.IsAlwaysCallable test }
+        ensures { IfOk result (λ count. (m : Map K V) × AllKeep K.cmp P.holds m × ((p : K → V → Bool) → Means (MayAnswer F.Fn test) p → count ≡ length (passing p m))) }
+    {
+        self.view(rt)?.count(test)
+    }
+
+    /// Whether some pair passes the test, of the map as it stands at one moment of the call.
+    pub fn exists<R: Wait, F: Fn(&K, &V) -> bool>(&self, rt: &R, test: F) -> Result<bool, NoMemory>
+        requires callable { F.IsAlwaysCallable test }
+        ensures { IfOk result (λ some. (m : Map K V) × AllKeep K.cmp P.holds m × ((p : K → V → Bool) → Means (MayAnswer F.Fn test) p → some ≡ list_any (passes p) m)) }
+    {
+        self.view(rt)?.exists(test)
+    }
+
+    /// Whether every pair passes the test, of the map as it stands at one moment of the call.
+    pub fn for_all<R: Wait, F: Fn(&K, &V) -> bool>(&self, rt: &R, test: F) -> Result<bool, NoMemory>
+        requires callable { F.IsAlwaysCallable test }
+        ensures { IfOk result (λ all. (m : Map K V) × AllKeep K.cmp P.holds m × ((p : K → V → Bool) → Means (MayAnswer F.Fn test) p → all ≡ list_all (passes p) m)) }
+    {
+        self.view(rt)?.for_all(test)
+    }
+
+    /// A pair that passes the test, if there is one, of the map as it stands at one moment of the call: the first on a
+    /// walk of a view. It keeps the rule.
+    pub fn find<R: Wait, F: Fn(&K, &V) -> bool>(
+        &self,
+        rt: &R,
+        test: F,
+    ) -> Result<Option<Pair<K, V>>, NoMemory>
+        requires callable { F.IsAlwaysCallable test }
+        ensures found { IfOk result (λ found. (m : Map K V) × AllKeep K.cmp P.holds m × ((p : K → V → Bool) → Means (MayAnswer F.Fn test) p → IsFound p m (option_map pair_of found))) }
+        ensures kept { IfOk result (λ found. IfSome found (λ pair. P.holds pair.0.value pair.1.value)) }
+    {
+        self.view(rt)?.find(test)
+    }
+
+    /// The items of all pairs combined by the monoid, of the map as it stands at one moment of the call.
+    pub fn fold<R: Wait, M: Monoid, G: Fn(&K, &V) -> M::Item>(
+        &self,
+        rt: &R,
+        monoid: &M,
+        item: G,
+    ) -> Result<M::Item, NoMemory>
+        requires callable { G.IsAlwaysCallable item }
+        ensures { IfOk result (λ all. (m : Map K V) × AllKeep K.cmp P.holds m × ((i : K → V → M.Item) → Means (MayAnswer G.Fn item) i → all ≡ folded (M.combine monoid.now) (M.unit_of monoid.now) (items_of i m))) }
+    {
+        self.view(rt)?.fold(monoid, item)
+    }
+
+    /// What the query is answered for the map as it stands at one moment of the call, and the map that it makes where
+    /// it has a target. It is worked over a view, so that nobody waits for it. The map that it is answered for is one
+    /// whose pairs all keep the rule.
+    pub fn query<R: Wait, Q: Asks<K, V>>(
+        &self,
+        rt: &R,
+        query: &Q,
+    ) -> Result<(Answer<K, V, Q::Item>, Option<Version<K, V>>), NoMemory>
+        requires { Q.ready query.now }
+        ensures { IfOk result (λ answer. IsAnsweredOfKept K.cmp P.holds (Q.answered query.now) (Q.target_of query.now) answer.0 answer.1) }
+    {
+        self.view(rt)?.query(query)
+    }
+}
+
+impl<K: PathKey + Drop + Send + Sync, V: Drop + Send + Sync, P: Keeps<K, V>> TrieMap<K, V, P> {
+    /// What `query` answers, of the map as it stands at one moment of the call, worked by a crew of threads over a view.
+    ///
+    /// The stripes are held for the view alone, as by `view`: while the crew works no lock is held, and writers go on.
+    /// What runs where, and what is refused, is as for [`View::query_by`](crate::View::query_by): a map with no more
+    /// pairs than the crew's grain is worked by the caller alone.
+    pub fn query_by<R, Q>(
+        &self,
+        rt: &R,
+        query: &Q,
+        crew: Crew,
+    ) -> Result<(Answer<K, V, Q::Item>, Option<Version<K, V>>), NoMemory>
+    where
+        R: Threads + Wait + Sync,
+        Q: Asks<K, V> + Sync,
+        Q::Part: Send,
+        requires { Q.ready query.now }
+        ensures { IfOk result (λ answer. IsAnsweredOfKept K.cmp P.holds (Q.answered query.now) (Q.target_of query.now) answer.0 answer.1) }
+    {
+        self.view(rt)?.query_by(rt, query, crew)
+    }
+}
