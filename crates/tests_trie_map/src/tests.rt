@@ -8,6 +8,7 @@ mod moments;
 mod sizes;
 mod threads;
 mod updates;
+mod walks;
 
 use std::fmt::Debug;
 use std::process::Abort;

@@ -5,6 +5,8 @@ ghost use Rattle.stripes.specs.Rules.{AllKeep};
 ghost use Rattle.trie_shape.specs.Order.{walked};
 ghost use Rattle.versions.specs.Map.{IsMap, value_at};
 
+mod walking;
+
 use crate::columns::{Keys, Values};
 use crate::crew::within_limits;
 use bulk_ops::{Answer, Asks, ask};

@@ -1,0 +1,59 @@
+//! Walks over a view that a `for` takes as they are.
+ghost use Rattle.std.specs.Prelude.{◌≡◌, All, IsPermutation};
+ghost use Rattle.trie_shape.specs.Order.{walked};
+ghost use Rattle.trie_shape.specs.Roots.{IsRoot, map_of};
+ghost use Rattle.trie_shape.specs.View.{tree};
+
+use super::View;
+use hash_path::PathKey;
+use iter::Pairs;
+use std::alloc::Global;
+use std::sync::Arc;
+use stripes::Keeps;
+use trie_node::{
+    Look, Node, bitmap_counts_children, branch_is_its_children, look, root_walks_in_order, size,
+    trie_follows_digits,
+};
+
+impl<K: PathKey + Drop, V: Drop, P: Keeps<K, V>> View<K, V, P> {
+    /// A walk over all pairs, as `pairs` gives it. It is never refused, so `for (key, value) in &view` walks it too.
+    pub fn iter(&self) -> Pairs<'_, K, V>
+        ensures rest { result.rest ≡ walked K.cmp K.path_of self.now }
+        ensures once { IsPermutation self.now result.rest }
+        ensures kept { All (λ pair. P.holds pair.0 pair.1) result.rest }
+    {
+        self.law();
+        walk_of_root(self.alloc, self.plain.root())
+    }
+}
+
+impl<'a, K: PathKey + Drop, V: Drop, P: Keeps<K, V>> IntoIterator for &'a View<K, V, P> {
+    type Item = (&'a Arc<K>, &'a Arc<V>);
+
+    type IntoIter = Pairs<'a, K, V>;
+
+    ghost use Rattle.std.specs.Prelude.{◌≡◌, All, IsPermutation};
+    ghost use Rattle.trie_shape.specs.Order.{walked};
+
+    ghost into_iter_gives = { λ view walk. (walk.rest ≡ walked K.cmp K.path_of view.now) × IsPermutation view.now walk.rest × All (λ pair. P.holds pair.0 pair.1) walk.rest };
+
+    fn into_iter(self) -> Pairs<'a, K, V> {
+        self.iter()
+    }
+}
+
+// A walk over all pairs of a root. `iter::pairs` makes the same one, but its answer may be a refusal by its contract,
+// for which an `IntoIterator` has no place.
+fn walk_of_root<K: PathKey, V>(alloc: Global, root: &Node<K, V>) -> Pairs<'_, K, V>
+    requires { IsRoot K.cmp K.path_of (tree root.now) }
+    ensures { result.rest ≡ walked K.cmp K.path_of (map_of K.cmp (tree root.now)) }
+{
+    bitmap_counts_children::<K, V>();
+    branch_is_its_children::<K, V>();
+    root_walks_in_order::<K, V>();
+    trie_follows_digits::<K, V>();
+    match look(root) {
+        Look::Branch(bitmap) => { Pairs::below(alloc, root, 0, 0, bitmap.count_ones(), size(root)) }
+        Look::Pairs(_) => unreachable!(),
+    }
+}
