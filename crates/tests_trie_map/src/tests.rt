@@ -3,6 +3,7 @@ mod asked;
 mod calls;
 mod crews;
 mod drops;
+mod made;
 mod memory;
 mod moments;
 mod sizes;

@@ -5,7 +5,6 @@
 //! it is read with no lock. Each pair keeps a rule of the user's (`Keeps`), or `Anything`.
 #![tactic(auto)]
 
-mod closure;
 mod columns;
 mod crew;
 mod crew_questions;
@@ -21,7 +20,7 @@ pub use bulk_ops::{
 pub use columns::{Keys, Values};
 pub use combiner::{Both, Greatest, Least, Monoid, Sum};
 pub use hash_path::PathKey;
-pub use iter::Pairs;
+pub use iter::{Pairs, pairs_of};
 pub use keys::ByteText;
 pub use put_error::PutError;
 pub use stripes::{Anything, Keeps, MOST_PAIRS_OF_STRIPE};

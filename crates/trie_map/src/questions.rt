@@ -7,9 +7,9 @@ ghost use Rattle.bulk_ops.specs.Parts.{pair_of};
 ghost use Rattle.combiner.specs.Monoids.{folded};
 ghost use Rattle.trie_map.specs.Questions.{IsFound};
 
-use crate::closure::answer_at;
 use crate::view::View;
 use bulk_ops::{Pair, law_of_folds};
+use closure_ops::answer_at;
 use combiner::Monoid;
 use hash_path::PathKey;
 use std::sync::Arc;

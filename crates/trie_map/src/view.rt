@@ -1,10 +1,12 @@
 //! A map as it stood at one moment.
-ghost use Rattle.std.specs.Prelude.{◌≡◌, ◌↔◌, [], All, IfOk, IfSome, IsPermutation, IsTrue, is_some, length, map, option_map};
+ghost use Rattle.std.specs.Prelude.{◌≡◌, ◌↔◌, ◌≤◌, [], All, IfOk, IfSome, IsPermutation, IsTrue, is_some, length, map, option_map};
 ghost use Rattle.bulk_ops.specs.Told.{IsAnswered};
 ghost use Rattle.stripes.specs.Rules.{AllKeep};
 ghost use Rattle.trie_shape.specs.Order.{walked};
 ghost use Rattle.versions.specs.Map.{IsMap, value_at};
+ghost use Rattle.versions.specs.declared.version.TheConstants.{MOST_PAIRS};
 
+mod making;
 mod walking;
 
 use crate::columns::{Keys, Values};
@@ -73,6 +75,7 @@ impl<K: PathKey + Drop, V: Drop, P: Keeps<K, V>> View<K, V, P> {
     /// How many pairs there are. It takes no memory.
     pub fn len(&self) -> u64
         ensures count { result ≡ length self.now }
+        ensures few { length self.now ≤ MOST_PAIRS }
         ensures sorted { IsMap K.cmp self.now }
     {
         self.plain.len()

@@ -6,8 +6,9 @@ ghost use Rattle.bulk_ops.specs.Meanings.{MayAnswer, Means};
 ghost use Rattle.bulk_ops.specs.Parts.{pair_of};
 ghost use Rattle.combiner.specs.Monoids.{folded};
 ghost use Rattle.stripes.specs.Rules.{AllKeep};
-ghost use Rattle.trie_map.specs.Questions.{IsAnsweredOfKept, IsFound};
+ghost use Rattle.trie_map.specs.Questions.{IsAnsweredOfKept, IsFound, changed};
 ghost use Rattle.versions.specs.Map.{Map};
+ghost use Rattle.versions.specs.declared.version.TheConstants.{MOST_PAIRS};
 
 use super::TrieMap;
 use bulk_ops::{Answer, Asks, Pair};
@@ -71,6 +72,34 @@ impl<K: PathKey + Drop, V: Drop, P: Keeps<K, V>> TrieMap<K, V, P> {
         ensures { IfOk result (λ all. (m : Map K V) × AllKeep K.cmp P.holds m × ((i : K → V → M.Item) → Means (MayAnswer G.Fn item) i → all ≡ folded (M.combine monoid.now) (M.unit_of monoid.now) (items_of i m))) }
     {
         self.view(rt)?.fold(monoid, item)
+    }
+
+    /// The map of the pairs that pass the test, of the map as it stands at one moment of the call. It has one owner, and
+    /// shares its keys and values with this map.
+    pub fn filter<R: Wait, F: Fn(&K, &V) -> bool>(
+        &self,
+        rt: &R,
+        test: F,
+    ) -> Result<Version<K, V>, NoMemory>
+        requires callable { F.IsAlwaysCallable test }
+        ensures entries { IfOk result (λ made. (m : Map K V) × AllKeep K.cmp P.holds m × ((p : K → V → Bool) → Means (MayAnswer F.Fn test) p → made.entries ≡ passing p m)) }
+        ensures limit { IfOk result (λ made. made.limit ≡ MOST_PAIRS) }
+    {
+        self.view(rt)?.filter(test)
+    }
+
+    /// The map of the same keys, each with what the closure makes of its pair, of the map as it stands at one moment of
+    /// the call. It has one owner, and shares its keys with this map.
+    pub fn map_values<R: Wait, W: Drop, G: Fn(&K, &V) -> W>(
+        &self,
+        rt: &R,
+        change: G,
+    ) -> Result<Version<K, W>, NoMemory>
+        requires callable { G.IsAlwaysCallable change }
+        ensures entries { IfOk result (λ made. (m : Map K V) × AllKeep K.cmp P.holds m × ((f : K → V → W) → Means (MayAnswer G.Fn change) f → made.entries ≡ changed f m)) }
+        ensures limit { IfOk result (λ made. made.limit ≡ MOST_PAIRS) }
+    {
+        self.view(rt)?.map_values(change)
     }
 
     /// What the query is answered for the map as it stands at one moment of the call, and the map that it makes where

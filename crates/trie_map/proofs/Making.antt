@@ -1,0 +1,132 @@
+-- What a map that is made of pairs so far has of the whole map.
+use Rattle.std.proofs.Common.{◌≡◌, ℕ, ◌+◌, ◌<◌, ◌≤◌, Bool, true, false, cond, is_some, T, length, [], ◌∷◌, Option, Some, None, refl, sym, ap, ◌∙◌, arith}
+use Rattle.std.specs.Cmp.{IsTotalOrder}
+use Rattle.std.specs.FinMap.{is_sorted}
+use Rattle.std.specs.FinMap.Entries.{by_order, is_sorted-put, length-put}
+use Rattle.std.specs.Ordering.{is_eq}
+use Rattle.std.specs.declared.cmp.Ordering.{Ordering}
+use Rattle.std.specs.declared.cmp.Ordering.TheVariants.{Less, Equal, Greater}
+use Rattle.versions.specs.Contents.{Contents}
+use Rattle.versions.specs.Map.{Map, IsMap, union, value_at, with_pair}
+use Rattle.versions.specs.declared.version.TheConstants.{MOST_PAIRS}
+use Rattle.combiner.specs.Bulks.{IsAdded}
+use Rattle.combiner.specs.Unions.{AreApart}
+use Rattle.bulk_ops.specs.Answers.{passing}
+use Rattle.bulk_ops.specs.Meanings.{Means}
+use Rattle.bulk_ops.proofs.Made.{passing_union}
+use Rattle.bulk_ops.proofs.Totals.{length_union}
+use Rattle.bulk_ops.proofs.Unions.{there, true_of, truth_of}
+use Rattle.bulk_ops.proofs.Works.{Working}
+use Rattle.trie_map.specs.Questions.{changed}
+
+one_more_at_most : (t : Bool) (n m : ℕ) → m ≡ cond t n (n + 1) → m ≤ n + 1
+one_more_at_most true n m is = omega arith
+one_more_at_most false n m is = omega arith
+
+module _ {K V : Type 0} (R : K → K → Ordering) (o : IsTotalOrder R) (k : K) (v : V) where
+  -- a put makes a map greater by one pair at most
+  pub put_few : (m : Map K V) → IsMap R m → length (with_pair R m k v) ≤ length m + 1
+  put_few m sorted = one_more_at_most (is_some (value_at R m k)) (length m) (length (with_pair R m k v)) (length-put R o k v m (truth_of _ sorted))
+
+  -- a put keeps the order of keys
+  pub put_sorted : (m : Map K V) → IsMap R m → IsMap R (with_pair R m k v)
+  put_sorted m sorted = true_of _ (is_sorted-put R o k v m (truth_of _ sorted))
+
+  -- a pair that is apart makes a map greater by one pair
+  pub grows : (m : Map K V) → AreApart R ((k, v) ∷ []) m → length (with_pair R m k v) ≡ length m + 1
+  grows m apart =
+      let all : length (with_pair R m k v) ≡ 1 + length m = length_union R o ((k, v) ∷ []) m (truth_of _ apart.left) apart.apart in
+      omega (arith, all)
+
+module _ {K V : Type 0} (R : K → K → Ordering) (gives : K → V → Bool → Type 0) where
+  -- the map has the pairs that pass, for each meaning of the test; and in any case no more than there are
+  pub record Filtered (m : Map K V) (made : Contents K V) : Type 0 where
+    pub few : length made.entries ≤ length m
+    pub limit : made.limit ≡ MOST_PAIRS
+    pub sorted : IsMap R made.entries
+    pub exact : (p : K → V → Bool) → Means gives p → made.entries ≡ passing p m
+
+  -- none of no pairs
+  pub none_filtered : (made : Contents K V) → made.entries ≡ [] → made.limit ≡ MOST_PAIRS → Filtered [] made
+  none_filtered made none limit = record {
+    few = omega (arith, ap length none);
+    limit = limit;
+    sorted = ap (is_sorted R) none;
+    exact = λ p means. none;
+  }
+
+  -- there is room for one more while pairs are left
+  pub filter_room : (x : K × V) (rest : Map K V) (all : Map K V) (made : Contents K V) → Working R Filtered (x ∷ rest) all made → length made.entries < made.limit
+  filter_room x rest all made w = omega (arith, w.few, w.answer.few, w.answer.limit)
+
+  module _ (o : IsTotalOrder R) where
+    put_if : (k : K) (v : V) (b : Bool) (n : Map K V) → cond b (with_pair R n k v) n ≡ union R (cond b ((k, v) ∷ []) []) n
+    put_if k v true n = refl
+    put_if k v false n = refl
+
+    few_if : (k : K) (v : V) (b : Bool) (n : Map K V) → IsMap R n → length (cond b (with_pair R n k v) n) ≤ length n + 1
+    few_if k v true n sorted = put_few R o k v n sorted
+    few_if k v false n sorted = omega arith
+
+    sorted_if : (k : K) (v : V) (b : Bool) (n : Map K V) → IsMap R n → IsMap R (cond b (with_pair R n k v) n)
+    sorted_if k v true n sorted = put_sorted R o k v n sorted
+    sorted_if k v false n sorted = sorted
+
+    -- one more pair is put, where it passes
+    pub one_filtered : (k : K) (v : V) (b : Bool) (made next : Contents K V) → gives k v b → next.entries ≡ cond b (with_pair R made.entries k v) made.entries → next.limit ≡ made.limit → IsAdded R Filtered made k v next
+    one_filtered k v b made next says is same m x apart = record {
+      few = omega (arith, x.few, ap length is, few_if k v b made.entries x.sorted, grows R o k v m apart);
+      limit = same ∙ x.limit;
+      sorted = ap (is_sorted R) is ∙ sorted_if k v b made.entries x.sorted;
+      exact = λ p means.
+          is ∙ ap (λ (n : Map K V). cond b (with_pair R n k v) n) (x.exact p means) ∙ put_if k v b (passing p m)
+          ∙ ap (λ (t : Bool). union R (cond t ((k, v) ∷ []) []) (passing p m)) (means k v b says)
+          ∙ sym (passing_union R o p ((k, v) ∷ []) m (truth_of _ apart.left) (truth_of _ apart.right) apart.apart);
+    }
+
+module _ {K V W : Type 0} (R : K → K → Ordering) where
+  changed_step : (f : K → V → W) (k : K) (v : V) (x : K × V) (r : Map K V) (c : Ordering)
+      → cond (is_eq c) (Some x.1) (value_at R r k) ≡ None
+      → (value_at R r k ≡ None → changed f (with_pair R r k v) ≡ with_pair R (changed f r) k (f k v))
+      → changed f (by_order c ((k, v) ∷ x ∷ r) ((x.0, v) ∷ r) (x ∷ with_pair R r k v))
+      ≡ by_order c ((k, f k v) ∷ changed f (x ∷ r)) ((x.0, f k v) ∷ changed f r) ((x.0, f x.0 x.1) ∷ with_pair R (changed f r) k (f k v))
+  changed_step f k v x r Less e rest = refl
+  changed_step f k v x r Equal e rest = absurd (cc)
+  changed_step f k v x r Greater e rest = ap (λ (m : Map K W). (x.0, f x.0 x.1) ∷ m) (rest e)
+
+  -- the new values of a map with one pair more
+  changed_put : (f : K → V → W) (k : K) (v : V) (r : Map K V) → value_at R r k ≡ None → changed f (with_pair R r k v) ≡ with_pair R (changed f r) k (f k v)
+  changed_put f k v [] e = refl
+  changed_put f k v (x ∷ r) e = changed_step f k v x r (R k x.0) e (changed_put f k v r)
+
+module _ {K V W : Type 0} (R : K → K → Ordering) (gives : K → V → W → Type 0) where
+  -- the map has the same keys with the new values, for each meaning of the closure; and in any case no more pairs
+  pub record Changed (m : Map K V) (made : Contents K W) : Type 0 where
+    pub few : length made.entries ≤ length m
+    pub limit : made.limit ≡ MOST_PAIRS
+    pub sorted : IsMap R made.entries
+    pub exact : (f : K → V → W) → Means gives f → made.entries ≡ changed f m
+
+  -- none of no pairs
+  pub none_changed : (made : Contents K W) → made.entries ≡ [] → made.limit ≡ MOST_PAIRS → Changed [] made
+  none_changed made none limit = record {
+    few = omega (arith, ap length none);
+    limit = limit;
+    sorted = ap (is_sorted R) none;
+    exact = λ f means. none;
+  }
+
+  -- there is room for one more while pairs are left
+  pub change_room : (x : K × V) (rest : Map K V) (all : Map K V) (made : Contents K W) → Working R Changed (x ∷ rest) all made → length made.entries < made.limit
+  change_room x rest all made w = omega (arith, w.few, w.answer.few, w.answer.limit)
+
+  -- one more key is put with its new value
+  pub one_changed : (o : IsTotalOrder R) (k : K) (v : V) (new : W) (made next : Contents K W) → gives k v new → next.entries ≡ with_pair R made.entries k new → next.limit ≡ made.limit → IsAdded R Changed made k v next
+  one_changed o k v new made next says is same m x apart = record {
+    few = omega (arith, x.few, ap length is, put_few R o k new made.entries x.sorted, grows R o k v m apart);
+    limit = same ∙ x.limit;
+    sorted = ap (is_sorted R) is ∙ put_sorted R o k new made.entries x.sorted;
+    exact = λ f means.
+        is ∙ ap (λ (n : Map K W). with_pair R n k new) (x.exact f means) ∙ ap (with_pair R (changed f m) k) (means k v new says)
+        ∙ sym (changed_put R f k v m (apart.apart k (there R o (k, v) [])));
+  }
