@@ -6,6 +6,7 @@ mod drops;
 mod made;
 mod memory;
 mod moments;
+mod retained;
 mod sizes;
 mod threads;
 mod updates;

@@ -1,6 +1,6 @@
 -- What a walk over a map so far tells of the whole map.
 use mir.Val.{bool_byte}
-use Rattle.std.proofs.Common.{◌≡◌, ℕ, ◌+◌, ◌≤◌, Bool, true, false, cond, not, ◌&&◌, ◌||◌, List, [], ◌∷◌, length, refl, sym, ap, ◌∙◌, arith}
+use Rattle.std.proofs.Common.{◌≡◌, ℕ, ◌+◌, ◌≤◌, Bool, true, false, cond, not, ◌&&◌, ◌||◌, List, [], ◌∷◌, length, refl, sym, ap, ◌∙◌, arith, true≢false}
 use Rattle.std.specs.List.{list_any, list_all}
 use Rattle.std.specs.List.Sorted.{IsPermutation}
 use Rattle.std.proofs.lemmas.List.Sorted.{list_any-IsPermutation, sum_by-IsPermutation}
@@ -58,3 +58,17 @@ module _ {K V : Type 0} (p : K → V → Bool) where
   pub all_permuted : (xs ys : Map K V) → IsPermutation xs ys → list_all (passes p) xs ≡ list_all (passes p) ys
   all_permuted xs ys same =
       all_is_not_any xs ∙ ap not (list_any-IsPermutation (λ (x : K × V). not (passes p x)) xs ys same) ∙ sym (all_is_not_any ys)
+
+  -- a pair that is gone is one that passes
+  at_least : (gone t : Bool) (x : K × V) (rest : Map K V) → (gone ≡ true → t ≡ true) → cond gone 1 0 + length (passing p rest) ≤ length (cond t (x ∷ passing p rest) (passing p rest))
+  at_least true true x rest fails = omega arith
+  at_least true false x rest fails = absurd (true≢false (sym (fails refl)))
+  at_least false true x rest fails = omega arith
+  at_least false false x rest fails = omega arith
+
+  -- one more pair is gone, or is not
+  pub removal_step : (x : K × V) (rest : Map K V) (n one whole : ℕ) (gone : Bool) → n + length (passing p (x ∷ rest)) ≤ whole → one ≡ bool_byte gone → (gone ≡ true → passes p x ≡ true) → n + one + length (passing p rest) ≤ whole
+  removal_step x rest n one whole gone before is_one passed =
+      let least : cond gone 1 0 + length (passing p rest) ≤ length (passing p (x ∷ rest)) = at_least gone (passes p x) x rest passed in
+      let is : one ≡ cond gone 1 0 = is_one ∙ one_of gone in
+      omega (arith, before, least, is)

@@ -1,5 +1,5 @@
 -- What questions about a map may be answered.
-use Rattle.std.specs.Prelude.{◌≡◌, ℕ, Bool, true, false, Option, Some, None, Contains, map}
+use Rattle.std.specs.Prelude.{◌≡◌, ℕ, Bool, true, false, not, Option, Some, None, Contains, map}
 use Rattle.std.specs.List.{list_any}
 use Rattle.std.specs.declared.cmp.Ordering.{Ordering}
 use Rattle.bulk_ops.specs.Answers as plain
@@ -13,6 +13,10 @@ use Rattle.versions.specs.Map.{Map}
 abbrev pub IsFound : {K V : Type 0} → (K → V → Bool) → Map K V → Option (K × V) → Type 0
 IsFound p m None = list_any (plain.passes p) m ≡ false
 IsFound p m (Some x) = Contains m x × (plain.passes p x ≡ true)
+
+-- the pairs that fail the test
+abbrev pub failing : {K V : Type 0} → (K → V → Bool) → Map K V → Map K V
+failing p m = plain.passing (λ k v. not (p k v)) m
 
 -- the map of the same keys, each with what f makes of its pair
 abbrev pub changed : {K V W : Type 0} → (K → V → W) → Map K V → Map K W

@@ -7,6 +7,7 @@ ghost use Rattle.versions.specs.declared.version.TheConstants.{MOST_PAIRS};
 
 mod asking;
 mod deciding;
+mod retaining;
 
 use crate::origin::{Origin, found_or_made};
 use crate::put_error::PutError;
@@ -25,7 +26,7 @@ use versions::{Change, Refusal};
 /// rule. That `is_empty`, `len` and `contains_key` tell what is there, that `clear` removes it, and that `view`,
 /// `snapshot` and `query` take all stripes as they stand at one moment, is told by the code and by tests: no clause can
 /// name what a lock keeps, not even of a map that one thread alone has. A call that is refused has changed nothing; of
-/// `extend`, and of `get_or_else_update` and `update`, whose closure has run, each says more.
+/// `extend` and `retain`, and of `get_or_else_update` and `update`, whose closure has run, each says more.
 ///
 /// # What runs under a lock
 ///
@@ -33,7 +34,8 @@ use versions::{Change, Refusal};
 /// replaced or removed, and of a key and a value that are not written. They must not call the map: the thread would
 /// wait for itself. A value that is replaced or removed is handed out, and dropped by whoever has it last; what `clear`
 /// removes is dropped once all locks are free; the closure of `get_or_else_update` runs with no lock held. The closure
-/// of `update` runs under the lock too, and what it makes is dropped there where it cannot be stored.
+/// of `update` runs under the lock too, and what it makes is dropped there where it cannot be stored; so does that of
+/// `retain`, once more for each pair that fails.
 ///
 /// # Between two calls
 ///

@@ -1,0 +1,31 @@
+use Rattle.std.proofs.Common.{◌≡◌, ◌+◌, ◌≤◌, not, List, length, arith, sym, ap, subst}
+use Rattle.std.specs.List.Sorted.{IsPermutation}
+use Rattle.std.proofs.lemmas.List.Sorted.{length_permutation}
+use Rattle.trie_map.specs.Questions.{failing}
+use Rattle.trie_map.proofs.Counting.{at_most_one, count_permuted, removal_step}
+use Rattle.trie_map.proofs.trie_map.TrieMap.remove_all_failing.Goals as goal
+
+pub loop-key-init : goal.loop-key-init
+loop-key-init g c =
+    let same : IsPermutation c.args.view.now c.into_iter-key-iterator.result.rest = subst (IsPermutation c.args.view.now) (sym (λ i. (c.into_iter-key-iterator.ensures.into_iter_gives i).rest)) c.in_ok-items.ensures.once in
+    record {
+      next = tt;
+      finite = tt;
+      callable = c.requires.callable;
+      few = omega (arith, length_permutation _ _ same);
+      gone = λ p means. omega (arith, count_permuted (λ k v. not (p k v)) _ _ same);
+    }
+
+pub loop-key-preserved : goal.loop-key-preserved
+loop-key-preserved g c =
+    let pair : g.row.K.Denot × g.row.V.Denot = (c.in-Some.key.now.value, c.in-Some.value.now.value) in
+    let few = subst (λ (rest : List (g.row.K.Denot × g.row.V.Denot)). c.loop-key.removed + length rest ≤ length c.args.view.now) c.in-Some.ensures.steps c.loop-key.invariant.few in
+    record {
+      next = tt;
+      finite = tt;
+      callable = c.requires.callable;
+      few = omega (arith, few, at_most_one c.in_ok-gone.gone c.from-removed.result c.from-removed.ensures);
+      gone = λ p means.
+          let before = subst (λ (rest : List (g.row.K.Denot × g.row.V.Denot)). c.loop-key.removed + length (failing p rest) ≤ length (failing p c.args.view.now)) c.in-Some.ensures.steps (c.loop-key.invariant.gone p means) in
+          removal_step (λ k v. not (p k v)) pair c.next.new.self.rest c.loop-key.removed c.from-removed.result _ c.in_ok-gone.gone before c.from-removed.ensures (λ is. ap not (sym (means _ _ _ (c.in_ok-gone.ensures is))));
+    }

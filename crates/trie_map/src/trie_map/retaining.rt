@@ -1,0 +1,123 @@
+//! The removal of the pairs that fail a test.
+ghost use Rattle.std.specs.Prelude.{◌≡◌, ◌≤◌, Bool, IfOk, IfSome, IsTrue, OnErr, Some, false, if◌then◌else◌, is_some, length, true};
+ghost use Rattle.bulk_ops.specs.Meanings.{MayAnswer, Means};
+ghost use Rattle.stripes.specs.Rules.{AllKeep, first_digit as digit_of};
+ghost use Rattle.trie_map.specs.Questions.{failing};
+ghost use Rattle.versions.specs.Map.{Map, value_at, without};
+
+use super::TrieMap;
+use crate::view::View;
+use closure_ops::answer_at;
+use hash_path::PathKey;
+use std::alloc::Global;
+use std::sync::{Arc, Wait};
+use stripes::{Keeps, Stripe};
+use trie_node::NoMemory;
+
+impl<K: PathKey + Drop, V: Drop, P: Keeps<K, V>> TrieMap<K, V, P> {
+    /// Removes the pairs that fail the test, and answers how many it removed.
+    ///
+    /// A view is taken and walked, so that nobody waits for the walk. Where a pair of the view fails the test, the
+    /// stripe of its key is locked, and the pair that the key has by then is removed if that fails too. So each pair
+    /// that is removed fails the test at that moment, and one that was put after the moment of the view may stay,
+    /// though it fails.
+    ///
+    /// The test runs on the walk with no lock held, and once more before a removal, while the stripe of the key is
+    /// locked: there it must not call the map. Where the call is refused, for want of memory, what it has removed by
+    /// then is gone.
+    pub fn retain<R: Wait, F: Fn(&K, &V) -> bool>(&self, rt: &R, test: F) -> Result<u64, NoMemory>
+        requires callable { F.IsAlwaysCallable test }
+        ensures { IfOk result (λ removed. (m : Map K V) × AllKeep K.cmp P.holds m × ((p : K → V → Bool) → Means (MayAnswer F.Fn test) p → removed ≤ length (failing p m))) }
+    {
+        let view = self.view(rt)?;
+        self.remove_all_failing(rt, &view, &test)
+    }
+
+    // Removes the pairs of the view that fail the test, where those that their keys have now fail too. The answer is how
+    // many they are.
+    fn remove_all_failing<R: Wait, F: Fn(&K, &V) -> bool>(
+        &self,
+        rt: &R,
+        view: &View<K, V, P>,
+        test: &F,
+    ) -> Result<u64, NoMemory>
+        requires callable { F.IsAlwaysCallable test.now }
+        ensures { IfOk result (λ removed. (p : K → V → Bool) → Means (MayAnswer F.Fn test.now) p → removed ≤ length (failing p view.now)) }
+    {
+        view.len();
+        let mut removed = 0u64;
+        for (key, value) in view.pairs()? {
+            let gone = self.remove_if_both_fail(rt, key, value, test)?;
+            removed += u64::from(gone);
+        }
+        Ok(removed)
+    }
+
+    // Removes the key where the value that was seen fails the test and so does the one that it has now. The answer is
+    // whether it did.
+    fn remove_if_both_fail<R: Wait, F: Fn(&K, &V) -> bool>(
+        &self,
+        rt: &R,
+        key: &Arc<K>,
+        seen: &Arc<V>,
+        test: &F,
+    ) -> Result<bool, NoMemory>
+        requires { F.IsAlwaysCallable test.now }
+        ensures { IfOk result (λ removed. IsTrue removed → MayAnswer F.Fn test.now key.now.value seen.now.value false) }
+    {
+        if answer_at(test, key, seen) {
+            return Ok(false);
+        }
+        Ok(self.remove_failing(rt, key, test)?.is_some())
+    }
+
+    // Removes the key where its value fails the test, and answers what was removed, which is dropped with no lock held.
+    fn remove_failing<R: Wait, F: Fn(&K, &V) -> bool>(
+        &self,
+        rt: &R,
+        key: &Arc<K>,
+        test: &F,
+    ) -> Result<Option<Arc<V>>, NoMemory>
+        requires { F.IsAlwaysCallable test.now }
+    {
+        let mut stripe = self.row.stripe_of(rt, key);
+        remove_failing(self.alloc, &mut stripe, key, test)
+    }
+}
+
+// Removes the key from its stripe where its value fails the test, and answers the value that was removed, or none. It
+// is refused for want of memory alone, and the stripe is then as before.
+fn remove_failing<K: PathKey + Drop, V: Drop, P: Keeps<K, V>, F: Fn(&K, &V) -> bool>(
+    alloc: Global,
+    stripe: &mut Stripe<K, V, P>,
+    key: &Arc<K>,
+    test: &F,
+) -> Result<Option<Arc<V>>, NoMemory>
+    requires callable { F.IsAlwaysCallable test.now }
+    requires place { digit_of K.path_of key.now.value ≡ stripe.old.digit }
+    ensures removed { IfOk result (λ removed. IfSome removed (λ value. MayAnswer F.Fn test.now key.now.value value.value false)) }
+    ensures entries { IfOk result (λ removed. stripe.new.entries ≡ (if is_some removed then without K.cmp stripe.old.entries key.now.value else stripe.old.entries)) }
+    ensures digit { stripe.new.digit ≡ stripe.old.digit }
+    ensures err { OnErr result (stripe.new ≡ stripe.old) }
+{
+    if passes(stripe, key, test) {
+        return Ok(None);
+    }
+    stripe.remove(alloc, key)
+}
+
+// Whether the key is absent, or its value passes the test.
+fn passes<K: PathKey + Drop, V: Drop, P: Keeps<K, V>, F: Fn(&K, &V) -> bool>(
+    stripe: &Stripe<K, V, P>,
+    key: &Arc<K>,
+    test: &F,
+) -> bool
+    requires callable { F.IsAlwaysCallable test.now }
+    requires place { digit_of K.path_of key.now.value ≡ stripe.now.digit }
+    ensures fails { result ≡ false → (value : V) × (value_at K.cmp stripe.now.entries key.now.value ≡ Some value) × MayAnswer F.Fn test.now key.now.value value false }
+{
+    match stripe.get(key) {
+        Some(value) => answer_at(test, key, value),
+        None => true,
+    }
+}
