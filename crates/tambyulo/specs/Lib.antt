@@ -1,3 +1,4 @@
+pub use Rattle.hash_path.specs.Fnv
 pub use Rattle.trie_map.specs.Map
 pub use Rattle.trie_map.specs.Meanings
 pub use Rattle.trie_map.specs.Queries

@@ -5,6 +5,7 @@ mod test;
 #[cfg(test)]
 mod tests;
 
+pub use hash_path::Path;
 pub use test::{Passes, Tested, test_by};
 pub use trie_map::{
     Answer, Anything, Asks, Both, ByteText, Crew, Greatest, Keeps, Keys, Least, MOST_PAIRS,
