@@ -1,9 +1,8 @@
 //! Why the program stops before its end.
 
-use locked_map::NoJournal;
 use std::alloc::{AllocError, AllocFailed};
 use std::{fmt, io};
-use versions::Refusal;
+use tambyulo::clients::{NoJournal, Refusal};
 
 /// Why the program stops before its end.
 #[derive(Debug, Drop)]

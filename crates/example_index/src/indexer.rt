@@ -1,13 +1,12 @@
 //! The clients of an index of words.
 ghost use Rattle.std.specs.Prelude.{⊤};
 
-use handles::{Call, CallReply, Command, NoQuery, Reply};
-use keys::ByteText;
-use locked_map::{Client, Room, Seat, SharedMap};
 use std::alloc::Global;
 use std::sync::{Arc, Wait};
 use std::thread::Threads;
-use versions::Refusal;
+use tambyulo::clients::{
+    ByteText, Call, CallReply, Client, Command, NoQuery, Refusal, Reply, Room, Seat, SharedMap,
+};
 
 /// The handle of the index. Its keys are words, and the value of a word is the number of the document that brought it.
 pub const INDEX: u32 = 1;

@@ -2,13 +2,13 @@
 
 use crate::fault::Fault;
 use crate::indexer::{INDEX, Indexer};
-use handles::{Call, CallReply, Command, Limits, NoQuery, Reply};
-use keys::ByteText;
-use locked_map::{Asked, Closed, Told, with_clients};
 use std::alloc::Global;
 use std::rt::Runtime;
 use std::sync::{Arc, Wait};
 use std::thread::Threads;
+use tambyulo::clients::{
+    Asked, ByteText, Call, CallReply, Closed, Command, Limits, NoQuery, Reply, Told, with_clients,
+};
 
 /// What the two documents say. They have words in common, and each has a word twice.
 const FIRST: &str = "the quick brown fox jumps over the lazy dog";

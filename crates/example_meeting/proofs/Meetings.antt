@@ -5,15 +5,15 @@ use Rattle.std.specs.List.{Contains}
 use Rattle.std.proofs.Math.Nat.{le-max_right}
 use Rattle.std.proofs.lemmas.List.{get_or-map, length-map, map-append}
 use Rattle.std.proofs.lemmas.List.Elements.{All-contains, Contains-push}
-use Rattle.versions.specs.Commands.{get, put}
-use Rattle.handles.specs.declared.call_reply.CallReply.{CallReply}
-use Rattle.handles.specs.declared.call_reply.CallReply.TheVariants as call_replies
-use Rattle.handles.specs.declared.limits.Limits.{Limits}
-use Rattle.handles.specs.Machine.{Kind, Outcome, Request, State, on}
-use Rattle.handles.specs.Views.{call_outcome}
-use Rattle.journal.specs.Journals.{Entered, own}
-use Rattle.locked_map.specs.Closings.{IsClosedWith}
-use Rattle.locked_map.specs.Seats.{Adds, Placed, Seated, met, pair, pairs, with_entry}
+use Rattle.tambyulo.specs.Clients.Commands.{get, put}
+use Rattle.tambyulo.specs.Clients.CallReply.{CallReply}
+use Rattle.tambyulo.specs.Clients.CallReply.TheVariants as call_replies
+use Rattle.tambyulo.specs.Clients.Limits.{Limits}
+use Rattle.tambyulo.specs.Clients.Machine.{Kind, Outcome, Request, State, on}
+use Rattle.tambyulo.specs.Clients.Views.{call_outcome}
+use Rattle.tambyulo.specs.Clients.Journals.{Entered, own}
+use Rattle.tambyulo.specs.Clients.Closings.{IsClosedWith}
+use Rattle.tambyulo.specs.Clients.Seats.{Adds, Placed, Seated, met, pair, pairs, with_entry}
 use Rattle.example_meeting.specs.Meetings.{AreMet, PutBeforeGet, PutThenGot, entry_of}
 
 -- what is in a list is in its image

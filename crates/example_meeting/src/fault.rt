@@ -1,9 +1,8 @@
 //! Why the program stops before its end.
 
-use locked_map::Torn;
 use std::alloc::AllocFailed;
 use std::{fmt, io};
-use versions::Refusal;
+use tambyulo::clients::{Refusal, Torn};
 
 /// Why the program stops before its end.
 #[derive(Debug, Drop)]

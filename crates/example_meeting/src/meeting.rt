@@ -3,12 +3,12 @@ ghost use Rattle.std.specs.Prelude.{◌≡◌, IfOk};
 ghost use Rattle.example_meeting.specs.Meetings.{PutBeforeGet, PutThenGot};
 
 use crate::fault::Fault;
-use handles::{Call, Command, Limits, NoQuery};
-use locked_map::{Closed, Room, Seat, SharedMap, Use, with};
 use std::alloc::Global;
 use std::sync::{Arc, Wait};
 use std::thread::Threads;
-use versions::Refusal;
+use tambyulo::clients::{
+    Call, Closed, Command, Limits, NoQuery, Refusal, Room, Seat, SharedMap, Use, with,
+};
 
 /// The handle of the map that both seats use.
 const SHARED: u32 = 1;

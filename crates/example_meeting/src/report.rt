@@ -2,11 +2,10 @@
 
 use crate::fault::Fault;
 use crate::meeting::met;
-use handles::{Call, CallReply, Command, Reply};
-use locked_map::{Asked, Told};
 use std::rt::Runtime;
 use std::sync::{Arc, Wait};
 use std::thread::Threads;
+use tambyulo::clients::{Asked, Call, CallReply, Command, Reply, Told};
 
 /// The key that the two seats speak of, and the value that the first gives it.
 const KEY: u64 = 7;

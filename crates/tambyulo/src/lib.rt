@@ -1,6 +1,8 @@
-//! One name for what a service uses: the map that threads share, its views, and what they are asked.
+//! One name for what a service uses: the map that threads share, its views, and what they are asked; and in `clients`
+//! a table of maps under one lock, with its journal.
 #![tactic(auto)]
 
+pub mod clients;
 mod test;
 #[cfg(test)]
 mod tests;
