@@ -2,7 +2,7 @@
 use crate::tests::model::judged;
 use crate::tests::rows::FIRST;
 use crate::tests::runs::written;
-use crate::tests::told;
+use crate::tests::{assert_told, told};
 use std::alloc::Global;
 use std::process::Abort;
 use std::test::Fail;
@@ -99,11 +99,8 @@ fn another(byte: u8, random: &mut Random) -> u8 {
 
 /// The audit judges the text as the plain judge does.
 fn assert_judged<R: AllocGlobal + Abort>(rt: &R, text: &[u8]) -> Result<(), Fail> {
-    let alloc = rt.alloc();
-    let seen = told(alloc, text)?;
-    let wanted = judged(alloc, text)?;
-    assert_eq!(rt; seen.as_str(), wanted.as_str());
-    Ok(())
+    let wanted = judged(rt.alloc(), text)?;
+    assert_told(rt, text, wanted.as_str())
 }
 
 /// Puts the byte into its place, if there is one.

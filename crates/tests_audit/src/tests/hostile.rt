@@ -1,5 +1,5 @@
 //! Bytes that nobody wrote as a journal.
-use crate::tests::told;
+use crate::tests::assert_told;
 use std::alloc::Global;
 use std::test::Fail;
 use versions::NoMemory;
@@ -21,54 +21,57 @@ fn repeated(
     Ok(made)
 }
 
+/// What stands in front, bytes, how often they stand there, and what stands behind.
+type Row = (&'static [u8], &'static [u8], u32, &'static [u8]);
+
+const LINES: [Row; 10] = [
+    (b"", b"[", 100_000, b"\n"),
+    (b"", b"{\"call\":", 100_000, b"\n"),
+    (b"{\"call\":", b"[", 100_000, b"\n"),
+    (
+        b"{\"call\":\"",
+        b"a",
+        10_000_000,
+        b"\",\"entry\":1,\"reply\":\"ok\",\"seat\":0}\n",
+    ),
+    (
+        b"{\"call\":\"open 1\",\"entry\":",
+        b"1",
+        1_000,
+        b",\"reply\":\"ok\",\"seat\":0}\n",
+    ),
+    (
+        b"{\"call\":\"open ",
+        b"1",
+        1_000,
+        b"\",\"entry\":1,\"reply\":\"ok\",\"seat\":0}\n",
+    ),
+    (
+        b"{\"call\":\"open 1\",\"entry\":1,\"reply\":\"ok",
+        b"\\u0000",
+        10,
+        b"\",\"seat\":0}\n",
+    ),
+    (
+        b"{\"call\":\"open 1\",\"entry\":1,\"reply\":\"ok",
+        b"\xff",
+        10,
+        b"\",\"seat\":0}\n",
+    ),
+    (
+        b"{\"call\":\"put 1 \\\"",
+        b"\\\\",
+        100,
+        b" 1\",\"entry\":1,\"reply\":\"ok\",\"seat\":0}\n",
+    ),
+    (b"{\"entries\":", b"0", 1_000, b"}\n"),
+];
+
 #[test]
 fn hostile_lines_are_bad(rt: HostRuntime) -> Result<(), Fail> {
-    let cases: [(&[u8], &[u8], u32, &[u8]); 10] = [
-        (b"", b"[", 100_000, b"\n"),
-        (b"", b"{\"call\":", 100_000, b"\n"),
-        (b"{\"call\":", b"[", 100_000, b"\n"),
-        (
-            b"{\"call\":\"",
-            b"a",
-            10_000_000,
-            b"\",\"entry\":1,\"reply\":\"ok\",\"seat\":0}\n",
-        ),
-        (
-            b"{\"call\":\"open 1\",\"entry\":",
-            b"1",
-            1_000,
-            b",\"reply\":\"ok\",\"seat\":0}\n",
-        ),
-        (
-            b"{\"call\":\"open ",
-            b"1",
-            1_000,
-            b"\",\"entry\":1,\"reply\":\"ok\",\"seat\":0}\n",
-        ),
-        (
-            b"{\"call\":\"open 1\",\"entry\":1,\"reply\":\"ok",
-            b"\\u0000",
-            10,
-            b"\",\"seat\":0}\n",
-        ),
-        (
-            b"{\"call\":\"open 1\",\"entry\":1,\"reply\":\"ok",
-            b"\xff",
-            10,
-            b"\",\"seat\":0}\n",
-        ),
-        (
-            b"{\"call\":\"put 1 \\\"",
-            b"\\\\",
-            100,
-            b" 1\",\"entry\":1,\"reply\":\"ok\",\"seat\":0}\n",
-        ),
-        (b"{\"entries\":", b"0", 1_000, b"}\n"),
-    ];
-    for (front, bytes, times, back) in cases {
+    for (front, bytes, times, back) in LINES {
         let text = repeated(rt.alloc(), front, bytes, times, back)?;
-        let verdict = told(rt.alloc(), &text)?;
-        assert_eq!(rt; verdict.as_str(), "bad 1");
+        assert_told(&rt, &text, "bad 1")?;
     }
     Ok(())
 }

@@ -1,6 +1,7 @@
 //! Journals whose verdict is known from outside.
-use crate::tests::told;
+use crate::tests::assert_told;
 use std::alloc::Global;
+use std::process::Abort;
 use std::test::Fail;
 use versions::NoMemory;
 
@@ -32,15 +33,14 @@ pub(super) const BULK: &[u8] = b"{\"call\":\"open 1\",\"entry\":1,\"reply\":\"ok
 {\"entries\":16}
 ";
 
+/// Bytes of a text, what takes the place of the first of them, and what is told of the text then.
+type Row = (&'static [u8], &'static [u8], &'static str);
+
 #[test]
 fn legal_journals_are_legal(rt: HostRuntime) -> Result<(), Fail> {
-    let first = told(rt.alloc(), FIRST)?;
-    assert_eq!(rt; first.as_str(), "legal 4");
-    let bulk = told(rt.alloc(), BULK)?;
-    assert_eq!(rt; bulk.as_str(), "legal 16");
-    let none = told(rt.alloc(), b"{\"entries\":0}\n")?;
-    assert_eq!(rt; none.as_str(), "legal 0");
-    Ok(())
+    assert_told(&rt, FIRST, "legal 4")?;
+    assert_told(&rt, BULK, "legal 16")?;
+    assert_told(&rt, b"{\"entries\":0}\n", "legal 0")
 }
 
 /// How many newlines there are.
@@ -54,137 +54,130 @@ fn newlines(text: &[u8]) -> u64 {
     count
 }
 
-/// The line that is cut spoils the text, or the one that is wanting: each beginning of the first journal, and every
-/// 37th of the second.
-#[test]
-fn beginnings_are_bad(rt: HostRuntime) -> Result<(), Fail> {
-    for end in 0..FIRST.len() {
-        let verdict = told(rt.alloc(), &FIRST[..end])?;
-        let wanted = cut(rt.alloc(), &FIRST[..end])?;
-        assert_eq!(rt; verdict.as_str(), wanted.as_str());
-    }
-    for end in (0..BULK.len()).step_by(37) {
-        let verdict = told(rt.alloc(), &BULK[..end])?;
-        let wanted = cut(rt.alloc(), &BULK[..end])?;
-        assert_eq!(rt; verdict.as_str(), wanted.as_str());
-    }
-    Ok(())
-}
-
 /// What is told of the beginning of a legal journal's text.
 fn cut(alloc: Global, beginning: &[u8]) -> Result<String, NoMemory> {
     Ok(format!(in alloc; "bad {}", newlines(beginning).saturating_add(1))?)
 }
 
-/// Each line in the place of another one of the journal of four entries, and the line that it spoils.
+/// The line that is cut spoils the text, or the one that is wanting.
+fn assert_cut<R: AllocGlobal + Abort>(rt: &R, beginning: &[u8]) -> Result<(), Fail> {
+    let wanted = cut(rt.alloc(), beginning)?;
+    assert_told(rt, beginning, wanted.as_str())
+}
+
+/// Each beginning of the first journal, and every 37th of the second.
 #[test]
-fn wrong_lines_are_bad(rt: HostRuntime) -> Result<(), Fail> {
-    let cases: [(&[u8], &[u8], &str); 34] = [
-        (
-            b"\"call\":\"put 1 a 7\",\"entry\":3",
-            b"\"entry\":3,\"call\":\"put 1 a 7\"",
-            "bad 3",
-        ),
-        (b"\"entry\":3", b"\"entry\":3.0", "bad 3"),
-        (b"\"entry\":3", b"\"entry\":3,\"more\":3", "bad 3"),
-        (b"put 1 a 7", b"put 1 a -0", "bad 3"),
-        (b"put 1 a 7", b"put 1 a 9223372036854775808", "bad 3"),
-        // the same key, and only the one way to write it leads to a good line
-        (b"put 1 a 5", b"put 1 \\u0022 5", "bad 2"),
-        (b"put 1 a 5", b"put 1 \\\" 5", "bad 3"),
-        (b"\"some 5\"", b"\"some 6\"", "bad 3"),
-        (b"\"some 7\"", b"\"some 5\"", "bad 4"),
-        (b"\"none\"", b"\"some 5\"", "bad 2"),
-        (b"put 1 a 7", b"put 1 b 7", "bad 3"),
-        (b"put 1 a 7", b"put 1  a 7", "bad 3"),
-        (b"put 1 a 7", b" put 1 a 7", "bad 3"),
-        (b"put 1 a 7", b"put 1 a 7 ", "bad 3"),
-        (b"put 1 a 7", b"put 1 a 07", "bad 3"),
-        (b"put 1 a 7", b"put 1 a +7", "bad 3"),
-        (b"put 1 a 7", b"put 01 a 7", "bad 3"),
-        (b"put 1 a 7", b"put 1 \\u0061 7", "bad 3"),
-        (b"get 1 a", b"getorelse 1 a 3", "bad 4"),
-        (b"get 1 a", b"finish 0", "bad 4"),
-        (b"get 1 a", b"abandon 0", "bad 4"),
-        (b"get 1 a", b"pairs 1", "bad 4"),
-        (b"get 1 a", b"count 1 all", "bad 4"),
-        (
-            b"get 1 a",
-            b"finish 999999999999999999999999999999",
-            "bad 4",
-        ),
-        (
-            b"\"seat\":0}\n{\"call\":\"get",
-            b"\"seat\":64}\n{\"call\":\"get",
-            "bad 3",
-        ),
-        (
-            b"\"seat\":0}\n{\"call\":\"get",
-            b"\"seat\":63}\n{\"call\":\"get",
-            "legal 4",
-        ),
-        (
-            b"\"seat\":0}\n{\"call\":\"get",
-            b"\"seat\":0.0}\n{\"call\":\"get",
-            "bad 3",
-        ),
-        (
-            b"\"seat\":0}\n{\"call\":\"get",
-            b"\"seat\":-0}\n{\"call\":\"get",
-            "bad 3",
-        ),
-        (
-            b"\"seat\":0}\n{\"call\":\"get",
-            b"\"seat\":0,\"seat\":0}\n{\"call\":\"get",
-            "bad 3",
-        ),
-        (b"\"entry\":2", b"\"entry\":3", "bad 2"),
-        (b"{\"entries\":4}", b"{\"entries\":3}", "bad 5"),
-        (b"{\"entries\":4}", b"{\"entries\":4} ", "bad 5"),
-        (b"{\"entries\":4}\n", b"{\"entries\":4}\n\n", "bad 6"),
-        (b"{\"entries\":4}\n", b"", "bad 5"),
-    ];
-    for (old, new, wanted) in cases {
-        let text = turned(rt.alloc(), FIRST, old, new)?;
-        let verdict = told(rt.alloc(), &text)?;
-        assert_eq!(rt; verdict.as_str(), wanted);
+fn beginnings_are_bad(rt: HostRuntime) -> Result<(), Fail> {
+    for end in 0..FIRST.len() {
+        assert_cut(&rt, &FIRST[..end])?;
+    }
+    for end in (0..BULK.len()).step_by(37) {
+        assert_cut(&rt, &BULK[..end])?;
     }
     Ok(())
 }
 
+/// Each line in the place of another one of the journal of four entries, and the line that it spoils.
+const LINES: [Row; 34] = [
+    (
+        b"\"call\":\"put 1 a 7\",\"entry\":3",
+        b"\"entry\":3,\"call\":\"put 1 a 7\"",
+        "bad 3",
+    ),
+    (b"\"entry\":3", b"\"entry\":3.0", "bad 3"),
+    (b"\"entry\":3", b"\"entry\":3,\"more\":3", "bad 3"),
+    (b"put 1 a 7", b"put 1 a -0", "bad 3"),
+    (b"put 1 a 7", b"put 1 a 9223372036854775808", "bad 3"),
+    // the same key, and only the one way to write it leads to a good line
+    (b"put 1 a 5", b"put 1 \\u0022 5", "bad 2"),
+    (b"put 1 a 5", b"put 1 \\\" 5", "bad 3"),
+    (b"\"some 5\"", b"\"some 6\"", "bad 3"),
+    (b"\"some 7\"", b"\"some 5\"", "bad 4"),
+    (b"\"none\"", b"\"some 5\"", "bad 2"),
+    (b"put 1 a 7", b"put 1 b 7", "bad 3"),
+    (b"put 1 a 7", b"put 1  a 7", "bad 3"),
+    (b"put 1 a 7", b" put 1 a 7", "bad 3"),
+    (b"put 1 a 7", b"put 1 a 7 ", "bad 3"),
+    (b"put 1 a 7", b"put 1 a 07", "bad 3"),
+    (b"put 1 a 7", b"put 1 a +7", "bad 3"),
+    (b"put 1 a 7", b"put 01 a 7", "bad 3"),
+    (b"put 1 a 7", b"put 1 \\u0061 7", "bad 3"),
+    (b"get 1 a", b"getorelse 1 a 3", "bad 4"),
+    (b"get 1 a", b"finish 0", "bad 4"),
+    (b"get 1 a", b"abandon 0", "bad 4"),
+    (b"get 1 a", b"pairs 1", "bad 4"),
+    (b"get 1 a", b"count 1 all", "bad 4"),
+    (
+        b"get 1 a",
+        b"finish 999999999999999999999999999999",
+        "bad 4",
+    ),
+    (
+        b"\"seat\":0}\n{\"call\":\"get",
+        b"\"seat\":64}\n{\"call\":\"get",
+        "bad 3",
+    ),
+    (
+        b"\"seat\":0}\n{\"call\":\"get",
+        b"\"seat\":63}\n{\"call\":\"get",
+        "legal 4",
+    ),
+    (
+        b"\"seat\":0}\n{\"call\":\"get",
+        b"\"seat\":0.0}\n{\"call\":\"get",
+        "bad 3",
+    ),
+    (
+        b"\"seat\":0}\n{\"call\":\"get",
+        b"\"seat\":-0}\n{\"call\":\"get",
+        "bad 3",
+    ),
+    (
+        b"\"seat\":0}\n{\"call\":\"get",
+        b"\"seat\":0,\"seat\":0}\n{\"call\":\"get",
+        "bad 3",
+    ),
+    (b"\"entry\":2", b"\"entry\":3", "bad 2"),
+    (b"{\"entries\":4}", b"{\"entries\":3}", "bad 5"),
+    (b"{\"entries\":4}", b"{\"entries\":4} ", "bad 5"),
+    (b"{\"entries\":4}\n", b"{\"entries\":4}\n\n", "bad 6"),
+    (b"{\"entries\":4}\n", b"", "bad 5"),
+];
+
+#[test]
+fn wrong_lines_are_bad(rt: HostRuntime) -> Result<(), Fail> {
+    play(&rt, FIRST, &LINES)
+}
+
 /// Replies of the second journal that are others, and where they spoil it. Another pair that passes is as good.
+const REPLIES: [Row; 14] = [
+    (
+        b"pair c -9223372036854775808",
+        b"pair a\\\"\\\\=b 4",
+        "legal 16",
+    ),
+    (
+        b"pair c -9223372036854775808",
+        b"pair a\\\"\\\\=b 6",
+        "bad 8",
+    ),
+    (b"pair c -9223372036854775808", b"pair d 4", "bad 8"),
+    (b"pair c -9223372036854775808", b"none", "bad 8"),
+    (b"pair c -9223372036854775808", b"count 1", "bad 8"),
+    (b"pair c -9223372036854775808", b"pair ", "bad 8"),
+    (b"pair c -9223372036854775808", b"pair c", "bad 8"),
+    (b"\"count 2\"", b"\"count 1\"", "bad 7"),
+    (b"\"job 0\"", b"\"job 1\"", "bad 4"),
+    (b"=b=4 c=-9223372036854775808", b"=b=4", "bad 9"),
+    (b"\"abandon 2\"", b"\"abandon 1\"", "bad 11"),
+    (b"\"refused Taken\"", b"\"refused NoHandle\"", "bad 12"),
+    (b"\"refused Taken\"", b"\"ok\"", "bad 12"),
+    (b"\"finish 1\"", b"\"finish 0\"", "bad 8"),
+];
+
 #[test]
 fn wrong_replies_are_bad(rt: HostRuntime) -> Result<(), Fail> {
-    let cases: [(&[u8], &[u8], &str); 14] = [
-        (
-            b"pair c -9223372036854775808",
-            b"pair a\\\"\\\\=b 4",
-            "legal 16",
-        ),
-        (
-            b"pair c -9223372036854775808",
-            b"pair a\\\"\\\\=b 6",
-            "bad 8",
-        ),
-        (b"pair c -9223372036854775808", b"pair d 4", "bad 8"),
-        (b"pair c -9223372036854775808", b"none", "bad 8"),
-        (b"pair c -9223372036854775808", b"count 1", "bad 8"),
-        (b"pair c -9223372036854775808", b"pair ", "bad 8"),
-        (b"pair c -9223372036854775808", b"pair c", "bad 8"),
-        (b"\"count 2\"", b"\"count 1\"", "bad 7"),
-        (b"\"job 0\"", b"\"job 1\"", "bad 4"),
-        (b"=b=4 c=-9223372036854775808", b"=b=4", "bad 9"),
-        (b"\"abandon 2\"", b"\"abandon 1\"", "bad 11"),
-        (b"\"refused Taken\"", b"\"refused NoHandle\"", "bad 12"),
-        (b"\"refused Taken\"", b"\"ok\"", "bad 12"),
-        (b"\"finish 1\"", b"\"finish 0\"", "bad 8"),
-    ];
-    for (old, new, wanted) in cases {
-        let text = turned(rt.alloc(), BULK, old, new)?;
-        let verdict = told(rt.alloc(), &text)?;
-        assert_eq!(rt; verdict.as_str(), wanted);
-    }
-    Ok(())
+    play(&rt, BULK, &REPLIES)
 }
 
 /// A journal of a find, whose map is that of its freeze.
@@ -200,20 +193,26 @@ const FOUND: &[u8] = b"{\"call\":\"open 1\",\"entry\":1,\"reply\":\"ok\",\"seat\
 ";
 
 /// What a find may not tell: a pair that does not pass, one that came later, one of another map, and that there is none.
+const PAIRS: [Row; 6] = [
+    (b"pair b 2", b"pair b 2", "legal 8"),
+    (b"pair b 2", b"pair a 1", "bad 8"),
+    (b"pair b 2", b"pair c 4", "bad 8"),
+    (b"pair b 2", b"pair d 6", "bad 8"),
+    (b"pair b 2", b"pair b 4", "bad 8"),
+    (b"pair b 2", b"none", "bad 8"),
+];
+
 #[test]
 fn other_pairs_are_bad(rt: HostRuntime) -> Result<(), Fail> {
-    let cases: [(&[u8], &str); 6] = [
-        (b"pair b 2", "legal 8"),
-        (b"pair a 1", "bad 8"),
-        (b"pair c 4", "bad 8"),
-        (b"pair d 6", "bad 8"),
-        (b"pair b 4", "bad 8"),
-        (b"none", "bad 8"),
-    ];
-    for (new, wanted) in cases {
-        let text = turned(rt.alloc(), FOUND, b"pair b 2", new)?;
-        let verdict = told(rt.alloc(), &text)?;
-        assert_eq!(rt; verdict.as_str(), wanted);
+    play(&rt, FOUND, &PAIRS)
+}
+
+/// Each row is told as it has to be.
+fn play<R: AllocGlobal + Abort>(rt: &R, text: &[u8], rows: &[Row]) -> Result<(), Fail> {
+    for row in rows {
+        let (old, new, wanted) = *row;
+        let changed = turned(rt.alloc(), text, old, new)?;
+        assert_told(rt, &changed, wanted)?;
     }
     Ok(())
 }

@@ -1,12 +1,15 @@
 //! Writers and readers that fail.
-use super::{CREW, executed, plain, text};
+use super::{CREW, assert_is, assert_text, executed, plain, text};
 use batch_cli::{
     ArgFault, Free, RunFault, ScriptFault, execute, parse_script, read_journal, read_script,
     run_script,
 };
+use std::alloc::AllocError;
 use std::io;
 use std::io::{Read, Write};
+use std::sync::Wait;
 use std::test::Fail;
+use std::thread::Threads;
 
 /// Takes three bytes at a time until it has its most, and then fails.
 #[derive(Drop)]
@@ -53,23 +56,28 @@ impl Read for Torn {
     }
 }
 
+// The status of a run of one line whose output takes so many bytes, how many it took, and standard error.
+fn executed_onto<R: AllocGlobal + Threads + Wait + Sync>(
+    rt: &R,
+    most: usize,
+) -> Result<(u8, usize, String), AllocError> {
+    let alloc = rt.alloc();
+    let mut out = Disk {
+        held: Vec::new(alloc),
+        most,
+    };
+    let mut err = Vec::new(alloc);
+    let (status, journal) = execute(rt, alloc, &plain(), b"0 open 1\n", &mut out, &mut err);
+    drop(journal);
+    Ok((status, out.held.len(), text(alloc, &err)?))
+}
+
 #[test]
 fn a_writer_that_fails_fails_the_run(rt: HostRuntime) -> Result<(), Fail> {
-    let alloc = rt.alloc();
     for most in [0, 3] {
-        let mut out = Disk {
-            held: Vec::new(alloc),
-            most,
-        };
-        let mut err = Vec::new(alloc);
-        let options = plain();
-        let (status, _) = execute(&rt, alloc, &options, b"0 open 1\n", &mut out, &mut err);
-        assert_eq!(rt; status, 1);
-        assert_eq!(rt;
-            text(alloc, &err)?.as_str(),
-            "trierun: cannot write output\n"
-        );
-        assert_eq!(rt; out.held.len(), most);
+        let (status, taken, err) = executed_onto(&rt, most)?;
+        assert_is(&rt, (status, taken), (1, most));
+        assert_text(&rt, err.as_str(), "trierun: cannot write output\n");
     }
     Ok(())
 }
@@ -99,8 +107,9 @@ fn a_writer_that_has_room_gets_all(rt: HostRuntime) -> Result<(), Fail> {
         most: 100,
     };
     let journal = run_script(&rt, alloc, &script, CREW, &mut out, &Free)?;
-    assert_eq!(rt; journal.len(), 2);
-    assert_eq!(rt; text(alloc, &out.held)?.as_str(), "1 ok\n2 count 0\n");
+    assert_is(&rt, journal.len(), 2);
+    let held = text(alloc, &out.held)?;
+    assert_text(&rt, held.as_str(), "1 ok\n2 count 0\n");
     Ok(())
 }
 
@@ -114,8 +123,7 @@ fn standard_error_that_fails_changes_no_status(rt: HostRuntime) -> Result<(), Fa
     };
     let options = plain();
     let (status, _) = execute(&rt, alloc, &options, b"0", &mut out, &mut err);
-    assert_eq!(rt; status, 2);
-    assert_eq!(rt; out.len(), 0);
+    assert_is(&rt, (status, out.len()), (2, 0));
     Ok(())
 }
 
@@ -138,11 +146,11 @@ fn a_reader_that_fails_fails_the_reading(rt: HostRuntime) -> Result<(), Fail> {
 fn no_more_is_read_than_a_script_may_have(rt: HostRuntime) -> Result<(), Fail> {
     let alloc = rt.alloc();
     let all = read_script(alloc, io::repeat(b'#'))?;
-    assert_eq!(rt; all.len(), 65_536 * 257 + 1);
+    assert_is(&rt, all.len(), 65_536 * 257 + 1);
     let few = read_script(alloc, b"0 open 1\n".as_slice())?;
-    assert_eq!(rt; few.as_slice(), b"0 open 1\n".as_slice());
+    assert_text(&rt, text(alloc, &few)?.as_str(), "0 open 1\n");
     let long = read_journal(alloc, io::repeat(b'{').take(16_900_000))?;
-    assert_eq!(rt; long.len(), 16_900_000);
+    assert_is(&rt, long.len(), 16_900_000);
     Ok(())
 }
 
@@ -157,13 +165,12 @@ fn faults_show_as_they_are_printed(rt: HostRuntime) -> Result<(), Fail> {
         ArgFault::Memory,
         ArgFault::AuditJournal
     )?;
-    assert_eq!(rt;
-        shown.as_str(),
-        "out of memory, out of memory, cannot write output, out of memory, --audit takes no --journal"
-    );
+    let wanted =
+        "out of memory, out of memory, cannot write output, out of memory, --audit takes no --journal";
+    assert_text(&rt, shown.as_str(), wanted);
     let help = String::from_str(alloc, "Usage")?;
     let shown = format!(in alloc; "{}", ArgFault::Help(help))?;
-    assert_eq!(rt; shown.as_str(), "Usage");
+    assert_text(&rt, shown.as_str(), "Usage");
     let shown = format!(in alloc; "{}", ArgFault::NotText)?;
     assert!(rt; shown.as_str().starts_with("error: invalid UTF-8"));
     Ok(())
@@ -172,8 +179,8 @@ fn faults_show_as_they_are_printed(rt: HostRuntime) -> Result<(), Fail> {
 #[test]
 fn a_script_with_a_fault_is_not_run(rt: HostRuntime) -> Result<(), Fail> {
     let (status, out, err) = executed(&rt, b"0 open 1\n0 open")?;
-    assert_eq!(rt; err.as_str(), "line 2: missing field\n");
-    assert_eq!(rt; out.as_str(), "");
-    assert_eq!(rt; status, 2);
+    assert_text(&rt, err.as_str(), "line 2: missing field\n");
+    assert_text(&rt, out.as_str(), "");
+    assert_is(&rt, status, 2);
     Ok(())
 }

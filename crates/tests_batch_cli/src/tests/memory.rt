@@ -1,33 +1,50 @@
-//! Runs with no memory, with a little, and with none from some line on.
+//! Runs with no memory, with a little, and with none from some line on or for some lines.
 use super::{CREW, assert_is, plain};
-use batch_cli::{Free, Journal, LineGate, RunFault, Script, execute, parse_script, run_script};
+use batch_cli::{Free, LineGate, RunFault, Script, execute, parse_script, run_script};
 use std::alloc::Global;
 use std::io;
 use std::io::Write;
-use std::sync::{OnceLock, Wait};
+use std::sync::{Mutex, Wait};
 use std::test::Fail;
 use std::thread::Threads;
 use test_keys::{Shortage, take_all};
 
 // How many bytes a page takes.
-const PAGE: usize = 128;
+const PAGE: usize = 320;
 
-// Two clients, each on a handle of its own, with their replies.
-const SCRIPT: &[u8] = b"0 open 1\n1 open 2\n0 put 1 a 5\n1 put 2 b 6\n0 count 1 all\n\
-    1 getorelse 2 c 7\n0 list 1\n1 size 2\n";
+// Four clients, each on handles of its own, and what their run writes. The bulk verbs are asked of maps of three pairs,
+// each of which is a piece of its own.
+const SCRIPT: &[u8] = b"0 open 1\n1 open 2\n2 open 3\n3 open 4\n\
+    0 put 1 a 1\n1 put 2 a 2\n2 put 3 a 3\n3 put 4 a 4\n\
+    0 put 1 b 2\n1 put 2 b 3\n2 put 3 b 4\n3 put 4 b 5\n\
+    0 put 1 c 3\n1 put 2 c 4\n2 put 3 c 5\n3 put 4 c 6\n\
+    0 count 1 odd\n1 filter 2 even 6\n2 fold 3 sum\n3 mapvalues 4 add:1 8\n\
+    0 forall 1 lt:3\n1 list 6\n2 find 3 even\n3 list 8\n\
+    0 getorelse 1 d 7\n1 exists 2 ge:4\n2 size 3\n3 remove 4 a\n";
 
-const REPLIES: &[u8] = b"1 ok\n2 ok\n3 none\n4 none\n5 count 1\n6 some 7\n7 pairs a=5\n8 count 2\n";
+const REPLIES: &[u8] = b"1 ok\n2 ok\n3 ok\n4 ok\n5 none\n6 none\n7 none\n8 none\n\
+    9 none\n10 none\n11 none\n12 none\n13 none\n14 none\n15 none\n16 none\n\
+    17 count 2\n18 count 2\n19 item 12\n20 count 3\n\
+    21 false\n22 pairs a=2 c=4\n23 pair b 4\n24 pairs a=5 b=6 c=7\n\
+    25 some 7\n26 true\n27 count 3\n28 some 4\n";
 
 // The first number that no line has, and how many entries the journal has.
-const BEYOND: u32 = 9;
+const BEYOND: u32 = 29;
 
-const ENTRIES: usize = 10;
+const ENTRIES: usize = 36;
 
-// How many bytes are given after each refusal.
+// How many bytes are given after each refusal, and how often a run is tried at most.
 const STEP: usize = 16;
 
-// How often a run is tried at most.
-const TRIES: u32 = 8_192;
+const TRIES: u32 = 7_680;
+
+// The same where each try takes threads.
+const LARGE_STEP: usize = 1_024;
+
+const FEW_TRIES: u32 = 120;
+
+// How far behind a line memory is given back, where it is.
+const APART: u32 = 5;
 
 /// Takes a byte at a time into its own, with no request for memory.
 #[derive(Drop)]
@@ -68,119 +85,165 @@ fn blank() -> Page {
     }
 }
 
+// Whether a run of the bytes that wants memory tells so in one line, and writes and keeps nothing else.
+fn is_told_in_one_line<R: Threads + Wait + Sync>(rt: &R, alloc: Global, script: &[u8]) -> bool {
+    let (mut out, mut err) = (blank(), blank());
+    let (status, journal) = execute(rt, alloc, &plain(), script, &mut out, &mut err);
+    let told = err.text() == b"trierun: out of memory\n".as_slice();
+    told && status == 1 && out.used == 0 && journal.is_none()
+}
+
 #[test]
 fn want_of_memory_is_told_in_one_line(rt: HostRuntime) -> Result<(), Fail> {
     let alloc = rt.alloc();
-    let options = plain();
     let taken = take_all(alloc)?;
-    let (mut out, mut err) = (blank(), blank());
-    let (of_a_line, _) = execute(&rt, alloc, &options, b"0 open 1", &mut out, &mut err);
-    let (mut second_out, mut second_err) = (blank(), blank());
-    let (of_a_comment, _) = execute(
-        &rt,
-        alloc,
-        &options,
-        b"# none",
-        &mut second_out,
-        &mut second_err,
-    );
+    let of_a_line = is_told_in_one_line(&rt, alloc, b"0 open 1");
+    let of_a_comment = is_told_in_one_line(&rt, alloc, b"# none");
     drop(taken);
-    assert_eq!(rt; (of_a_line, of_a_comment), (1, 1));
-    assert_eq!(rt; (out.used, second_out.used), (0, 0));
-    let wanted = b"trierun: out of memory\n".as_slice();
-    assert_eq!(rt; err.text(), wanted);
-    assert_eq!(rt; second_err.text(), wanted);
+    assert_is(&rt, (of_a_line, of_a_comment), (true, true));
     Ok(())
 }
 
-// Runs the script with no memory, with a little, and so on, until memory is not wanting: how often it was, and the
-// journal. A run that wants memory writes nothing.
-fn refused_and_run<R: Threads + Wait + Sync>(
+// Whether a run of the script is whole, or wants memory and has written nothing; or nothing where it is neither.
+fn is_run<R: Threads + Wait + Sync, G: LineGate + Sync>(
     rt: &R,
     alloc: Global,
     script: &Script,
-    page: &mut Page,
-) -> Result<(u32, Journal), Fail> {
-    let mut shortage = Shortage::new(alloc)?;
-    for refused in 0..TRIES {
-        match run_script(rt, alloc, script, CREW, page, &Free) {
-            Ok(journal) => return Ok((refused, journal)),
-            Err(RunFault::Memory) => shortage.give(alloc, STEP)?,
-            Err(RunFault::Write) => return Err(Fail::new("the page is full")),
-        }
-        if page.used > 0 {
-            return Err(Fail::new("a run that wants memory wrote something"));
-        }
-    }
-    Err(Fail::new("memory is never enough"))
-}
-
-// With each try a request more is met. It catches a run that loses a line or an entry where memory is wanting, one that
-// writes before all replies are there, and one that takes want of memory for a reply.
-#[test]
-fn a_run_is_refused_at_each_request(rt: HostRuntime) -> Result<(), Fail> {
-    let alloc = rt.alloc();
-    let script = parse_script(alloc, SCRIPT)?;
-    let mut page = blank();
-    let (refused, journal) = refused_and_run(&rt, alloc, &script, &mut page)?;
-    assert!(rt; refused > 0);
-    assert_eq!(rt; page.text(), REPLIES);
-    assert_is(&rt, journal.len(), ENTRIES);
-    Ok(())
-}
-
-/// Takes all memory before the line of a number, and keeps it.
-#[derive(Drop)]
-struct Taker {
-    alloc: Global,
-    at: u32,
-    taken: OnceLock<Vec<Vec<u8>>>,
-}
-
-impl LineGate for Taker {
-    fn before(&self, _client: u32, line: u32) {
-        if line == self.at {
-            if let Ok(taken) = take_all(self.alloc) {
-                let _ = self.taken.try_set(taken);
-            }
-        }
-    }
-}
-
-// What the run came to where memory is wanting from the line on: whether it was made, or nothing where it is not as it
-// has to be.
-fn is_run_until<R: Threads + Wait + Sync>(
-    rt: &R,
-    alloc: Global,
-    script: &Script,
-    at: u32,
+    gate: &G,
 ) -> Option<bool> {
-    let gate = Taker {
-        alloc,
-        at,
-        taken: OnceLock::new(),
-    };
     let mut page = blank();
-    match run_script(rt, alloc, script, CREW, &mut page, &gate) {
+    match run_script(rt, alloc, script, CREW, &mut page, gate) {
         Ok(journal) if page.text() == REPLIES && journal.len() == ENTRIES => Some(true),
         Err(RunFault::Memory) if page.used == 0 => Some(false),
         _ => None,
     }
 }
 
-// The threads of both clients have begun or will begin when memory is taken. It catches a thread that is not joined
-// where the other one fails, and replies that are written without those of a client that failed.
+// Runs the script with no memory, with a little, and so on: how many runs wanted memory before one was whole, and whether
+// one was. Nothing where a run is not as it has to be.
+fn refusals<R: Threads + Wait + Sync>(
+    rt: &R,
+    alloc: Global,
+    script: &Script,
+    step: usize,
+    tries: u32,
+) -> Option<(u32, bool)> {
+    let mut shortage = Shortage::new(alloc).ok()?;
+    for refused in 0..tries {
+        if is_run(rt, alloc, script, &Free)? {
+            return Some((refused, true));
+        }
+        shortage.give(alloc, step).ok()?;
+    }
+    Some((tries, false))
+}
+
+// With each try a request more is met. No thread gets a stack of what little there is, so the clients are run one after
+// another by the caller, and the pieces of their crews are left to them. It catches a run that loses a line, a piece or
+// an entry where memory is wanting, one that writes before all replies are there, and one that takes want of memory for
+// a reply.
+#[test]
+fn a_run_is_refused_at_each_request(rt: HostRuntime) -> Result<(), Fail> {
+    let alloc = rt.alloc();
+    let script = parse_script(alloc, SCRIPT)?;
+    let runs = refusals(&rt, alloc, &script, STEP, TRIES);
+    let (refused, is_whole) = runs.ok_or("runs that are as they have to be")?;
+    assert_is(&rt, (refused > 0, is_whole), (true, true));
+    Ok(())
+}
+
+// The stacks of a run with ample memory are there for the threads of the next ones, so clients run at once while
+// requests of their caller are refused. Threads have heaps of their own, so how much memory is enough differs. It catches
+// a client that is lost with a thread that is not started.
+#[test]
+fn a_run_of_threads_is_refused_at_some_requests(rt: HostRuntime) -> Result<(), Fail> {
+    let alloc = rt.alloc();
+    let script = parse_script(alloc, SCRIPT)?;
+    assert_is(&rt, is_run(&rt, alloc, &script, &Free), Some(true));
+    let runs = refusals(&rt, alloc, &script, LARGE_STEP, FEW_TRIES);
+    let (refused, _) = runs.ok_or("runs that are as they have to be")?;
+    assert_is(&rt, refused > 0, true);
+    assert_is(&rt, is_run(&rt, alloc, &script, &Free), Some(true));
+    Ok(())
+}
+
+/// Takes all memory before the line `at`, and gives it back before the first line numbered `until` or higher that begins
+/// after that.
+#[derive(Drop)]
+struct Taker<'a, R: Wait> {
+    rt: &'a R,
+    alloc: Global,
+    at: u32,
+    until: u32,
+    taken: Mutex<Option<Vec<Vec<u8>>>>,
+}
+
+impl<R: Wait> LineGate for Taker<'_, R> {
+    fn before(&self, _client: u32, line: u32) {
+        let mut taken = self.taken.lock(self.rt);
+        if line == self.at {
+            *taken = take_all(self.alloc).ok();
+        } else if line >= self.until {
+            *taken = None;
+        }
+    }
+}
+
+// What the run came to where memory is wanting from a line on until another one.
+fn is_run_without<R: Threads + Wait + Sync>(
+    rt: &R,
+    alloc: Global,
+    script: &Script,
+    at: u32,
+    until: u32,
+) -> Option<bool> {
+    let gate = Taker {
+        rt,
+        alloc,
+        at,
+        until,
+        taken: Mutex::new(None),
+    };
+    is_run(rt, alloc, script, &gate)
+}
+
+// The threads of all clients have begun or will begin when memory is taken. It catches a thread that is not joined
+// where another one fails, and replies that are written without those of a client that failed.
 #[test]
 fn memory_is_wanting_from_some_line_on(rt: HostRuntime) -> Result<(), Fail> {
     let alloc = rt.alloc();
     let script = parse_script(alloc, SCRIPT)?;
     for at in 1..BEYOND {
-        let run = is_run_until(&rt, alloc, &script, at);
+        let run = is_run_without(&rt, alloc, &script, at, BEYOND);
         assert!(rt; run.is_some(), "from line {at} on");
     }
-    let first = is_run_until(&rt, alloc, &script, 1);
+    let first = is_run_without(&rt, alloc, &script, 1, BEYOND);
     assert_is(&rt, first, Some(false));
-    let after = is_run_until(&rt, alloc, &script, BEYOND);
+    let after = is_run_without(&rt, alloc, &script, BEYOND, BEYOND);
     assert_is(&rt, after, Some(true));
+    Ok(())
+}
+
+// How many of the runs want memory, where it is there again some lines behind the one that takes it. Nothing where a run
+// is not as it has to be.
+fn pinched<R: Threads + Wait + Sync>(rt: &R, alloc: Global, script: &Script) -> Option<u32> {
+    let mut refused = 0u32;
+    for at in 1..BEYOND {
+        if !is_run_without(rt, alloc, script, at, at.saturating_add(APART))? {
+            refused = refused.saturating_add(1);
+        }
+    }
+    Some(refused)
+}
+
+// Where memory is there again when all clients have ended, nothing but what they came to tells that one of them wanted
+// it. It catches a client that is whole for its caller and lacks a line, and a job that is told as done though its crew
+// had no memory.
+#[test]
+fn memory_is_wanting_for_some_lines(rt: HostRuntime) -> Result<(), Fail> {
+    let alloc = rt.alloc();
+    let script = parse_script(alloc, SCRIPT)?;
+    let refused = pinched(&rt, alloc, &script).ok_or("runs that are as they have to be")?;
+    assert!(rt; refused > 0);
     Ok(())
 }
