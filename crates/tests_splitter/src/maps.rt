@@ -63,9 +63,10 @@ fn rows_of(alloc: Global, sorted: &BTreeMap<(u128, u32), i64>) -> Result<Vec<Row
     Ok(rows)
 }
 
-/// A map of a key for each of these path words, numbered in their order, and its rows in the order of a walk.
+/// A map of a key for each of these path words, at most 2,000, numbered in their order, and its rows in the order of a
+/// walk.
 pub fn map_of(alloc: Global, paths: &[u64]) -> Result<(Map, Vec<Row>), Fail> {
-    let mut map = Version::empty(alloc, paths.len() as u64, Stamp(1))?;
+    let mut map = Version::empty(alloc, 2_000, Stamp(1))?;
     let mut sorted = BTreeMap::new(alloc);
     for (path, id) in paths.iter().zip(0..u32::MAX) {
         let value = i64::from(id);
