@@ -1,0 +1,3 @@
+pub mod FirstDigit
+pub mod OneMore
+pub mod Taking

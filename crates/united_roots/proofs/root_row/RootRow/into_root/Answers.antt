@@ -1,0 +1,15 @@
+use Rattle.std.proofs.Common.{map, sym, subst}
+use Rattle.trie_shape.specs.Roots.{word_of}
+use Rattle.trie_shape.specs.Shape.{NoneAbove, nodes}
+use Rattle.trie_shape.specs.Tree.{branch, trees}
+use Rattle.trie_shape.specs.View.{tree}
+use Rattle.trie_shape.proofs.Views.{on_ok}
+use Rattle.united_roots.specs.Rows.{United}
+use Rattle.united_roots.proofs.root_row.RootRow.into_root.Goals as goal
+
+pub returns-clause-newest : goal.returns-clause-newest
+returns-clause-newest g c =
+    let word = word_of g.K.PathKey.path_of in
+    let r = c.self.inside in
+    let none = subst (λ (h : United _ _). NoneAbove h.newest (nodes word (branch r.newest.0 r.pairs r.bitmap (trees (map tree r.children.items))))) c.self.view_is c.self.invariant.1 in
+    on_ok c.make_branch.result _ _ (λ n made. subst (λ t. NoneAbove c.args.self.newest (nodes word t)) (sym made) none) c.make_branch.ensures
