@@ -13,10 +13,12 @@ use std::alloc::Global;
 use std::sync::Arc;
 use stripes::Keeps;
 use trie_node::{NoMemory, Stamp, walk_lists_map};
+use trie_values::with_new_values;
 use versions::{MOST_PAIRS, Refusal, Version};
 
 /// Each map that is made has one owner, who may write it; it shares its keys, and the values that it has of the view,
-/// with the view. It is made pair by pair in one walk on the caller's thread, with no lock held.
+/// with the view. It is made on the caller's thread, with no lock held: by a put for each pair that passes, and with new
+/// values by the shape of the view's trie.
 impl<K: PathKey + Drop, V: Drop, P: Keeps<K, V>> View<K, V, P> {
     /// The map of the pairs that pass the test. It asks for memory for these pairs alone.
     pub fn filter<F: Fn(&K, &V) -> bool>(&self, test: F) -> Result<Version<K, V>, NoMemory>
@@ -44,13 +46,9 @@ impl<K: PathKey + Drop, V: Drop, P: Keeps<K, V>> View<K, V, P> {
         ensures few { IfOk result (λ made. length made.entries ≤ length self.now) }
         ensures limit { IfOk result (λ made. made.limit ≡ MOST_PAIRS) }
     {
-        walk_lists_map::<K, V>();
         self.len();
-        let mut made = Version::empty(self.alloc, MOST_PAIRS, Stamp::LOOSE)?;
-        for (key, value) in self.pairs()? {
-            put_changed(self.alloc, &mut made, &change, key, value)?;
-        }
-        Ok(made)
+        let root = with_new_values(self.alloc, self.plain.root(), Stamp::LOOSE, &change)?;
+        Ok(Version::from_root(root, MOST_PAIRS, Stamp::LOOSE))
     }
 }
 
@@ -74,24 +72,6 @@ fn put_if_passing<K: PathKey + Drop, V: Drop, F: Fn(&K, &V) -> bool>(
     }
     put_new(alloc, made, Arc::try_clone(key)?, Arc::try_clone(value)?)?;
     Ok(true)
-}
-
-// Puts another handle on the key into a map that has room for one more, with what the closure makes of the pair.
-fn put_changed<K: PathKey + Drop, V: Drop, W: Drop, G: Fn(&K, &V) -> W>(
-    alloc: Global,
-    made: &mut Version<K, W>,
-    change: &G,
-    key: &Arc<K>,
-    value: &Arc<V>,
-) -> Result<(), NoMemory>
-    requires callable { G.IsAlwaysCallable change.now }
-    requires room { length made.old.entries < made.old.limit }
-    ensures entries { OnOk result ((given : W) × MayAnswer G.Fn change.now key.now.value value.now.value given × (made.new.entries ≡ with_pair K.cmp made.old.entries key.now.value given)) }
-    ensures limit { made.new.limit ≡ made.old.limit }
-{
-    let given = Arc::new(alloc, answer_at(change, key, value))?;
-    put_new(alloc, made, Arc::try_clone(key)?, given)?;
-    Ok(())
 }
 
 // Puts the pair into a map that has room for one more.
