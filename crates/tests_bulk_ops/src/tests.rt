@@ -107,9 +107,9 @@ fn first(alloc: Global, number: usize) -> Result<View<ChosenKey, i64>, Fail> {
     Ok(version.view()?)
 }
 
-// So many pairs, numbered from 0. Every second has the path word 7, so that half of them share a bucket.
+// So many pairs, at most 2,000, numbered from 0. Every second has the path word 7, so that half of them share a bucket.
 fn many(alloc: Global, count: u32) -> Result<View<ChosenKey, i64>, Fail> {
-    let mut version = Version::empty(alloc, u64::from(count), Stamp(1))?;
+    let mut version = Version::empty(alloc, 2_000, Stamp(1))?;
     for id in 0..count {
         let path = if id % 2 == 0 {
             7

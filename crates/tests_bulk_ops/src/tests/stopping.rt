@@ -56,54 +56,10 @@ fn a_settled_work_looks_at_no_other_pair(rt: HostRuntime) -> Result<(), Fail> {
         let piece = whole(alloc, first(alloc, 3)?);
         assert_eq!(rt; work(alloc, &piece, &Given { settled })?, want);
     }
-    Ok(())
-}
-
-// Its part is the number of pairs that it was given, and is settled from a number of pairs on.
-#[derive(Drop)]
-struct GivenUpTo(u64);
-
-impl Bulk<ChosenKey, i64> for GivenUpTo {
-    type Part = u64;
-
-    ghost use Rattle.std.specs.Prelude.{⊤};
-
-    ghost answers = { λ q m part. ⊤ };
-
-    ghost decides = { λ q m. ⊤ };
-
-    ghost ready = { λ q. ⊤ };
-
-    fn unit(&self, _alloc: Global) -> Result<u64, NoMemory> {
-        Ok(0)
+    // however many pairs were taken from the trie at a time
+    for (settled, want) in [(true, 1), (false, 1_200)] {
+        let piece = whole(alloc, many(alloc, 1_200)?);
+        assert_eq!(rt; work(alloc, &piece, &Given { settled })?, want);
     }
-
-    fn one(
-        &self,
-        _alloc: Global,
-        _key: &Arc<ChosenKey>,
-        _value: &Arc<i64>,
-    ) -> Result<u64, NoMemory> {
-        Ok(1)
-    }
-
-    fn join(&self, _alloc: Global, a: &u64, b: &u64) -> Result<u64, NoMemory> {
-        Ok(a.wrapping_add(*b))
-    }
-
-    fn settled(&self, part: &u64) -> bool {
-        self.0 <= *part
-    }
-}
-
-// However many pairs were taken from the trie at a time.
-#[test]
-fn a_work_stops_after_the_pair_that_settles_it(rt: HostRuntime) -> Result<(), Fail> {
-    let alloc = rt.alloc();
-    let piece = whole(alloc, many(alloc, 1_200)?);
-    for settled in [1, 2, 255, 256, 257, 600, 1_199, 1_200] {
-        assert_eq!(rt; work(alloc, &piece, &GivenUpTo(settled))?, settled);
-    }
-    assert_eq!(rt; work(alloc, &piece, &GivenUpTo(1_201))?, 1_200);
     Ok(())
 }
