@@ -2,15 +2,16 @@
 
 ghost use Rattle.bulk_ops.specs.Queries.{IsReady};
 
-use crate::maps::Row;
+use crate::maps::{Row, push_row};
 use bulk_ops::{PairFn, Query, Stored, StoredTest};
 use combiner::Sum;
-use std::alloc::{AllocError, Global};
+use std::alloc::Global;
+use std::process::Abort;
 use test_keys::ChosenKey;
 use test_queries::{Values, Zero, stored_values, stored_zero};
 
 /// A value from the least to the most passes.
-#[derive(Clone, Copy, Debug, PartialEq, Eq)]
+#[derive(Clone, Copy)]
 pub struct Within {
     pub least: u64,
     pub most: u64,
@@ -45,7 +46,7 @@ impl PairFn<ChosenKey, u64, bool> for Within {
 pub type Asked = Query<ChosenKey, u64, Within, Zero, Sum, Values>;
 
 /// A question as a plain value.
-#[derive(Clone, Copy, Debug, PartialEq, Eq)]
+#[derive(Clone, Copy)]
 pub enum Ask {
     Count(Within),
     Exists(Within),
@@ -85,29 +86,34 @@ impl Ask {
         }
     }
 
+    // The test of the pairs that the answer is about.
+    fn test(self) -> Within {
+        match self {
+            Ask::Count(test) | Ask::Exists(test) | Ask::ForAll(test) | Ask::Find(test) => test,
+            Ask::Filter(test, _) => test,
+            Ask::Zeros(_) | Ask::Total => Within::ALL,
+        }
+    }
+
+    // A pair's value, or its new one in a map that is made.
+    fn value_of(self, value: u64) -> u64 {
+        match self {
+            Ask::Zeros(_) => 0,
+            _ => value,
+        }
+    }
+
     /// The rows that the answer is about: those that pass, and those of a map that is made.
-    pub fn chosen(self, alloc: Global, rows: &[Row]) -> Result<Vec<Row>, AllocError> {
+    pub fn chosen(self, rt: &impl Abort, alloc: Global, rows: &[Row]) -> Vec<Row> {
         let mut chosen = Vec::new(alloc);
         for row in rows {
-            match self {
-                Ask::Count(test) | Ask::Exists(test) | Ask::ForAll(test) | Ask::Find(test) => {
-                    if test.passes(row.value) {
-                        chosen.push(*row)?;
-                    }
-                }
-                Ask::Filter(test, _) => {
-                    if test.passes(row.value) {
-                        chosen.push(*row)?;
-                    }
-                }
-                Ask::Zeros(_) => chosen.push(Row {
-                    place: row.place,
-                    value: 0,
-                })?,
-                Ask::Total => chosen.push(*row)?,
+            if self.test().passes(row.value) {
+                let value = self.value_of(row.value);
+                let place = row.place;
+                push_row(rt, &mut chosen, Row { place, value });
             }
         }
-        Ok(chosen)
+        chosen
     }
 
     /// Whether so many rows, of which so many pass, have the answer whatever other rows there are.

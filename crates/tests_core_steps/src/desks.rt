@@ -4,7 +4,9 @@
 use crate::asks::Ask;
 use crate::maps::{END, Row, Span, cut_point, rows_within};
 use core_steps::{Move, Progress};
-use std::alloc::{AllocError, Global};
+use std::alloc::Global;
+use std::panic::Expect;
+use std::process::Abort;
 
 /// What a worker has of a job. The oldest span stands first in the queue.
 #[derive(Drop)]
@@ -23,47 +25,53 @@ pub struct Job {
     pub desks: Vec<Desk>,
 }
 
+// What each worker has at first: the whole map waits for worker 0.
+fn desk_of(rt: &impl Abort, alloc: Global, worker: u32) -> Desk {
+    let mut queue = Vec::new(alloc);
+    if worker == 0 {
+        push_span(rt, &mut queue, (0, END));
+    }
+    Desk {
+        queue,
+        held: None,
+        worked: Vec::new(alloc),
+    }
+}
+
+// Adds a span to spans.
+fn push_span(rt: &impl Abort, spans: &mut Vec<Span>, span: Span) {
+    spans.push(span).expect(rt, "no room");
+}
+
 impl Job {
     /// A job whose whole map waits for worker 0.
     pub fn new(
+        rt: &impl Abort,
         alloc: Global,
         number: u64,
         ask: Ask,
         rows: Vec<Row>,
         workers: u32,
-    ) -> Result<Job, AllocError> {
+    ) -> Job {
         let mut desks = Vec::new(alloc);
         for worker in 0..workers {
-            let mut queue = Vec::new(alloc);
-            if worker == 0 {
-                queue.push((0, END))?;
-            }
-            desks.push(Desk {
-                queue,
-                held: None,
-                worked: Vec::new(alloc),
-            })?;
+            desks.push(desk_of(rt, alloc, worker)).expect(rt, "no room");
         }
-        Ok(Job {
+        Job {
             number,
             ask,
             rows,
             desks,
-        })
+        }
     }
 
     /// Makes a move, of a worker that there is, where a piece of at most `grain` pairs is not cut.
-    pub fn turn(
-        &mut self,
-        alloc: Global,
-        chosen: Move,
-        grain: u64,
-    ) -> Result<Progress, AllocError> {
+    pub fn turn(&mut self, rt: &impl Abort, alloc: Global, chosen: Move, grain: u64) -> Progress {
         match chosen {
-            Move::Take(worker) => Ok(self.take(worker)),
-            Move::Steal(worker, from) => Ok(self.steal(worker, from)),
-            Move::Split(worker) => self.split(alloc, worker, grain),
-            Move::Work(worker) => self.work(alloc, worker),
+            Move::Take(worker) => self.take(worker),
+            Move::Steal(worker, from) => self.steal(worker, from),
+            Move::Split(worker) => self.split(rt, alloc, worker, grain),
+            Move::Work(worker) => self.work(rt, alloc, worker),
         }
     }
 
@@ -103,48 +111,47 @@ impl Job {
     }
 
     // What the worker holds is cut in two, where it can be.
-    fn split(&mut self, alloc: Global, worker: u32, grain: u64) -> Result<Progress, AllocError> {
+    fn split(&mut self, rt: &impl Abort, alloc: Global, worker: u32, grain: u64) -> Progress {
         let Some((lo, hi)) = self.held(worker) else {
-            return Ok(Progress::Idle);
+            return Progress::Idle;
         };
-        let rows = rows_within(alloc, &self.rows, &[(lo, hi)])?;
-        let Some(mid) = cut_point(alloc, &rows, grain)? else {
-            return Ok(Progress::Whole);
+        let rows = rows_within(rt, alloc, &self.rows, &[(lo, hi)]);
+        let Some(mid) = cut_point(rt, alloc, &rows, grain) else {
+            return Progress::Whole;
         };
         if let Some(desk) = self.desks.get_mut(worker as usize) {
             desk.held = Some((lo, mid));
-            desk.queue.push((mid, hi))?;
+            push_span(rt, &mut desk.queue, (mid, hi));
         }
-        Ok(Progress::Cut(lo, mid, hi))
+        Progress::Cut(lo, mid, hi)
     }
 
     // What the worker holds counts as worked.
-    fn work(&mut self, alloc: Global, worker: u32) -> Result<Progress, AllocError> {
+    fn work(&mut self, rt: &impl Abort, alloc: Global, worker: u32) -> Progress {
         let Some((lo, hi)) = self.held(worker) else {
-            return Ok(Progress::Idle);
+            return Progress::Idle;
         };
         if let Some(desk) = self.desks.get_mut(worker as usize) {
             desk.held = None;
-            desk.worked.push((lo, hi))?;
+            push_span(rt, &mut desk.worked, (lo, hi));
         }
-        let rows = rows_within(alloc, &self.rows, &[(lo, hi)])?;
-        let settled = self.is_settled(alloc, worker)?;
-        Ok(Progress::Worked(lo, hi, rows.len() as u64, settled))
+        let pairs = rows_within(rt, alloc, &self.rows, &[(lo, hi)]).len() as u64;
+        Progress::Worked(lo, hi, pairs, self.is_settled(rt, alloc, worker))
     }
 
     /// The rows that the worker has worked.
-    pub fn worked_rows(&self, alloc: Global, worker: u32) -> Result<Vec<Row>, AllocError> {
+    pub fn worked_rows(&self, rt: &impl Abort, alloc: Global, worker: u32) -> Vec<Row> {
         match self.desks.get(worker as usize) {
-            Some(desk) => rows_within(alloc, &self.rows, &desk.worked),
-            None => Ok(Vec::new(alloc)),
+            Some(desk) => rows_within(rt, alloc, &self.rows, &desk.worked),
+            None => Vec::new(alloc),
         }
     }
 
     // Whether the rows that the worker has worked decide the answer.
-    fn is_settled(&self, alloc: Global, worker: u32) -> Result<bool, AllocError> {
-        let rows = self.worked_rows(alloc, worker)?;
-        let chosen = self.ask.chosen(alloc, &rows)?;
-        Ok(self.ask.is_decided(chosen.len(), rows.len()))
+    fn is_settled(&self, rt: &impl Abort, alloc: Global, worker: u32) -> bool {
+        let rows = self.worked_rows(rt, alloc, worker);
+        let chosen = self.ask.chosen(rt, alloc, &rows);
+        self.ask.is_decided(chosen.len(), rows.len())
     }
 
     // Whether nothing waits and nothing is held.
@@ -158,16 +165,16 @@ impl Job {
     }
 
     /// Whether the job has an answer: all is worked, or some worker's rows decide.
-    pub fn has_answer(&self, alloc: Global) -> Result<bool, AllocError> {
+    pub fn has_answer(&self, rt: &impl Abort, alloc: Global) -> bool {
         if self.is_done() {
-            return Ok(true);
+            return true;
         }
         for worker in 0..self.desks.len().min(16) as u32 {
-            if self.is_settled(alloc, worker)? {
-                return Ok(true);
+            if self.is_settled(rt, alloc, worker) {
+                return true;
             }
         }
-        Ok(false)
+        false
     }
 }
 

@@ -7,7 +7,9 @@ use crate::plans::{Do, Plan};
 use crate::told::Told;
 use core_steps::Move;
 use handles::Limits;
-use std::alloc::{AllocError, Global};
+use std::alloc::Global;
+use std::panic::Expect;
+use std::process::Abort;
 use test_keys::ChosenKey;
 use versions::Refusal;
 
@@ -69,34 +71,34 @@ impl Machine {
     }
 
     /// Makes a step.
-    pub fn step(&mut self, alloc: Global, plan: Plan) -> Result<Expected, AllocError> {
+    pub fn step(&mut self, rt: &impl Abort, alloc: Global, plan: Plan) -> Expected {
         if let Plan::Turn(job, chosen) = plan {
-            return self.turn(alloc, job, chosen);
+            return telling(alloc, self.turn(rt, alloc, job, chosen));
         }
         let answer = match self.refusal_of(plan) {
             Some(refusal) => telling(alloc, Told::Refused(refusal)),
-            None => self.granted(alloc, plan)?,
+            None => self.granted(rt, alloc, plan),
         };
         if is_entry(answer.told) {
             self.entries = self.entries.saturating_add(1);
         }
-        Ok(answer)
+        answer
     }
 
     // A worker's move.
-    fn turn(&mut self, alloc: Global, number: u64, chosen: Move) -> Result<Expected, AllocError> {
+    fn turn(&mut self, rt: &impl Abort, alloc: Global, number: u64, chosen: Move) -> Told {
         let (grain, workers) = (self.grain, self.workers);
         let Some(job) = self.job_mut(number) else {
-            return Ok(telling(alloc, Told::Refused(Refusal::NoJob)));
+            return Told::Refused(Refusal::NoJob);
         };
         let (worker, other) = match chosen {
             Move::Steal(worker, from) => (worker, from),
             Move::Take(worker) | Move::Split(worker) | Move::Work(worker) => (worker, worker),
         };
         if worker >= workers || other >= workers {
-            return Ok(telling(alloc, Told::Refused(Refusal::NoWorker)));
+            return Told::Refused(Refusal::NoWorker);
         }
-        Ok(telling(alloc, Told::Turn(job.turn(alloc, chosen, grain)?)))
+        Told::Turn(job.turn(rt, alloc, chosen, grain))
     }
 
     /// The rows of a handle that is live.
@@ -170,91 +172,114 @@ impl Machine {
         let (Some(rows), Some(key)) = (self.rows(handle), what.puts()) else {
             return false;
         };
-        rows.len() as u64 >= self.limits.pairs && value_at(rows, place_of(key)).is_none()
+        rows.len() as u64 >= self.limits.pairs && value_of(rows, key).is_none()
     }
 
     // A copy of the rows of a handle.
-    fn copy_of(&self, alloc: Global, handle: u32) -> Result<Vec<Row>, AllocError> {
+    fn copy_of(&self, rt: &impl Abort, alloc: Global, handle: u32) -> Vec<Row> {
         match self.rows(handle) {
-            Some(rows) => Vec::from_slice(alloc, rows),
-            None => Ok(Vec::new(alloc)),
+            Some(rows) => copied(rt, alloc, rows),
+            None => Vec::new(alloc),
         }
+    }
+
+    // The handle is live, with these rows.
+    fn add(&mut self, rt: &impl Abort, handle: u32, rows: Vec<Row>) {
+        self.live.push((handle, rows)).expect(rt, "no room");
+    }
+
+    // The handle is no longer live.
+    fn drop_handle(&mut self, handle: u32) {
+        self.live.retain(|live| live.0 != handle);
+    }
+
+    // The job is no longer open.
+    fn close(&mut self, number: u64) {
+        self.jobs.retain(|open| open.number != number);
     }
 
     // A client's step that nothing refuses.
-    fn granted(&mut self, alloc: Global, plan: Plan) -> Result<Expected, AllocError> {
+    fn granted(&mut self, rt: &impl Abort, alloc: Global, plan: Plan) -> Expected {
         match plan {
-            Plan::Open(handle) => {
-                self.live.push((handle, Vec::new(alloc)))?;
-                Ok(telling(alloc, Told::Unit))
-            }
-            Plan::Snapshot(handle, to) => self.snapshot(alloc, handle, to),
-            Plan::Drop(handle) => {
-                self.live.retain(|live| live.0 != handle);
-                Ok(telling(alloc, Told::Unit))
-            }
-            Plan::On(handle, what) => self.on(alloc, handle, what),
-            Plan::View(handle) => self.view(alloc, handle),
-            Plan::Freeze(handle, ask) => self.freeze(alloc, handle, ask),
-            Plan::Finish(job) => self.finish(alloc, job),
-            Plan::Abandon(job) => {
-                self.jobs.retain(|open| open.number != job);
-                Ok(telling(alloc, Told::Abandoned))
-            }
-            Plan::Turn(_, _) => Ok(telling(alloc, Told::Unit)),
+            Plan::View(handle) => Expected {
+                told: Told::Viewed,
+                rows: self.copy_of(rt, alloc, handle),
+            },
+            Plan::Finish(job) => self.finish(rt, alloc, job),
+            _ => telling(alloc, self.changed(rt, alloc, plan)),
         }
     }
 
-    fn snapshot(&mut self, alloc: Global, handle: u32, to: u32) -> Result<Expected, AllocError> {
-        let rows = self.copy_of(alloc, handle)?;
-        self.live.push((to, rows))?;
-        Ok(telling(alloc, Told::Unit))
-    }
-
-    fn view(&self, alloc: Global, handle: u32) -> Result<Expected, AllocError> {
-        Ok(Expected {
-            told: Told::Viewed,
-            rows: self.copy_of(alloc, handle)?,
-        })
+    // The same, where no rows are shown.
+    fn changed(&mut self, rt: &impl Abort, alloc: Global, plan: Plan) -> Told {
+        match plan {
+            Plan::Open(handle) => {
+                self.add(rt, handle, Vec::new(alloc));
+                Told::Unit
+            }
+            Plan::Snapshot(handle, to) => {
+                let rows = self.copy_of(rt, alloc, handle);
+                self.add(rt, to, rows);
+                Told::Unit
+            }
+            Plan::Drop(handle) => {
+                self.drop_handle(handle);
+                Told::Unit
+            }
+            Plan::On(handle, what) => self.on(rt, alloc, handle, what),
+            Plan::Freeze(handle, ask) => self.freeze(rt, alloc, handle, ask),
+            Plan::Abandon(job) => {
+                self.close(job);
+                Told::Abandoned
+            }
+            Plan::View(_) | Plan::Finish(_) | Plan::Turn(_, _) => Told::Unit,
+        }
     }
 
     // What is done on the rows of a handle.
-    fn on(&mut self, alloc: Global, handle: u32, what: Do) -> Result<Expected, AllocError> {
-        let rows = self.copy_of(alloc, handle)?;
-        if let Some(after) = rows_after(alloc, &rows, what)? {
-            self.live.retain(|live| live.0 != handle);
-            self.live.push((handle, after))?;
+    fn on(&mut self, rt: &impl Abort, alloc: Global, handle: u32, what: Do) -> Told {
+        let rows = self.copy_of(rt, alloc, handle);
+        let told = reply_to(&rows, what);
+        if let Some(write) = write_of(&rows, what) {
+            self.drop_handle(handle);
+            self.add(rt, handle, rows_after(rt, alloc, &rows, write));
         }
-        Ok(telling(alloc, reply_to(&rows, what)))
+        told
     }
 
-    fn freeze(&mut self, alloc: Global, handle: u32, ask: Ask) -> Result<Expected, AllocError> {
+    fn freeze(&mut self, rt: &impl Abort, alloc: Global, handle: u32, ask: Ask) -> Told {
         let number = self.next;
-        let rows = self.copy_of(alloc, handle)?;
-        let job = Job::new(alloc, number, ask, rows, self.workers)?;
-        self.jobs.push(job)?;
+        let rows = self.copy_of(rt, alloc, handle);
+        let job = Job::new(rt, alloc, number, ask, rows, self.workers);
+        self.jobs.push(job).expect(rt, "no room");
         self.next = number.saturating_add(1);
-        Ok(telling(alloc, Told::Job(number)))
+        Told::Job(number)
     }
 
     // The answer of a job for all its rows, once there is one.
-    fn finish(&mut self, alloc: Global, number: u64) -> Result<Expected, AllocError> {
+    fn finish(&mut self, rt: &impl Abort, alloc: Global, number: u64) -> Expected {
         let Some(job) = self.job(number) else {
-            return Ok(telling(alloc, Told::Refused(Refusal::NoJob)));
+            return telling(alloc, Told::Refused(Refusal::NoJob));
         };
-        if !job.has_answer(alloc)? {
-            return Ok(telling(alloc, Told::Unfinished));
+        if !job.has_answer(rt, alloc) {
+            return telling(alloc, Told::Unfinished);
         }
-        let ask = job.ask;
-        let rows = ask.chosen(alloc, &job.rows)?;
-        let told = answer(ask, &rows, job.rows.len());
-        self.jobs.retain(|open| open.number != number);
+        let (ask, all) = (job.ask, job.rows.len());
+        let rows = ask.chosen(rt, alloc, &job.rows);
+        self.close(number);
         if let Some(to) = ask.target() {
-            let made = Vec::from_slice(alloc, &rows)?;
-            self.live.push((to, made))?;
+            self.add(rt, to, copied(rt, alloc, &rows));
         }
-        Ok(Expected { told, rows })
+        Expected {
+            told: answer(ask, &rows, all),
+            rows,
+        }
     }
+}
+
+// A copy of rows.
+fn copied(rt: &impl Abort, alloc: Global, rows: &[Row]) -> Vec<Row> {
+    Vec::from_slice(alloc, rows).expect(rt, "no room")
 }
 
 // Whether what is told makes an entry in the journal.
@@ -284,49 +309,64 @@ pub fn answer(ask: Ask, chosen: &[Row], all: usize) -> Told {
     }
 }
 
-// The rows after what is done, where it changes them.
-fn rows_after(alloc: Global, rows: &[Row], what: Do) -> Result<Option<Vec<Row>>, AllocError> {
-    let (key, value) = match what {
-        Do::Get(_) | Do::Size => return Ok(None),
-        Do::Clear => return Ok(Some(Vec::new(alloc))),
-        Do::Put(key, value) => (key, Some(value)),
-        Do::PutIfAbsent(key, value) => match value_at(rows, place_of(key)) {
-            Some(_) => return Ok(None),
-            None => (key, Some(value)),
+// What becomes of a map: each pair goes, or a key gets the value, or no value.
+#[derive(Clone, Copy)]
+enum Write {
+    Clear,
+    At(ChosenKey, Option<u64>),
+}
+
+// What is written, where what is done changes these rows.
+fn write_of(rows: &[Row], what: Do) -> Option<Write> {
+    match what {
+        Do::Get(_) | Do::Size => None,
+        Do::Clear => Some(Write::Clear),
+        Do::Put(key, value) => Some(Write::At(key, Some(value))),
+        Do::PutIfAbsent(key, value) => match value_of(rows, key) {
+            Some(_) => None,
+            None => Some(Write::At(key, Some(value))),
         },
-        Do::Replace(key, value) => match value_at(rows, place_of(key)) {
-            Some(_) => (key, Some(value)),
-            None => return Ok(None),
+        Do::Replace(key, value) => match value_of(rows, key) {
+            Some(_) => Some(Write::At(key, Some(value))),
+            None => None,
         },
-        Do::ReplaceIf(key, old, value) => {
-            if value_at(rows, place_of(key)) != Some(old) {
-                return Ok(None);
-            }
-            (key, Some(value))
-        }
-        Do::Remove(key) => (key, None),
-        Do::RemoveIf(key, old) => {
-            if value_at(rows, place_of(key)) != Some(old) {
-                return Ok(None);
-            }
-            (key, None)
-        }
-    };
-    match value {
-        Some(value) => Ok(Some(with_value(alloc, rows, place_of(key), value)?)),
-        None => Ok(Some(without(alloc, rows, place_of(key))?)),
+        Do::ReplaceIf(key, old, value) => write_if(rows, key, old, Some(value)),
+        Do::Remove(key) => Some(Write::At(key, None)),
+        Do::RemoveIf(key, old) => write_if(rows, key, old, None),
+    }
+}
+
+// What is written where the key has the old value.
+fn write_if(rows: &[Row], key: ChosenKey, old: u64, value: Option<u64>) -> Option<Write> {
+    if value_of(rows, key) == Some(old) {
+        return Some(Write::At(key, value));
+    }
+    None
+}
+
+// The value of a key, or none.
+fn value_of(rows: &[Row], key: ChosenKey) -> Option<u64> {
+    value_at(rows, place_of(key))
+}
+
+// The rows after what is written.
+fn rows_after(rt: &impl Abort, alloc: Global, rows: &[Row], write: Write) -> Vec<Row> {
+    match write {
+        Write::Clear => Vec::new(alloc),
+        Write::At(key, Some(value)) => with_value(rt, alloc, rows, place_of(key), value),
+        Write::At(key, None) => without(rt, alloc, rows, place_of(key)),
     }
 }
 
 // What is told of what is done on these rows.
 fn reply_to(rows: &[Row], what: Do) -> Told {
     match what {
-        Do::Get(key) | Do::Remove(key) => Told::Old(value_at(rows, place_of(key))),
+        Do::Get(key) | Do::Remove(key) => Told::Old(value_of(rows, key)),
         Do::Put(key, _) | Do::PutIfAbsent(key, _) | Do::Replace(key, _) => {
-            Told::Old(value_at(rows, place_of(key)))
+            Told::Old(value_of(rows, key))
         }
         Do::ReplaceIf(key, old, _) | Do::RemoveIf(key, old) => {
-            Told::Done(value_at(rows, place_of(key)) == Some(old))
+            Told::Done(value_of(rows, key) == Some(old))
         }
         Do::Size => Told::Size(rows.len() as u64),
         Do::Clear => Told::Cleared,

@@ -1,6 +1,8 @@
 //! A map as a plain list of rows in the order of a walk, and where such a list is cut.
 
-use std::alloc::{AllocError, Global};
+use std::alloc::Global;
+use std::panic::Expect;
+use std::process::Abort;
 
 /// Where a key stands: the position of its path word, and its number.
 pub type Place = (u128, u32);
@@ -48,6 +50,11 @@ pub fn position_of(word: u64) -> u128 {
     position.wrapping_mul(16).wrapping_add(u128::from(rest))
 }
 
+/// Adds a row to rows.
+pub fn push_row(rt: &impl Abort, rows: &mut Vec<Row>, row: Row) {
+    rows.push(row).expect(rt, "no room");
+}
+
 /// The value at a place, or none.
 pub fn value_at(rows: &[Row], place: Place) -> Option<u64> {
     for row in rows {
@@ -58,50 +65,56 @@ pub fn value_at(rows: &[Row], place: Place) -> Option<u64> {
     None
 }
 
+// Room for the rows of a map.
+fn room(rt: &impl Abort, alloc: Global) -> Vec<Row> {
+    Vec::with_capacity(alloc, 48).expect(rt, "no room")
+}
+
 /// The rows with the value at a place.
 pub fn with_value(
+    rt: &impl Abort,
     alloc: Global,
     rows: &[Row],
     place: Place,
     value: u64,
-) -> Result<Vec<Row>, AllocError> {
-    let mut after = Vec::with_capacity(alloc, 48)?;
+) -> Vec<Row> {
+    let mut after = room(rt, alloc);
     let mut is_put = false;
     for row in rows {
         if !is_put && place <= row.place {
-            after.push(Row { place, value })?;
+            push_row(rt, &mut after, Row { place, value });
             is_put = true;
         }
         if row.place != place {
-            after.push(*row)?;
+            push_row(rt, &mut after, *row);
         }
     }
     if !is_put {
-        after.push(Row { place, value })?;
+        push_row(rt, &mut after, Row { place, value });
     }
-    Ok(after)
+    after
 }
 
 /// The rows without the one at a place.
-pub fn without(alloc: Global, rows: &[Row], place: Place) -> Result<Vec<Row>, AllocError> {
-    let mut after = Vec::with_capacity(alloc, 48)?;
+pub fn without(rt: &impl Abort, alloc: Global, rows: &[Row], place: Place) -> Vec<Row> {
+    let mut after = room(rt, alloc);
     for row in rows {
         if row.place != place {
-            after.push(*row)?;
+            push_row(rt, &mut after, *row);
         }
     }
-    Ok(after)
+    after
 }
 
 /// The rows whose positions lie in some of the spans.
-pub fn rows_within(alloc: Global, rows: &[Row], spans: &[Span]) -> Result<Vec<Row>, AllocError> {
+pub fn rows_within(rt: &impl Abort, alloc: Global, rows: &[Row], spans: &[Span]) -> Vec<Row> {
     let mut within = Vec::new(alloc);
     for row in rows {
         if lies_within(row.place.0, spans) {
-            within.push(*row)?;
+            push_row(rt, &mut within, *row);
         }
     }
-    Ok(within)
+    within
 }
 
 // Whether some span has the position.
@@ -116,30 +129,38 @@ fn lies_within(position: u128, spans: &[Span]) -> bool {
 
 /// Where rows are cut: nowhere if they are no more than `grain` or share one position; else at the middle one of the
 /// first digits that differ, after the digits that all share and with zeros behind.
-pub fn cut_point(alloc: Global, rows: &[Row], grain: u64) -> Result<Option<u128>, AllocError> {
+pub fn cut_point(rt: &impl Abort, alloc: Global, rows: &[Row], grain: u64) -> Option<u128> {
     if rows.len() as u64 <= grain {
-        return Ok(None);
+        return None;
     }
     for width in WIDTHS {
-        let starts = starts_of(alloc, rows, width)?;
-        if starts.len() > 1 {
-            return Ok(starts.as_slice().get(starts.len() / 2).copied());
+        let middle = middle_of(&starts_of(rt, alloc, rows, width));
+        if middle.is_some() {
+            return middle;
         }
     }
-    Ok(None)
+    None
+}
+
+// The middle one of several, none of one.
+fn middle_of(starts: &[u128]) -> Option<u128> {
+    if starts.len() > 1 {
+        return starts.get(starts.len() / 2).copied();
+    }
+    None
 }
 
 // The multiples of a width that have rows before the next multiple, each once, in rising order.
-fn starts_of(alloc: Global, rows: &[Row], width: u128) -> Result<Vec<u128>, AllocError> {
+fn starts_of(rt: &impl Abort, alloc: Global, rows: &[Row], width: u128) -> Vec<u128> {
     let mut starts = Vec::new(alloc);
     let mut last = None;
     for row in rows {
         let behind = row.place.0.checked_rem(width).unwrap_or(0);
         let start = row.place.0.saturating_sub(behind);
         if last != Some(start) {
-            starts.push(start)?;
+            starts.push(start).expect(rt, "no room");
             last = Some(start);
         }
     }
-    Ok(starts)
+    starts
 }

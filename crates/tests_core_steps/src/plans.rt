@@ -1,13 +1,15 @@
 //! Steps as plain values, and as steps of a core.
 
-ghost use Rattle.std.specs.Prelude.{All, IfOk};
+ghost use Rattle.std.specs.Prelude.{All};
 ghost use Rattle.bulk_ops.specs.Queries.{IsReady};
 ghost use Rattle.core_steps.specs.Steps.{CanAsk, asked_by};
 
 use crate::asks::{Ask, Asked, query_of};
 use core_steps::{Core, Move, Step};
 use handles::{Call, Command};
-use std::alloc::{AllocError, Global};
+use std::alloc::Global;
+use std::panic::Expect;
+use std::process::Abort;
 use std::sync::Arc;
 use test_keys::ChosenKey;
 
@@ -18,7 +20,7 @@ pub type TestCore = Core<ChosenKey, u64, Asked>;
 pub type TestStep = Step<ChosenKey, u64, Asked>;
 
 /// What is done on one map, at a key where there is one.
-#[derive(Clone, Copy, Debug, PartialEq, Eq)]
+#[derive(Clone, Copy)]
 pub enum Do {
     Get(ChosenKey),
     Put(ChosenKey, u64),
@@ -32,7 +34,7 @@ pub enum Do {
 }
 
 /// A step as a plain value.
-#[derive(Clone, Copy, Debug, PartialEq, Eq)]
+#[derive(Clone, Copy)]
 pub enum Plan {
     Open(u32),
     Snapshot(u32, u32),
@@ -46,59 +48,86 @@ pub enum Plan {
 }
 
 /// The step of a plan.
-pub fn step_of(alloc: Global, plan: Plan) -> Result<TestStep, AllocError>
-    ensures { IfOk result (λ step. CanAsk IsReady (asked_by step)) }
+pub fn step_of(rt: &impl Abort, alloc: Global, plan: Plan) -> TestStep
+    ensures { CanAsk IsReady (asked_by result) }
 {
-    Ok(match plan {
+    match plan {
         Plan::Open(handle) => Step::Call(Call::Open(handle)),
         Plan::Snapshot(handle, to) => Step::Call(Call::Snapshot(handle, to)),
         Plan::Drop(handle) => Step::Call(Call::Drop(handle)),
-        Plan::On(handle, what) => Step::Call(Call::On(handle, command_of(alloc, what)?)),
+        Plan::On(handle, what) => Step::Call(Call::On(handle, command_of(rt, alloc, what))),
         Plan::View(handle) => Step::View(handle),
-        Plan::Freeze(handle, ask) => {
-            let query = query_of(ask);
-            Step::Freeze(handle, Arc::new(alloc, query)?)
-        }
+        Plan::Freeze(handle, ask) => Step::Freeze(handle, shared_query(rt, alloc, ask)),
         Plan::Finish(job) => Step::Finish(job),
         Plan::Abandon(job) => Step::Abandon(job),
-        Plan::Turn(job, Move::Take(worker)) => Step::Take(job, worker),
-        Plan::Turn(job, Move::Steal(worker, from)) => Step::Steal(job, worker, from),
-        Plan::Turn(job, Move::Split(worker)) => Step::Split(job, worker),
-        Plan::Turn(job, Move::Work(worker)) => Step::Work(job, worker),
-    })
+        Plan::Turn(job, chosen) => turn_of(job, chosen),
+    }
+}
+
+// The step of a worker's move.
+fn turn_of(job: u64, chosen: Move) -> TestStep
+    ensures { CanAsk IsReady (asked_by result) }
+{
+    match chosen {
+        Move::Take(worker) => Step::Take(job, worker),
+        Move::Steal(worker, from) => Step::Steal(job, worker, from),
+        Move::Split(worker) => Step::Split(job, worker),
+        Move::Work(worker) => Step::Work(job, worker),
+    }
+}
+
+// The query of a question, which a job shares.
+fn shared_query(rt: &impl Abort, alloc: Global, ask: Ask) -> Arc<Asked>
+    ensures { IsReady result.value }
+{
+    Arc::new(alloc, query_of(ask)).expect(rt, "no query")
 }
 
 /// The steps of plans.
-pub fn steps_of(alloc: Global, plans: &[Plan]) -> Result<Vec<TestStep>, AllocError>
-    ensures { IfOk result (λ steps. All (λ step. CanAsk IsReady (asked_by step)) steps.items) }
+pub fn steps_of(rt: &impl Abort, alloc: Global, plans: &[Plan]) -> Vec<TestStep>
+    ensures { All (λ step. CanAsk IsReady (asked_by step)) result.items }
 {
     let mut steps = Vec::new(alloc);
     for plan in plans {
-        steps.push(step_of(alloc, *plan)?)?;
+        let step = step_of(rt, alloc, *plan);
+        steps.push(step).expect(rt, "no room");
     }
-    Ok(steps)
+    steps
+}
+
+// A key that is shared.
+fn key_of(rt: &impl Abort, alloc: Global, key: ChosenKey) -> Arc<ChosenKey> {
+    Arc::new(alloc, key).expect(rt, "no key")
+}
+
+// A value that is shared.
+fn value_of(rt: &impl Abort, alloc: Global, value: u64) -> Arc<u64> {
+    Arc::new(alloc, value).expect(rt, "no value")
 }
 
 // The command of what is done.
-fn command_of(alloc: Global, what: Do) -> Result<Command<ChosenKey, u64>, AllocError> {
-    Ok(match what {
-        Do::Get(key) => Command::Get(Arc::new(alloc, key)?),
-        Do::Put(key, value) => Command::Put(Arc::new(alloc, key)?, Arc::new(alloc, value)?),
+fn command_of(rt: &impl Abort, alloc: Global, what: Do) -> Command<ChosenKey, u64> {
+    match what {
+        Do::Get(key) => Command::Get(key_of(rt, alloc, key)),
+        Do::Put(key, value) => Command::Put(key_of(rt, alloc, key), value_of(rt, alloc, value)),
         Do::PutIfAbsent(key, value) => {
-            Command::PutIfAbsent(Arc::new(alloc, key)?, Arc::new(alloc, value)?)
+            Command::PutIfAbsent(key_of(rt, alloc, key), value_of(rt, alloc, value))
         }
-        Do::Replace(key, value) => Command::Replace(Arc::new(alloc, key)?, Arc::new(alloc, value)?),
-        Do::ReplaceIf(key, old, value) => {
-            let (old, value) = (Arc::new(alloc, old)?, Arc::new(alloc, value)?);
-            Command::ReplaceIf(Arc::new(alloc, key)?, old, value)
+        Do::Replace(key, value) => {
+            Command::Replace(key_of(rt, alloc, key), value_of(rt, alloc, value))
         }
-        Do::Remove(key) => Command::Remove(Arc::new(alloc, key)?),
+        Do::ReplaceIf(key, old, value) => Command::ReplaceIf(
+            key_of(rt, alloc, key),
+            value_of(rt, alloc, old),
+            value_of(rt, alloc, value),
+        ),
+        Do::Remove(key) => Command::Remove(key_of(rt, alloc, key)),
         Do::RemoveIf(key, value) => {
-            Command::RemoveIf(Arc::new(alloc, key)?, Arc::new(alloc, value)?)
+            Command::RemoveIf(key_of(rt, alloc, key), value_of(rt, alloc, value))
         }
         Do::Size => Command::Size,
         Do::Clear => Command::Clear,
-    })
+    }
 }
 
 impl Do {

@@ -1,14 +1,14 @@
 //! What a core tells, as plain values.
 
-use crate::maps::{Row, position_of};
+use crate::maps::{Row, position_of, push_row};
 use bulk_ops::{Answer, Pair, Part};
 use core_steps::{Outcome, Progress};
 use handles::{CallReply, Reply};
 use iter::{pairs, pairs_of};
 use std::alloc::Global;
+use std::process::Abort;
 use std::sync::Arc;
 use test_keys::ChosenKey;
-use trie_node::NoMemory;
 use versions::{Refusal, Version, View};
 
 /// An outcome of the tests.
@@ -96,12 +96,15 @@ pub fn part_shown(part: &TestPart) -> (Told, Option<Row>) {
 }
 
 /// The rows of a view, in the order of a walk.
-pub fn rows_of_view(alloc: Global, view: &View<ChosenKey, u64>) -> Result<Vec<Row>, NoMemory> {
+pub fn rows_of_view(rt: &impl Abort, alloc: Global, view: &View<ChosenKey, u64>) -> Vec<Row> {
+    let Ok(walk) = pairs(alloc, view) else {
+        panic!(rt; "no walk")
+    };
     let mut rows = Vec::new(alloc);
-    for (key, value) in pairs(alloc, view)? {
-        rows.push(row_of(key, value))?;
+    for (key, value) in walk {
+        push_row(rt, &mut rows, row_of(key, value));
     }
-    Ok(rows)
+    rows
 }
 
 /// Whether a view has exactly these rows, in the order of a walk. No memory is asked for.
@@ -120,12 +123,15 @@ pub fn has_rows(alloc: Global, view: &View<ChosenKey, u64>, rows: &[Row]) -> boo
 }
 
 /// The rows of a map, in the order of a walk.
-pub fn rows_of_map(alloc: Global, map: &Version<ChosenKey, u64>) -> Result<Vec<Row>, NoMemory> {
+pub fn rows_of_map(rt: &impl Abort, alloc: Global, map: &Version<ChosenKey, u64>) -> Vec<Row> {
+    let Ok(walk) = pairs_of(alloc, map) else {
+        panic!(rt; "no walk")
+    };
     let mut rows = Vec::new(alloc);
-    for (key, value) in pairs_of(alloc, map)? {
-        rows.push(row_of(key, value))?;
+    for (key, value) in walk {
+        push_row(rt, &mut rows, row_of(key, value));
     }
-    Ok(rows)
+    rows
 }
 
 /// The row of a pair that is found.

@@ -1,73 +1,96 @@
 //! The worked steps of one board, by hand: two keys, at the positions 0 and 12, two workers, a count of all pairs, and
 //! pieces of one pair.
 
-use super::assert_is;
-use crate::asks::{Ask, Asked, Within, query_of};
+use super::rows::COUNT;
+use super::{assert_is, assert_true};
+use crate::asks::{Asked, query_of};
 use crate::maps::END;
-use bulk_ops::Part;
+use crate::told::{TestPart, Told, part_told};
 use core_steps::{Board, Progress, first_board, law_of_jobs, work_on};
 use std::alloc::Global;
+use std::panic::Expect;
+use std::process::Abort;
 use std::sync::Arc;
-use std::test::Fail;
 use test_keys::ChosenKey;
 use trie_node::Stamp;
 use versions::{Version, View};
 
-// Two pairs, at the positions 0 and 12.
-pub(super) fn two_pairs(alloc: Global) -> Result<View<ChosenKey, u64>, Fail> {
-    let mut version = Version::empty(alloc, 100, Stamp(1))?;
-    for (path, value) in [(0, 1), (0xc000_0000_0000_0000, 2)] {
-        let key = Arc::new(alloc, ChosenKey { path, id: 0 })?;
-        version.put(alloc, key, Arc::new(alloc, value)?)?;
-    }
-    Ok(version.view()?)
+/// A board of the tests.
+pub(super) type TestBoard = Board<ChosenKey, u64, TestPart>;
+
+// Puts a value at the key of a path word.
+fn put(rt: &impl Abort, alloc: Global, map: &mut Version<ChosenKey, u64>, path: u64, value: u64) {
+    let key = Arc::new(alloc, ChosenKey { path, id: 0 }).expect(rt, "no key");
+    let value = Arc::new(alloc, value).expect(rt, "no value");
+    map.put(alloc, key, value).expect(rt, "not put");
 }
 
-// The board of a job that counts the two pairs with two workers.
-fn begun(
-    alloc: Global,
-    query: &Asked,
-) -> Result<Board<ChosenKey, u64, Part<ChosenKey, u64, i128>>, Fail> {
-    Ok(first_board(alloc, query, 2, two_pairs(alloc)?)?)
+/// Two pairs, at the positions 0 and 12.
+pub(super) fn two_pairs(rt: &impl Abort, alloc: Global) -> View<ChosenKey, u64> {
+    let mut map = Version::empty(alloc, 100, Stamp(1)).expect(rt, "no map");
+    put(rt, alloc, &mut map, 0, 1);
+    put(rt, alloc, &mut map, 0xc000_0000_0000_0000, 2);
+    map.view().expect(rt, "no view")
+}
+
+// A worker of the board takes a piece of its own.
+fn take(rt: &impl Abort, board: &mut TestBoard, worker: u32) -> Progress {
+    assert!(rt; (worker as usize) < board.workers());
+    board.take(worker)
+}
+
+// A worker of the board steals a piece of another's.
+fn steal(rt: &impl Abort, board: &mut TestBoard, worker: u32, from: u32) -> Progress {
+    assert!(rt; (worker as usize) < board.workers());
+    assert!(rt; (from as usize) < board.workers());
+    board.steal(worker, from)
+}
+
+// A worker of the board cuts what it holds, where it has more than one pair.
+fn split(rt: &impl Abort, board: &mut TestBoard, worker: u32) -> Progress {
+    assert!(rt; (worker as usize) < board.workers());
+    board.split(worker, 1).expect(rt, "not cut")
+}
+
+// What is told is what is to be told.
+fn assert_moved(rt: &impl Abort, progress: Progress, want: Progress) {
+    assert_is(rt, progress, want);
+}
+
+// The moves of two workers, each told so.
+fn assert_moves(rt: &impl Abort, board: &mut TestBoard) {
+    assert_moved(rt, take(rt, board, 1), Progress::Idle);
+    assert_moved(rt, take(rt, board, 0), Progress::Took(0, END));
+    assert_moved(rt, split(rt, board, 0), Progress::Cut(0, 12, END));
+    assert_moved(rt, split(rt, board, 0), Progress::Whole);
+    assert_moved(rt, take(rt, board, 0), Progress::Idle);
+    assert_moved(rt, steal(rt, board, 1, 0), Progress::Took(12, END));
+    assert_moved(rt, steal(rt, board, 1, 0), Progress::Idle);
 }
 
 #[test]
-fn pieces_are_taken_cut_and_stolen(rt: HostRuntime) -> Result<(), Fail> {
-    let query = query_of(Ask::Count(Within::ALL));
-    let mut board = begun(rt.alloc(), &query)?;
-    assert_eq!(rt; board.workers(), 2);
-    assert_is(&rt, board.take(1), Progress::Idle);
-    assert_eq!(rt; board.workers(), 2);
-    assert_is(&rt, board.take(0), Progress::Took(0, END));
-    assert_eq!(rt; board.workers(), 2);
-    assert_is(&rt, board.split(0, 1), Ok(Progress::Cut(0, 12, END)));
-    assert_eq!(rt; board.workers(), 2);
-    assert_is(&rt, board.split(0, 1), Ok(Progress::Whole));
-    assert_eq!(rt; board.workers(), 2);
-    assert_is(&rt, board.take(0), Progress::Idle);
-    assert_eq!(rt; board.workers(), 2);
-    assert_is(&rt, board.steal(1, 0), Progress::Took(12, END));
-    assert_eq!(rt; board.workers(), 2);
-    assert_is(&rt, board.steal(1, 0), Progress::Idle);
-    assert_is(&rt, board.part(0).is_some(), true);
-    assert_is(&rt, board.part(2).is_none(), true);
-    Ok(())
+fn pieces_are_taken_cut_and_stolen(rt: HostRuntime) {
+    let view = two_pairs(&rt, rt.alloc());
+    let made = first_board(rt.alloc(), &query_of(COUNT), 2, view);
+    let mut board: TestBoard = made.expect(&rt, "no board");
+    assert_moves(&rt, &mut board);
+    assert_is(&rt, board.workers(), 2);
+    assert_true(&rt, board.part(0).is_some());
+    assert_true(&rt, board.part(2).is_none());
 }
 
 #[test]
-fn pieces_are_worked(rt: HostRuntime) -> Result<(), Fail> {
-    let alloc = rt.alloc();
-    let query = query_of(Ask::Count(Within::ALL));
-    let mut board = first_board(alloc, &query, 2, two_pairs(alloc)?)?;
+fn pieces_are_worked(rt: HostRuntime) {
+    let query = query_of(COUNT);
+    let view = two_pairs(&rt, rt.alloc());
+    let made = first_board(rt.alloc(), &query, 2, view);
+    let mut board = made.expect(&rt, "no board");
     law_of_jobs::<ChosenKey, u64, Asked>(&query);
-    assert_eq!(rt; board.workers(), 2);
-    assert_is(&rt, board.take(0), Progress::Took(0, END));
-    assert_eq!(rt; board.workers(), 2);
-    let worked = work_on(alloc, &query, &mut board, 0);
-    assert_is(&rt, worked, Ok(Progress::Worked(0, END, 2, false)));
-    match board.part(0) {
-        Some(Part::Number(number)) => assert_is(&rt, *number, 2),
-        _ => assert!(rt; false, "a count has a number"),
-    }
-    Ok(())
+    assert!(rt; board.workers() == 2);
+    assert_moved(&rt, board.take(0), Progress::Took(0, END));
+    assert!(rt; board.workers() == 2);
+    let worked = work_on(rt.alloc(), &query, &mut board, 0);
+    let progress = worked.expect(&rt, "not worked");
+    assert_moved(&rt, progress, Progress::Worked(0, END, 2, false));
+    assert_is(&rt, board.part(0).map(part_told), Some(Told::Count(2)));
 }

@@ -1,22 +1,25 @@
 //! Each public call once, as far as the other tests do not make it.
 
 use super::boards::two_pairs;
-use super::{LARGEST, assert_is};
-use crate::asks::{Ask, Asked, Within, query_of};
+use super::rows::COUNT;
+use super::{Row, answer_to, assert_is, assert_told, assert_true, core_of_two};
+use crate::asks::{Ask, Asked, query_of};
 use crate::maps::END;
-use crate::plans::{Do, Plan, step_of};
+use crate::plans::{Do, Plan, TestCore, step_of};
 use crate::told::{Told, part_told, told_of};
 use core_steps::{
-    Core, Move, Progress, collected, first_board, law_of_boards, law_of_cores, law_of_coverings,
+    Move, Progress, collected, first_board, law_of_boards, law_of_cores, law_of_coverings,
     law_of_jobs, law_of_runs, law_of_tilings, make_move,
 };
-use std::test::Fail;
+use std::alloc::Global;
+use std::panic::Expect;
+use std::process::Abort;
 use test_keys::ChosenKey;
 
 const KEY: ChosenKey = ChosenKey { path: 0, id: 7 };
 
 // Each kind of step, and what it is told.
-const STEPS: [(Plan, Told); 21] = [
+const STEPS: [Row; 21] = [
     (Plan::Open(1), Told::Unit),
     (Plan::On(1, Do::PutIfAbsent(KEY, 1)), Told::Old(None)),
     (Plan::On(1, Do::Put(KEY, 2)), Told::Old(Some(1))),
@@ -46,18 +49,22 @@ const STEPS: [(Plan, Told); 21] = [
     (Plan::Abandon(1), Told::Abandoned),
 ];
 
+// A copy of a step is told this.
+fn assert_copy(rt: &impl Abort, alloc: Global, core: &mut TestCore, row: Row) {
+    let step = step_of(rt, alloc, row.0);
+    let copy = step.try_clone().expect(rt, "no copy");
+    drop(step);
+    let outcome = answer_to(rt, alloc, core, copy);
+    assert_told(rt, told_of(&outcome), row.1);
+}
+
 #[test]
-fn a_copy_of_a_step_is_told_the_same(rt: HostRuntime) -> Result<(), Fail> {
-    let alloc = rt.alloc();
-    let mut core = Core::new(alloc, LARGEST, 2, 1)?;
+fn a_copy_of_a_step_is_told_the_same(rt: HostRuntime) {
+    let mut core = core_of_two(&rt, rt.alloc());
     assert_is(&rt, core.workers(), 2);
-    for (plan, told) in STEPS {
-        let step = step_of(alloc, plan)?;
-        let copy = step.try_clone()?;
-        drop(step);
-        assert_is(&rt, told_of(&core.step(alloc, copy)?), told);
+    for row in STEPS {
+        assert_copy(&rt, rt.alloc(), &mut core, row);
     }
-    Ok(())
 }
 
 #[test]
@@ -68,37 +75,38 @@ fn a_move_names_workers(rt: HostRuntime) {
         Move::Steal(1, 2),
         Move::Split(2),
     ] {
-        assert_is(&rt, chosen.names_other(2), true);
-        assert_is(&rt, chosen.names_other(3), false);
+        assert_true(&rt, chosen.names_other(2));
+        assert_true(&rt, !chosen.names_other(3));
     }
-    assert_is(&rt, Move::Work(2).names_other(2), true);
-    assert_is(&rt, Move::Work(2).names_other(3), false);
+    assert_true(&rt, Move::Work(2).names_other(2));
+    assert_true(&rt, !Move::Work(2).names_other(3));
 }
 
 #[test]
-fn what_waits_is_not_collected(rt: HostRuntime) -> Result<(), Fail> {
-    let alloc = rt.alloc();
-    let query = query_of(Ask::Count(Within::ALL));
-    let board = first_board(alloc, &query, 1, two_pairs(alloc)?)?;
-    assert_is(&rt, collected(alloc, &query, &board)?.is_none(), true);
-    Ok(())
+fn what_waits_is_not_collected(rt: HostRuntime) {
+    let query = query_of(COUNT);
+    let view = two_pairs(&rt, rt.alloc());
+    let made = first_board(rt.alloc(), &query, 1, view);
+    let board = made.expect(&rt, "no board");
+    let part = collected(rt.alloc(), &query, &board).expect(&rt, "no part");
+    assert_true(&rt, part.is_none());
 }
 
 #[test]
-fn all_that_was_worked_is_collected(rt: HostRuntime) -> Result<(), Fail> {
-    let alloc = rt.alloc();
-    let query = query_of(Ask::Count(Within::ALL));
-    let mut board = first_board(alloc, &query, 1, two_pairs(alloc)?)?;
+fn all_that_was_worked_is_collected(rt: HostRuntime) {
+    let query = query_of(COUNT);
+    let view = two_pairs(&rt, rt.alloc());
+    let made = first_board(rt.alloc(), &query, 1, view);
+    let mut board = made.expect(&rt, "no board");
     law_of_jobs::<ChosenKey, u64, Asked>(&query);
-    assert_eq!(rt; board.workers(), 1);
-    let took = make_move(alloc, &query, &mut board, 1, Move::Take(0))?;
-    assert_is(&rt, took, Progress::Took(0, END));
-    assert_eq!(rt; board.workers(), 1);
-    let worked = make_move(alloc, &query, &mut board, 1, Move::Work(0))?;
-    assert_is(&rt, worked, Progress::Worked(0, END, 2, false));
-    let part = collected(alloc, &query, &board)?;
+    assert!(rt; board.workers() == 1);
+    let took = make_move(rt.alloc(), &query, &mut board, 1, Move::Take(0));
+    assert_is(&rt, took, Ok(Progress::Took(0, END)));
+    assert!(rt; board.workers() == 1);
+    let worked = make_move(rt.alloc(), &query, &mut board, 1, Move::Work(0));
+    assert_is(&rt, worked, Ok(Progress::Worked(0, END, 2, false)));
+    let part = collected(rt.alloc(), &query, &board).expect(&rt, "no part");
     assert_is(&rt, part.as_ref().map(part_told), Some(Told::Count(2)));
-    Ok(())
 }
 
 #[test]

@@ -1,6 +1,5 @@
 //! A client of a core, by hand: a count of all pairs of handle 1, which another client clears and drops while two
 //! workers work the count.
-ghost use Rattle.std.specs.Prelude.{IfOk};
 ghost use Rattle.bulk_ops.specs.Queries.{IsReady};
 ghost use Rattle.core_steps.specs.Steps.{CanAsk, asked_by};
 ghost use Rattle.tests_core_steps.specs.Clients.{AsksSize};
@@ -11,9 +10,10 @@ use bulk_ops::{Asks, PairFn, Query, Stored};
 use combiner::Sum;
 use core_steps::{Core, Step};
 use handles::{Call, Command};
-use std::alloc::{AllocError, Global};
+use std::alloc::Global;
+use std::panic::Expect;
+use std::process::Abort;
 use std::sync::Arc;
-use std::test::Fail;
 use test_keys::ChosenKey;
 use test_queries::{Values, Zero};
 
@@ -44,29 +44,47 @@ fn count_of_all() -> Sizes
     Query::Count(Stored::new(Every))
 }
 
-// A step that puts a value at the key of a path word, on handle 1.
-fn put(alloc: Global, path: u64, value: u64) -> Result<Step<ChosenKey, u64, Sizes>, AllocError>
-    ensures { IfOk result (λ step. CanAsk IsReady (asked_by step)) }
+// The same, as a job shares it.
+fn shared_count(rt: &impl Abort, alloc: Global) -> Arc<Sizes>
+    ensures ready { IsReady result.value }
+    ensures asks { AsksSize ⟦<Sizes as Asks<ChosenKey, u64>>⟧.answered result.value }
 {
-    let key = Arc::new(alloc, ChosenKey { path, id: 0 })?;
-    let value = Arc::new(alloc, value)?;
-    Ok(Step::Call(Call::On(1, Command::Put(key, value))))
+    Arc::new(alloc, count_of_all()).expect(rt, "no query")
+}
+
+/// A core of this client, and its steps.
+type ClientCore = Core<ChosenKey, u64, Sizes>;
+
+type ClientStep = Step<ChosenKey, u64, Sizes>;
+
+// Makes the step.
+fn make(rt: &impl Abort, alloc: Global, core: &mut ClientCore, step: ClientStep)
+    requires { CanAsk IsReady (asked_by step) }
+{
+    core.step(alloc, step).expect(rt, "not made");
+}
+
+// Puts a value at the key of a path word, on handle 1.
+fn put(rt: &impl Abort, alloc: Global, core: &mut ClientCore, path: u64, value: u64) {
+    let key = Arc::new(alloc, ChosenKey { path, id: 0 }).expect(rt, "no key");
+    let value = Arc::new(alloc, value).expect(rt, "no value");
+    let call = Call::On(1, Command::Put(key, value));
+    make(rt, alloc, core, Step::Call(call));
 }
 
 // A core with two pairs under handle 1, at the positions 0 and 12.
-fn begun(alloc: Global) -> Result<Core<ChosenKey, u64, Sizes>, Fail> {
-    let mut core = Core::new(alloc, LARGEST, 2, 1)?;
-    core.step(alloc, Step::Call(Call::Open(1)))?;
-    core.step(alloc, put(alloc, 0, 1)?)?;
-    core.step(alloc, put(alloc, 0xc000_0000_0000_0000, 2)?)?;
-    Ok(core)
+fn begun(rt: &impl Abort, alloc: Global) -> ClientCore {
+    let mut core = ClientCore::new(alloc, LARGEST, 2, 1).expect(rt, "no core");
+    make(rt, alloc, &mut core, Step::Call(Call::Open(1)));
+    put(rt, alloc, &mut core, 0, 1);
+    put(rt, alloc, &mut core, 0xc000_0000_0000_0000, 2);
+    core
 }
 
 #[test]
-fn a_count_tells_the_size_before_a_clear(rt: HostRuntime) -> Result<(), Fail> {
-    let alloc = rt.alloc();
-    let mut core = begun(alloc)?;
-    let query = Arc::new(alloc, count_of_all())?;
+fn a_count_tells_the_size_before_a_clear(rt: HostRuntime) {
+    let mut core = begun(&rt, rt.alloc());
+    let query = shared_count(&rt, rt.alloc());
     let steps = [
         Step::Take(0, 0),
         Step::Split(0, 0),
@@ -76,7 +94,6 @@ fn a_count_tells_the_size_before_a_clear(rt: HostRuntime) -> Result<(), Fail> {
         Step::Call(Call::Drop(1)),
         Step::Work(0, 0),
     ];
-    let told = size_and_count(alloc, &mut core, 1, query, &steps)?;
-    assert_is(&rt, told, Some((2, 2)));
-    Ok(())
+    let told = size_and_count(rt.alloc(), &mut core, 1, query, &steps);
+    assert_is(&rt, told, Ok(Some((2, 2))));
 }

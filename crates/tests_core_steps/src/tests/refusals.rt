@@ -1,177 +1,195 @@
 //! Refusals that are due while requests for memory are refused: all, then all but one, and so on.
+ghost use Rattle.bulk_ops.specs.Queries.{IsReady};
+ghost use Rattle.core_steps.specs.Steps.{CanAsk, asked_by};
 
-use super::memory::{MOST_GIVEN, give, spare};
-use super::rows::assert_steps;
-use super::{LARGEST, assert_is, take_step};
+use super::memory::{MOST_GIVEN, give, no_memory, spare, told_if};
+use super::rows::COUNT;
+use super::{Row, assert_is, assert_steps, core_of_two};
 use crate::asks::{Ask, Within};
-use crate::plans::{Do, Plan, TestCore, step_of};
-use crate::told::{Told, told_of};
-use core_steps::{Core, Move};
+use crate::plans::{Do, Plan, TestCore, TestStep, step_of};
+use crate::told::Told;
+use core_steps::Move;
 use handles::Limits;
 use std::alloc::Global;
+use std::panic::Expect;
 use std::process::Abort;
-use std::test::Fail;
-use test_keys::{ChosenKey, take_all};
+use test_keys::ChosenKey;
 use versions::Refusal;
 
-const COUNT: Ask = Ask::Count(Within::ALL);
+const KEY: ChosenKey = ChosenKey { path: 0, id: 0 };
 
 // The number of a map that is made is reserved.
 const MAKES_2: Ask = Ask::Filter(Within::ALL, 2);
 
+const MAKES_1: Ask = Ask::Filter(Within::ALL, 1);
+
+const MAKES_1024: Ask = Ask::Filter(Within::ALL, 1024);
+
 // Whether the step is told this with no memory, with one block, and so on.
 fn is_always_told(
-    alloc: Global,
-    core: &mut TestCore,
-    plan: Plan,
-    want: Told,
-) -> Result<bool, Fail> {
-    let step = step_of(alloc, plan)?;
-    let mut blocks = spare(alloc, true)?;
-    let _taken = take_all(alloc)?;
-    for _ in 0..MOST_GIVEN {
-        let told = match core.step(alloc, step.try_clone()?) {
-            Ok(outcome) => told_of(&outcome),
-            Err(_) => return Ok(false),
-        };
-        if told != want {
-            return Ok(false);
-        }
-        give(&mut blocks, 1);
-    }
-    Ok(true)
-}
-
-// Each of the steps is told its refusal, whatever the memory.
-fn assert_told(
     rt: &impl Abort,
     alloc: Global,
     core: &mut TestCore,
-    rows: &[(Plan, Refusal)],
-) -> Result<(), Fail> {
-    for (plan, refusal) in rows {
-        let is_told = is_always_told(alloc, core, *plan, Told::Refused(*refusal))?;
-        assert_is(rt, (*plan, is_told), (*plan, true));
+    step: &TestStep,
+    blocks: &mut Vec<Vec<u8>>,
+    want: Told,
+) -> bool
+    requires { CanAsk IsReady (asked_by step.now) }
+{
+    for _ in 0..MOST_GIVEN {
+        if told_if(rt, alloc, core, step) != Some(want) {
+            return false;
+        }
+        give(blocks, 1);
     }
-    Ok(())
+    true
 }
 
-// Puts one pair under handle 1.
-fn begin(rt: &impl Abort, alloc: Global, core: &mut TestCore) -> Result<(), Fail> {
-    let key = ChosenKey { path: 0, id: 0 };
-    let rows = [
-        (Plan::Open(1), Told::Unit),
-        (Plan::On(1, Do::Put(key, 1)), Told::Old(None)),
-    ];
-    assert_steps(rt, alloc, core, &rows)
+// The step is told this, whatever the memory.
+fn assert_always(rt: &impl Abort, alloc: Global, core: &mut TestCore, row: Row) {
+    let step = step_of(rt, alloc, row.0);
+    let mut blocks = spare(rt, alloc, true);
+    let taken = no_memory(rt, alloc);
+    let is_told = is_always_told(rt, alloc, core, &step, &mut blocks, row.1);
+    drop(taken);
+    assert_is(rt, (row.1, is_told), (row.1, true));
 }
+
+// Each of the steps is told this, whatever the memory.
+fn assert_all_always(rt: &impl Abort, alloc: Global, core: &mut TestCore, rows: &[Row]) {
+    for row in rows {
+        assert_always(rt, alloc, core, *row);
+    }
+}
+
+// One pair is put under handle 1.
+const PUT: [Row; 2] = [
+    (Plan::Open(1), Told::Unit),
+    (Plan::On(1, Do::Put(KEY, 1)), Told::Old(None)),
+];
+
+// A core with one pair under handle 1.
+fn begun(rt: &impl Abort, alloc: Global) -> TestCore {
+    let mut core = core_of_two(rt, alloc);
+    assert_steps(rt, alloc, &mut core, &PUT);
+    core
+}
+
+// The same with a job.
+fn frozen(rt: &impl Abort, alloc: Global, ask: Ask) -> TestCore {
+    let mut core = begun(rt, alloc);
+    assert_steps(rt, alloc, &mut core, &[(Plan::Freeze(1, ask), Told::Job(0))]);
+    core
+}
+
+const REFUSED_FREEZES: [Row; 5] = [
+    (
+        Plan::Freeze(1024, COUNT),
+        Told::Refused(Refusal::BadNumber),
+    ),
+    (
+        Plan::Freeze(1, MAKES_1024),
+        Told::Refused(Refusal::BadNumber),
+    ),
+    (Plan::Freeze(3, COUNT), Told::Refused(Refusal::NoHandle)),
+    (Plan::Freeze(1, MAKES_1), Told::Refused(Refusal::Taken)),
+    (Plan::Freeze(1, MAKES_2), Told::Refused(Refusal::Taken)),
+];
 
 #[test]
-fn a_freeze_is_refused_whatever_the_memory(rt: HostRuntime) -> Result<(), Fail> {
-    let alloc = rt.alloc();
-    let mut core = Core::new(alloc, LARGEST, 2, 1)?;
-    begin(&rt, alloc, &mut core)?;
-    assert_is(
-        &rt,
-        take_step(alloc, &mut core, Plan::Freeze(1, MAKES_2))?,
-        Told::Job(0),
-    );
-    let rows = [
-        (Plan::Freeze(1024, COUNT), Refusal::BadNumber),
-        (
-            Plan::Freeze(1, Ask::Filter(Within::ALL, 1024)),
-            Refusal::BadNumber,
-        ),
-        (Plan::Freeze(3, COUNT), Refusal::NoHandle),
-        (Plan::Freeze(1, Ask::Filter(Within::ALL, 1)), Refusal::Taken),
-        (Plan::Freeze(1, MAKES_2), Refusal::Taken),
-    ];
-    assert_told(&rt, alloc, &mut core, &rows)?;
-    assert_is(
-        &rt,
-        take_step(alloc, &mut core, Plan::Freeze(1, COUNT))?,
-        Told::Job(1),
-    );
-    Ok(())
+fn a_freeze_is_refused_whatever_the_memory(rt: HostRuntime) {
+    let mut core = frozen(&rt, rt.alloc(), MAKES_2);
+    assert_all_always(&rt, rt.alloc(), &mut core, &REFUSED_FREEZES);
+    let rows = [(Plan::Freeze(1, COUNT), Told::Job(1))];
+    assert_steps(&rt, rt.alloc(), &mut core, &rows);
 }
 
-#[test]
-fn a_65th_job_is_refused_whatever_the_memory(rt: HostRuntime) -> Result<(), Fail> {
-    let alloc = rt.alloc();
-    let mut core = Core::new(alloc, LARGEST, 2, 1)?;
-    begin(&rt, alloc, &mut core)?;
+// A core with 64 open jobs, whose numbers go from 0 to 63.
+fn with_all_jobs(rt: &impl Abort, alloc: Global) -> TestCore {
+    let mut core = begun(rt, alloc);
     for number in 0..64 {
-        assert_is(
-            &rt,
-            take_step(alloc, &mut core, Plan::Freeze(1, COUNT))?,
-            Told::Job(number),
-        );
+        let row = (Plan::Freeze(1, COUNT), Told::Job(number));
+        assert_steps(rt, alloc, &mut core, &[row]);
     }
-    let rows = [
-        (Plan::Freeze(1, COUNT), Refusal::TooManyJobs),
-        (Plan::Freeze(3, COUNT), Refusal::NoHandle),
-    ];
-    assert_told(&rt, alloc, &mut core, &rows)?;
-    let rows = [
-        (Plan::Abandon(0), Told::Abandoned),
-        (Plan::Freeze(1, COUNT), Told::Job(64)),
-    ];
-    assert_steps(&rt, alloc, &mut core, &rows)
+    core
+}
+
+const ONE_TOO_MANY: [Row; 2] = [
+    (Plan::Freeze(1, COUNT), Told::Refused(Refusal::TooManyJobs)),
+    (Plan::Freeze(3, COUNT), Told::Refused(Refusal::NoHandle)),
+];
+
+const ONE_LESS: [Row; 2] = [
+    (Plan::Abandon(0), Told::Abandoned),
+    (Plan::Freeze(1, COUNT), Told::Job(64)),
+];
+
+#[test]
+fn a_65th_job_is_refused_whatever_the_memory(rt: HostRuntime) {
+    let mut core = with_all_jobs(&rt, rt.alloc());
+    assert_all_always(&rt, rt.alloc(), &mut core, &ONE_TOO_MANY);
+    assert_steps(&rt, rt.alloc(), &mut core, &ONE_LESS);
+}
+
+const THREE_ENTRIES: Limits = Limits {
+    pairs: 4,
+    entries: 3,
+};
+
+const NO_ENTRY: [Row; 2] = [
+    (Plan::Freeze(1, COUNT), Told::Refused(Refusal::JournalFull)),
+    (Plan::Freeze(3, COUNT), Told::Refused(Refusal::JournalFull)),
+];
+
+#[test]
+fn a_freeze_without_an_entry_is_refused_whatever_the_memory(rt: HostRuntime) {
+    let made = TestCore::new(rt.alloc(), THREE_ENTRIES, 2, 1);
+    let mut core = made.expect(&rt, "no core");
+    assert_steps(&rt, rt.alloc(), &mut core, &PUT);
+    assert_all_always(&rt, rt.alloc(), &mut core, &NO_ENTRY);
+}
+
+const REFUSED_MOVES: [Row; 11] = [
+    (Plan::Turn(1, Move::Take(0)), Told::Refused(Refusal::NoJob)),
+    (
+        Plan::Turn(1, Move::Steal(1, 0)),
+        Told::Refused(Refusal::NoJob),
+    ),
+    (Plan::Turn(1, Move::Split(0)), Told::Refused(Refusal::NoJob)),
+    (Plan::Turn(1, Move::Work(2)), Told::Refused(Refusal::NoJob)),
+    (
+        Plan::Turn(0, Move::Take(2)),
+        Told::Refused(Refusal::NoWorker),
+    ),
+    (
+        Plan::Turn(0, Move::Steal(2, 0)),
+        Told::Refused(Refusal::NoWorker),
+    ),
+    (
+        Plan::Turn(0, Move::Steal(0, 2)),
+        Told::Refused(Refusal::NoWorker),
+    ),
+    (
+        Plan::Turn(0, Move::Split(2)),
+        Told::Refused(Refusal::NoWorker),
+    ),
+    (
+        Plan::Turn(0, Move::Work(2)),
+        Told::Refused(Refusal::NoWorker),
+    ),
+    (Plan::Finish(1), Told::Refused(Refusal::NoJob)),
+    (Plan::Abandon(1), Told::Refused(Refusal::NoJob)),
+];
+
+#[test]
+fn a_move_is_refused_whatever_the_memory(rt: HostRuntime) {
+    let mut core = frozen(&rt, rt.alloc(), COUNT);
+    assert_all_always(&rt, rt.alloc(), &mut core, &REFUSED_MOVES);
 }
 
 #[test]
-fn a_freeze_without_an_entry_is_refused_whatever_the_memory(rt: HostRuntime) -> Result<(), Fail> {
-    let alloc = rt.alloc();
-    let limits = Limits {
-        pairs: 4,
-        entries: 3,
-    };
-    let mut core = Core::new(alloc, limits, 2, 1)?;
-    begin(&rt, alloc, &mut core)?;
-    let rows = [
-        (Plan::Freeze(1, COUNT), Refusal::JournalFull),
-        (Plan::Freeze(3, COUNT), Refusal::JournalFull),
-    ];
-    assert_told(&rt, alloc, &mut core, &rows)
-}
-
-#[test]
-fn a_move_is_refused_whatever_the_memory(rt: HostRuntime) -> Result<(), Fail> {
-    let alloc = rt.alloc();
-    let mut core = Core::new(alloc, LARGEST, 2, 1)?;
-    begin(&rt, alloc, &mut core)?;
-    assert_is(
-        &rt,
-        take_step(alloc, &mut core, Plan::Freeze(1, COUNT))?,
-        Told::Job(0),
-    );
-    let rows = [
-        (Plan::Turn(1, Move::Take(0)), Refusal::NoJob),
-        (Plan::Turn(1, Move::Steal(1, 0)), Refusal::NoJob),
-        (Plan::Turn(1, Move::Split(0)), Refusal::NoJob),
-        (Plan::Turn(1, Move::Work(2)), Refusal::NoJob),
-        (Plan::Turn(0, Move::Take(2)), Refusal::NoWorker),
-        (Plan::Turn(0, Move::Steal(2, 0)), Refusal::NoWorker),
-        (Plan::Turn(0, Move::Steal(0, 2)), Refusal::NoWorker),
-        (Plan::Turn(0, Move::Split(2)), Refusal::NoWorker),
-        (Plan::Turn(0, Move::Work(2)), Refusal::NoWorker),
-        (Plan::Finish(1), Refusal::NoJob),
-        (Plan::Abandon(1), Refusal::NoJob),
-    ];
-    assert_told(&rt, alloc, &mut core, &rows)
-}
-
-#[test]
-fn a_finish_is_unfinished_whatever_the_memory(rt: HostRuntime) -> Result<(), Fail> {
-    let alloc = rt.alloc();
-    let mut core = Core::new(alloc, LARGEST, 2, 1)?;
-    begin(&rt, alloc, &mut core)?;
-    assert_is(
-        &rt,
-        take_step(alloc, &mut core, Plan::Freeze(1, MAKES_2))?,
-        Told::Job(0),
-    );
-    let is_told = is_always_told(alloc, &mut core, Plan::Finish(0), Told::Unfinished)?;
-    assert_is(&rt, is_told, true);
-    Ok(())
+fn a_finish_is_unfinished_whatever_the_memory(rt: HostRuntime) {
+    let mut core = frozen(&rt, rt.alloc(), MAKES_2);
+    let row = (Plan::Finish(0), Told::Unfinished);
+    assert_always(&rt, rt.alloc(), &mut core, row);
 }

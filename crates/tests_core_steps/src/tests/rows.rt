@@ -2,124 +2,127 @@
 //! words 0, 0xc000000000000000 and 1, so that P has position 0 and Q position 12; the keys a, b and c have the words of those
 //! texts.
 
-use super::{LARGEST, assert_is, assert_run, take_step};
+use super::{Row, assert_is, assert_run, assert_steps, core_of_two, plans_of, tolds_of};
 use crate::asks::{Ask, Within};
 use crate::maps::{self, END};
 use crate::plans::{Do, Plan, TestCore};
 use crate::told::{Told, found_row, part_told};
 use bulk_ops::Part;
-use core_steps::{Core, Move, Progress};
-use std::alloc::{AllocError, Global};
+use core_steps::{Move, Progress};
+use std::alloc::Global;
+use std::panic::Expect;
 use std::process::Abort;
-use std::test::Fail;
 use test_keys::ChosenKey;
 use versions::Refusal;
 
-/// A step and what it is told.
-pub(super) type Row = (Plan, Told);
+const P: ChosenKey = ChosenKey { path: 0, id: 0 };
 
-const P: u64 = 0;
+const Q: ChosenKey = ChosenKey {
+    path: 0xc000_0000_0000_0000,
+    id: 0,
+};
 
-const Q: u64 = 0xc000_0000_0000_0000;
+const R: ChosenKey = ChosenKey { path: 1, id: 0 };
 
-const R: u64 = 1;
+const A: ChosenKey = ChosenKey {
+    path: 0xaf63_dc4c_8601_ec8c,
+    id: 0,
+};
 
-const A: u64 = 0xaf63_dc4c_8601_ec8c;
+const B: ChosenKey = ChosenKey {
+    path: 0xaf63_df4c_8601_f1a5,
+    id: 0,
+};
 
-const B: u64 = 0xaf63_df4c_8601_f1a5;
+const C: ChosenKey = ChosenKey {
+    path: 0xaf63_de4c_8601_eff2,
+    id: 0,
+};
 
-const C: u64 = 0xaf63_de4c_8601_eff2;
+/// The count of all pairs.
+pub(super) const COUNT: Ask = Ask::Count(Within::ALL);
 
-// A new value is put at the key of a path word, on handle 1.
-fn put(path: u64, value: u64) -> Row {
-    let key = ChosenKey { path, id: 0 };
-    (Plan::On(1, Do::Put(key, value)), Told::Old(None))
-}
+// P=1 and Q=2 are put on handle 1.
+const PUT: [Row; 3] = [
+    (Plan::Open(1), Told::Unit),
+    (Plan::On(1, Do::Put(P, 1)), Told::Old(None)),
+    (Plan::On(1, Do::Put(Q, 2)), Told::Old(None)),
+];
 
-// A move on job 0.
-fn turn(chosen: Move, progress: Progress) -> Row {
-    (Plan::Turn(0, chosen), Told::Turn(progress))
-}
+// After a freeze R=3 is put; then worker 0 holds P's piece and worker 1 Q's.
+const CUT: [Row; 4] = [
+    (Plan::On(1, Do::Put(R, 3)), Told::Old(None)),
+    (
+        Plan::Turn(0, Move::Take(0)),
+        Told::Turn(Progress::Took(0, END)),
+    ),
+    (
+        Plan::Turn(0, Move::Split(0)),
+        Told::Turn(Progress::Cut(0, 12, END)),
+    ),
+    (
+        Plan::Turn(0, Move::Steal(1, 0)),
+        Told::Turn(Progress::Took(12, END)),
+    ),
+];
 
-fn takes(worker: u32, lo: u128, hi: u128) -> Row {
-    turn(Move::Take(worker), Progress::Took(lo, hi))
-}
+// Then worker 1 works, worker 0 works, and the job is not finished before.
+const WORKED: [Row; 3] = [
+    (
+        Plan::Turn(0, Move::Work(1)),
+        Told::Turn(Progress::Worked(12, END, 1, false)),
+    ),
+    (Plan::Finish(0), Told::Unfinished),
+    (
+        Plan::Turn(0, Move::Work(0)),
+        Told::Turn(Progress::Worked(0, 12, 1, false)),
+    ),
+];
 
-fn steals(worker: u32, from: u32, lo: u128, hi: u128) -> Row {
-    turn(Move::Steal(worker, from), Progress::Took(lo, hi))
-}
-
-fn cuts(worker: u32, lo: u128, mid: u128, hi: u128) -> Row {
-    turn(Move::Split(worker), Progress::Cut(lo, mid, hi))
-}
-
-// Its piece has one pair.
-fn works(worker: u32, lo: u128, hi: u128, settled: bool) -> Row {
-    turn(Move::Work(worker), Progress::Worked(lo, hi, 1, settled))
-}
-
-fn freezes(ask: Ask) -> Row {
-    (Plan::Freeze(1, ask), Told::Job(0))
-}
-
-fn finishes(told: Told) -> Row {
-    (Plan::Finish(0), told)
-}
-
-fn opens() -> Row {
-    (Plan::Open(1), Told::Unit)
-}
-
-// P=1 and Q=2 are put on handle 1 and frozen, and R=3 is put after that; then worker 0 holds P's piece and worker 1
-// Q's.
-fn begun(ask: Ask) -> [Row; 8] {
-    [
-        opens(),
-        put(P, 1),
-        put(Q, 2),
-        freezes(ask),
-        put(R, 3),
-        takes(0, 0, END),
-        cuts(0, 0, 12, END),
-        steals(1, 0, 12, END),
-    ]
-}
-
-/// Then worker 1 works, worker 0 works, and the job is finished with this answer, and not before.
-pub(super) fn finished(alloc: Global, ask: Ask, told: Told) -> Result<Vec<Row>, AllocError> {
-    let mut rows = Vec::from_slice(alloc, &begun(ask))?;
-    rows.push(works(1, 12, END, false))?;
-    rows.push(finishes(Told::Unfinished))?;
-    rows.push(works(0, 0, 12, false))?;
-    rows.push(finishes(told))?;
-    Ok(rows)
-}
-
-/// Makes the steps one after another, each of which is told so.
-pub(super) fn assert_steps(
-    rt: &impl Abort,
-    alloc: Global,
-    core: &mut TestCore,
-    rows: &[Row],
-) -> Result<(), Fail> {
-    for (plan, told) in rows {
-        assert_is(rt, take_step(alloc, core, *plan)?, *told);
+// Adds rows to rows.
+fn add(rt: &impl Abort, rows: &mut Vec<Row>, more: &[Row]) {
+    for row in more {
+        rows.push(*row).expect(rt, "no room");
     }
-    Ok(())
 }
 
-// A new core with two workers and grain 1 is told this of the steps, one after another and as one list.
-fn assert_rows(rt: &impl Abort, alloc: Global, rows: &[Row]) -> Result<TestCore, Fail> {
-    let mut core = Core::new(alloc, LARGEST, 2, 1)?;
-    assert_steps(rt, alloc, &mut core, rows)?;
-    let mut other: TestCore = Core::new(alloc, LARGEST, 2, 1)?;
-    let (mut plans, mut told) = (Vec::new(alloc), Vec::new(alloc));
-    for row in rows {
-        plans.push(row.0)?;
-        told.push(row.1)?;
-    }
-    assert_run(rt, alloc, &mut other, &plans, &told)?;
-    Ok(core)
+// The steps until each of two workers holds a piece of the map that is asked, and then these.
+fn begun(rt: &impl Abort, alloc: Global, ask: Ask, more: &[Row]) -> Vec<Row> {
+    let mut rows = Vec::new(alloc);
+    add(rt, &mut rows, &PUT);
+    add(rt, &mut rows, &[(Plan::Freeze(1, ask), Told::Job(0))]);
+    add(rt, &mut rows, &CUT);
+    add(rt, &mut rows, more);
+    rows
+}
+
+/// The steps until both pieces are worked, and then these.
+pub(super) fn all_worked(rt: &impl Abort, alloc: Global, ask: Ask, more: &[Row]) -> Vec<Row> {
+    let mut rows = begun(rt, alloc, ask, &WORKED);
+    add(rt, &mut rows, more);
+    rows
+}
+
+// A new core is told this of the steps as one list.
+fn assert_list(rt: &impl Abort, alloc: Global, rows: &[Row]) {
+    let plans = plans_of(rt, alloc, rows);
+    let told = tolds_of(rt, alloc, rows);
+    let mut core = core_of_two(rt, alloc);
+    assert_run(rt, alloc, &mut core, &plans, &told);
+}
+
+// A new core is told this of the steps, one after another and as one list.
+fn assert_rows(rt: &impl Abort, alloc: Global, rows: &[Row]) -> TestCore {
+    assert_list(rt, alloc, rows);
+    let mut core = core_of_two(rt, alloc);
+    assert_steps(rt, alloc, &mut core, rows);
+    core
+}
+
+// A new core, each of whose workers holds a piece of the map that is asked, is told this of the steps.
+fn after(rt: &impl Abort, alloc: Global, ask: Ask, more: &[Row]) -> TestCore {
+    let rows = begun(rt, alloc, ask, more);
+    assert_rows(rt, alloc, &rows)
 }
 
 // The pair that the part of a worker of job 0 has found.
@@ -130,100 +133,108 @@ fn found_by(core: &TestCore, worker: u32) -> Option<maps::Row> {
     }
 }
 
-#[test]
-fn a_found_pair_stays_with_its_worker(rt: HostRuntime) -> Result<(), Fail> {
-    let alloc = rt.alloc();
-    let mut core = assert_rows(&rt, alloc, &begun(Ask::Find(Within::ALL)))?;
-    let found = [works(1, 12, END, true)];
-    assert_steps(&rt, alloc, &mut core, &found)?;
-    let second = Some(maps::Row {
-        place: (12, 0),
-        value: 2,
-    });
-    assert_is(&rt, found_by(&core, 1), second);
-    let others = [
-        turn(Move::Take(1), Progress::Idle),
-        (
-            Plan::Turn(0, Move::Take(2)),
-            Told::Refused(Refusal::NoWorker),
-        ),
-        (Plan::Turn(1, Move::Take(1)), Told::Refused(Refusal::NoJob)),
-        works(0, 0, 12, true),
-    ];
-    assert_steps(&rt, alloc, &mut core, &others)?;
-    assert_is(&rt, found_by(&core, 1), second);
-    let first = Some(maps::Row {
-        place: (0, 0),
-        value: 1,
-    });
-    assert_is(&rt, found_by(&core, 0), first);
-    assert_steps(&rt, alloc, &mut core, &[finishes(Told::Found(true))])
+// The part of a worker of job 0 has found the pair of a position.
+fn assert_found(rt: &impl Abort, core: &TestCore, worker: u32, position: u128, value: u64) {
+    let place = (position, 0);
+    let want = Some(maps::Row { place, value });
+    assert_is(rt, found_by(core, worker), want);
 }
 
-// What the part of a worker of job 0 tells.
-fn part_of(core: &TestCore, worker: u32) -> Option<Told> {
-    core.part(0, worker).map(part_told)
-}
+const FOUND: [Row; 1] = [(
+    Plan::Turn(0, Move::Work(1)),
+    Told::Turn(Progress::Worked(12, END, 1, true)),
+)];
+
+const FOUND_TOO: [Row; 4] = [
+    (Plan::Turn(0, Move::Take(1)), Told::Turn(Progress::Idle)),
+    (
+        Plan::Turn(0, Move::Take(2)),
+        Told::Refused(Refusal::NoWorker),
+    ),
+    (Plan::Turn(1, Move::Take(1)), Told::Refused(Refusal::NoJob)),
+    (
+        Plan::Turn(0, Move::Work(0)),
+        Told::Turn(Progress::Worked(0, 12, 1, true)),
+    ),
+];
 
 #[test]
-fn a_stolen_piece_is_counted_once(rt: HostRuntime) -> Result<(), Fail> {
-    let alloc = rt.alloc();
-    let mut core = assert_rows(&rt, alloc, &begun(Ask::Count(Within::ALL)))?;
-    let worked = [
-        works(1, 12, END, false),
-        finishes(Told::Unfinished),
-        works(0, 0, 12, false),
-    ];
-    assert_steps(&rt, alloc, &mut core, &worked)?;
-    assert_is(&rt, part_of(&core, 0), Some(Told::Count(1)));
-    assert_is(&rt, part_of(&core, 1), Some(Told::Count(1)));
-    assert_is(&rt, part_of(&core, 2), None);
-    assert_is(&rt, core.part(1, 0).is_none(), true);
-    let closed = [
-        finishes(Told::Count(2)),
-        (Plan::Turn(0, Move::Take(0)), Told::Refused(Refusal::NoJob)),
-        (Plan::On(1, Do::Size), Told::Size(3)),
-    ];
-    assert_steps(&rt, alloc, &mut core, &closed)?;
-    assert_is(&rt, part_of(&core, 0), None);
-    Ok(())
+fn a_found_pair_stays_with_its_worker(rt: HostRuntime) {
+    let mut core = after(&rt, rt.alloc(), Ask::Find(Within::ALL), &FOUND);
+    assert_found(&rt, &core, 1, 12, 2);
+    assert_steps(&rt, rt.alloc(), &mut core, &FOUND_TOO);
+    assert_found(&rt, &core, 1, 12, 2);
+    assert_found(&rt, &core, 0, 0, 1);
+    let rows = [(Plan::Finish(0), Told::Found(true))];
+    assert_steps(&rt, rt.alloc(), &mut core, &rows);
 }
 
+// The part of a worker of a job tells this, if there is one.
+fn assert_part(rt: &impl Abort, core: &TestCore, job: u64, worker: u32, want: Option<Told>) {
+    assert_is(rt, core.part(job, worker).map(part_told), want);
+}
+
+// What is told when both pieces are worked and counted.
+const COUNTED: [Row; 3] = [
+    (Plan::Finish(0), Told::Count(2)),
+    (Plan::Turn(0, Move::Take(0)), Told::Refused(Refusal::NoJob)),
+    (Plan::On(1, Do::Size), Told::Size(3)),
+];
+
 #[test]
-fn a_stolen_piece_is_counted_once_in_one_list(rt: HostRuntime) -> Result<(), Fail> {
-    let alloc = rt.alloc();
-    let mut rows = finished(alloc, Ask::Count(Within::ALL), Told::Count(2))?;
-    rows.push((Plan::Turn(0, Move::Take(0)), Told::Refused(Refusal::NoJob)))?;
-    rows.push((Plan::On(1, Do::Size), Told::Size(3)))?;
-    assert_rows(&rt, alloc, &rows)?;
-    Ok(())
+fn a_stolen_piece_is_counted_once(rt: HostRuntime) {
+    let mut core = after(&rt, rt.alloc(), COUNT, &WORKED);
+    assert_part(&rt, &core, 0, 0, Some(Told::Count(1)));
+    assert_part(&rt, &core, 0, 1, Some(Told::Count(1)));
+    assert_part(&rt, &core, 0, 2, None);
+    assert_part(&rt, &core, 1, 0, None);
+    assert_steps(&rt, rt.alloc(), &mut core, &COUNTED);
+    assert_part(&rt, &core, 0, 0, None);
 }
 
 #[test]
-fn a_settled_part_answers_for_all(rt: HostRuntime) -> Result<(), Fail> {
-    let alloc = rt.alloc();
-    let mut rows = Vec::from_slice(alloc, &begun(Ask::Exists(Within { least: 2, most: 2 })))?;
-    rows.push(works(1, 12, END, true))?;
-    rows.push(finishes(Told::Truth(true)))?;
-    assert_rows(&rt, alloc, &rows)?;
-    Ok(())
+fn a_stolen_piece_is_counted_once_in_one_list(rt: HostRuntime) {
+    let rows = all_worked(&rt, rt.alloc(), COUNT, &COUNTED);
+    assert_list(&rt, rt.alloc(), &rows);
 }
 
+const SETTLED: [Row; 2] = [
+    (
+        Plan::Turn(0, Move::Work(1)),
+        Told::Turn(Progress::Worked(12, END, 1, true)),
+    ),
+    (Plan::Finish(0), Told::Truth(true)),
+];
+
 #[test]
-fn idle_whole_and_no_worker(rt: HostRuntime) -> Result<(), Fail> {
-    let alloc = rt.alloc();
-    let mut rows = Vec::from_slice(alloc, &begun(Ask::Count(Within::ALL)))?;
-    rows.push(turn(Move::Take(1), Progress::Idle))?;
-    let other = Move::Steal(1, 2);
-    rows.push((Plan::Turn(0, other), Told::Refused(Refusal::NoWorker)))?;
-    rows.push((Plan::Turn(1, other), Told::Refused(Refusal::NoJob)))?;
-    rows.push(turn(Move::Split(0), Progress::Whole))?;
-    rows.push(works(1, 12, END, false))?;
-    rows.push(turn(Move::Take(1), Progress::Idle))?;
-    rows.push((Plan::Abandon(0), Told::Abandoned))?;
-    rows.push(finishes(Told::Refused(Refusal::NoJob)))?;
-    assert_rows(&rt, alloc, &rows)?;
-    Ok(())
+fn a_settled_part_answers_for_all(rt: HostRuntime) {
+    let ask = Ask::Exists(Within { least: 2, most: 2 });
+    after(&rt, rt.alloc(), ask, &SETTLED);
+}
+
+const IDLE: [Row; 8] = [
+    (Plan::Turn(0, Move::Take(1)), Told::Turn(Progress::Idle)),
+    (
+        Plan::Turn(0, Move::Steal(1, 2)),
+        Told::Refused(Refusal::NoWorker),
+    ),
+    (
+        Plan::Turn(1, Move::Steal(1, 2)),
+        Told::Refused(Refusal::NoJob),
+    ),
+    (Plan::Turn(0, Move::Split(0)), Told::Turn(Progress::Whole)),
+    (
+        Plan::Turn(0, Move::Work(1)),
+        Told::Turn(Progress::Worked(12, END, 1, false)),
+    ),
+    (Plan::Turn(0, Move::Take(1)), Told::Turn(Progress::Idle)),
+    (Plan::Abandon(0), Told::Abandoned),
+    (Plan::Finish(0), Told::Refused(Refusal::NoJob)),
+];
+
+#[test]
+fn idle_whole_and_no_worker(rt: HostRuntime) {
+    after(&rt, rt.alloc(), COUNT, &IDLE);
 }
 
 // The cut points of the three keys.
@@ -231,26 +242,50 @@ const FIRST: u128 = 6_917_529_027_641_081_856;
 
 const SECOND: u128 = 10_376_293_541_461_622_784;
 
+const THREE_KEYS: [Row; 16] = [
+    (Plan::Open(1), Told::Unit),
+    (Plan::On(1, Do::Put(A, 1)), Told::Old(None)),
+    (Plan::On(1, Do::Put(B, 2)), Told::Old(None)),
+    (Plan::On(1, Do::Put(C, 3)), Told::Old(None)),
+    (Plan::Freeze(1, COUNT), Told::Job(0)),
+    (
+        Plan::Turn(0, Move::Take(0)),
+        Told::Turn(Progress::Took(0, END)),
+    ),
+    (
+        Plan::Turn(0, Move::Split(0)),
+        Told::Turn(Progress::Cut(0, FIRST, END)),
+    ),
+    (Plan::Turn(0, Move::Split(0)), Told::Turn(Progress::Whole)),
+    (
+        Plan::Turn(0, Move::Work(0)),
+        Told::Turn(Progress::Worked(0, FIRST, 1, false)),
+    ),
+    (
+        Plan::Turn(0, Move::Take(0)),
+        Told::Turn(Progress::Took(FIRST, END)),
+    ),
+    (
+        Plan::Turn(0, Move::Split(0)),
+        Told::Turn(Progress::Cut(FIRST, SECOND, END)),
+    ),
+    (
+        Plan::Turn(0, Move::Steal(1, 0)),
+        Told::Turn(Progress::Took(SECOND, END)),
+    ),
+    (Plan::Finish(0), Told::Unfinished),
+    (
+        Plan::Turn(0, Move::Work(1)),
+        Told::Turn(Progress::Worked(SECOND, END, 1, false)),
+    ),
+    (
+        Plan::Turn(0, Move::Work(0)),
+        Told::Turn(Progress::Worked(FIRST, SECOND, 1, false)),
+    ),
+    (Plan::Finish(0), Told::Count(3)),
+];
+
 #[test]
-fn three_keys_in_three_pieces(rt: HostRuntime) -> Result<(), Fail> {
-    let rows = [
-        opens(),
-        put(A, 1),
-        put(B, 2),
-        put(C, 3),
-        freezes(Ask::Count(Within::ALL)),
-        takes(0, 0, END),
-        cuts(0, 0, FIRST, END),
-        turn(Move::Split(0), Progress::Whole),
-        works(0, 0, FIRST, false),
-        takes(0, FIRST, END),
-        cuts(0, FIRST, SECOND, END),
-        steals(1, 0, SECOND, END),
-        finishes(Told::Unfinished),
-        works(1, SECOND, END, false),
-        works(0, FIRST, SECOND, false),
-        finishes(Told::Count(3)),
-    ];
-    assert_rows(&rt, rt.alloc(), &rows)?;
-    Ok(())
+fn three_keys_in_three_pieces(rt: HostRuntime) {
+    assert_rows(&rt, rt.alloc(), &THREE_KEYS);
 }

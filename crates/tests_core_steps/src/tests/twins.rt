@@ -1,0 +1,144 @@
+//! A core beside a plain machine that makes the same steps: what both are told, what each handle shows, and what each
+//! worker's part tells.
+
+use super::{answer_to, assert_is, assert_run, assert_told, assert_true};
+use crate::desks::Job;
+use crate::machine::{Expected, Machine, answer};
+use crate::maps::Row;
+use crate::plans::{Plan, TestCore, step_of};
+use crate::told::{
+    TestOutcome, TestPart, Told, found_row, part_told, rows_of_map, rows_of_view, told_of,
+};
+use bulk_ops::{Answer, Part};
+use core_steps::Outcome;
+use handles::MOST_ENTRIES;
+use std::alloc::Global;
+use std::panic::Expect;
+use std::process::Abort;
+use versions::MOST_PAIRS;
+
+// The handles that the steps are about.
+const HANDLES: [u32; 9] = [0, 1, 2, 3, 4, 5, 1023, 1024, u32::MAX];
+
+// A core beside a plain machine, with what was done with both so far and what was told of it.
+#[derive(Drop)]
+pub(super) struct Twins {
+    pub(super) core: TestCore,
+    pub(super) machine: Machine,
+    pub(super) plans: Vec<Plan>,
+    pub(super) told: Vec<Told>,
+}
+
+// A new core like a machine.
+fn core_like(rt: &impl Abort, alloc: Global, machine: &Machine) -> TestCore {
+    let (limits, workers, grain) = (machine.limits, machine.workers, machine.grain);
+    assert!(rt; 1 <= limits.pairs && limits.pairs <= MOST_PAIRS);
+    assert!(rt; 2 <= limits.entries && limits.entries <= MOST_ENTRIES);
+    assert!(rt; 1 <= workers && workers <= 16);
+    assert!(rt; 1 <= grain && grain <= 65_536);
+    TestCore::new(alloc, limits, workers, grain).expect(rt, "no core")
+}
+
+// Rows as they should be.
+fn assert_rows(rt: &impl Abort, rows: &[Row], want: &[Row]) {
+    assert_is(rt, rows, want);
+}
+
+// A row that is found is one of these.
+fn assert_found(rt: &impl Abort, found: Option<Row>, rows: &[Row]) {
+    if let Some(row) = found {
+        assert_true(rt, rows.contains(&row));
+    }
+}
+
+// The outcome shows these rows: a view all of them, a find one of them where there is one.
+fn assert_shows(rt: &impl Abort, alloc: Global, outcome: &TestOutcome, rows: &[Row]) {
+    match outcome {
+        Outcome::View(view) => assert_rows(rt, &rows_of_view(rt, alloc, view), rows),
+        Outcome::Answer(Answer::Found(found)) => assert_found(rt, found_row(found), rows),
+        _ => (),
+    }
+}
+
+// The part shows these rows: a map all of them, a find one of them where there is one.
+fn assert_part_shows(rt: &impl Abort, alloc: Global, part: &TestPart, rows: &[Row]) {
+    match part {
+        Part::Found(found) => assert_found(rt, found_row(found), rows),
+        Part::Made(map) => assert_rows(rt, &rows_of_map(rt, alloc, map), rows),
+        _ => (),
+    }
+}
+
+// The part is that of what the worker has worked.
+fn assert_part(rt: &impl Abort, alloc: Global, part: &TestPart, job: &Job, worker: u32) {
+    let rows = job.worked_rows(rt, alloc, worker);
+    let chosen = job.ask.chosen(rt, alloc, &rows);
+    assert_told(rt, part_told(part), answer(job.ask, &chosen, rows.len()));
+    assert_part_shows(rt, alloc, part, &chosen);
+}
+
+impl Twins {
+    // A machine beside a core that is like it.
+    pub(super) fn new(rt: &impl Abort, alloc: Global, machine: Machine) -> Twins {
+        let core = core_like(rt, alloc, &machine);
+        Twins {
+            core,
+            machine,
+            plans: Vec::new(alloc),
+            told: Vec::new(alloc),
+        }
+    }
+
+    // Makes a step with both, which are told the same.
+    pub(super) fn make(&mut self, rt: &impl Abort, alloc: Global, plan: Plan) -> Told {
+        let expected = self.machine.step(rt, alloc, plan);
+        self.assert_made(rt, alloc, plan, &expected);
+        self.plans.push(plan).expect(rt, "no room");
+        self.told.push(expected.told).expect(rt, "no room");
+        expected.told
+    }
+
+    // The core makes the step, which is told what is expected.
+    fn assert_made(&mut self, rt: &impl Abort, alloc: Global, plan: Plan, expected: &Expected) {
+        let step = step_of(rt, alloc, plan);
+        let outcome = answer_to(rt, alloc, &mut self.core, step);
+        assert_told(rt, told_of(&outcome), expected.told);
+        assert_shows(rt, alloc, &outcome, &expected.rows);
+    }
+
+    // The part of a worker of a job is that of what it has worked, and there is none where there is no such job or
+    // worker.
+    fn assert_part_of(&self, rt: &impl Abort, alloc: Global, number: u64, worker: u32) {
+        let there = worker < self.machine.workers;
+        match (self.machine.job(number), self.core.part(number, worker)) {
+            (Some(job), Some(part)) => {
+                assert_true(rt, there);
+                assert_part(rt, alloc, part, job, worker);
+            }
+            (Some(_), None) => assert_true(rt, !there),
+            (None, part) => assert_true(rt, part.is_none()),
+        }
+    }
+
+    // The same of all workers of all jobs, and of the job that would be next.
+    pub(super) fn assert_parts(&self, rt: &impl Abort, alloc: Global) {
+        for number in 0..=self.machine.next {
+            for worker in 0..17 {
+                self.assert_part_of(rt, alloc, number, worker);
+            }
+        }
+    }
+
+    // Each live handle has the same rows, and no other handle is live.
+    pub(super) fn assert_maps(&mut self, rt: &impl Abort, alloc: Global) {
+        for handle in HANDLES {
+            self.make(rt, alloc, Plan::View(handle));
+        }
+    }
+
+    // A new core is told the same of all steps as one list.
+    pub(super) fn assert_run(&self, rt: &impl Abort, alloc: Global) {
+        let mut core = core_like(rt, alloc, &self.machine);
+        assert_run(rt, alloc, &mut core, &self.plans, &self.told);
+    }
+}
