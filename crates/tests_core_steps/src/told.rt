@@ -86,15 +86,6 @@ pub fn part_told(part: &TestPart) -> Told {
     }
 }
 
-/// What a part tells, and the row that it has found, if any.
-pub fn part_shown(part: &TestPart) -> (Told, Option<Row>) {
-    let row = match part {
-        Part::Found(found) => found_row(found),
-        _ => None,
-    };
-    (part_told(part), row)
-}
-
 /// The rows of a view, in the order of a walk.
 pub fn rows_of_view(rt: &impl Abort, alloc: Global, view: &View<ChosenKey, u64>) -> Vec<Row> {
     let Ok(walk) = pairs(alloc, view) else {
@@ -105,21 +96,6 @@ pub fn rows_of_view(rt: &impl Abort, alloc: Global, view: &View<ChosenKey, u64>)
         push_row(rt, &mut rows, row_of(key, value));
     }
     rows
-}
-
-/// Whether a view has exactly these rows, in the order of a walk. No memory is asked for.
-pub fn has_rows(alloc: Global, view: &View<ChosenKey, u64>, rows: &[Row]) -> bool {
-    let Ok(walk) = pairs(alloc, view) else {
-        return false;
-    };
-    let mut number = 0usize;
-    for (key, value) in walk {
-        match rows.get(number) {
-            Some(row) if *row == row_of(key, value) => number = number.saturating_add(1),
-            _ => return false,
-        }
-    }
-    number == rows.len()
 }
 
 /// The rows of a map, in the order of a walk.

@@ -1,57 +1,37 @@
-//! Steps whose requests for memory are refused: the first, then the second, and so on.
-ghost use Rattle.std.specs.Prelude.{All};
+//! Requests for memory that are refused, each in turn: those of a step, and those of a list of steps. After each
+//! refusal the core has the maps, jobs and parts of a plain machine, and goes on as the machine does.
+ghost use Rattle.std.specs.Prelude.{All, ◌<◌, length};
 ghost use Rattle.bulk_ops.specs.Queries.{IsReady};
 ghost use Rattle.core_steps.specs.Steps.{CanAsk, asked_by};
 
 use super::rows::{COUNT, all_worked};
-use super::{Row, assert_is, assert_steps, assert_told, assert_true, core_of_two, plans_of};
+use super::twins::Twins;
+use super::{LARGEST, Row, assert_is, assert_told, assert_true, plans_of};
 use crate::asks::{Ask, Within};
-use crate::maps;
+use crate::machine::Machine;
 use crate::plans::{Do, Plan, TestCore, TestStep, step_of, steps_of};
-use crate::told::{TestOutcome, Told, has_rows, part_shown, rows_of_view, told_of};
-use core_steps::{Move, Outcome, Step};
+use crate::told::{TestOutcome, Told, told_of};
+use core_steps::Move;
 use std::alloc::Global;
 use std::panic::Expect;
 use std::process::Abort;
-use test_keys::take_all;
+use test_keys::Shortage;
 
-// The bytes of room for desks, a queue and open jobs, for outcomes, for children of a branch or worked spans, of a
-// branch, and of room for one child.
-const SIZES: [usize; 10] = [544, 120, 160, 768, 384, 192, 128, 64, 48, 32];
+/// How many bytes more each try of a step has. No request takes fewer, so each of them is the first to be refused at
+/// some try.
+pub(super) const FEW: usize = 16;
 
-/// How many blocks are given back at most.
-pub(super) const MOST_GIVEN: usize = 120;
+/// More tries than any step needs, and any list.
+pub(super) const TRIES: usize = 512;
 
-// A block of so many bytes.
-fn block(rt: &impl Abort, alloc: Global, size: usize) -> Vec<u8> {
-    Vec::with_capacity(alloc, size).expect(rt, "no block")
-}
+// How many bytes more each try of a list has.
+const MANY: usize = 64;
 
-/// Blocks of each size in turn, the first size last or first. The last one is given back first: it is room for one
-/// request of its size.
-pub(super) fn spare(rt: &impl Abort, alloc: Global, first_is_last: bool) -> Vec<Vec<u8>> {
-    let mut blocks = Vec::with_capacity(alloc, MOST_GIVEN).expect(rt, "no list");
-    for number in 0..MOST_GIVEN {
-        let at = if first_is_last {
-            9 - number % 10
-        } else {
-            number % 10
-        };
-        blocks.push(block(rt, alloc, SIZES[at])).expect(rt, "no room");
-    }
-    blocks
-}
-
-/// All memory.
-pub(super) fn no_memory(rt: &impl Abort, alloc: Global) -> Vec<Vec<u8>> {
-    take_all(alloc).expect(rt, "no list")
-}
-
-/// Drops so many blocks.
-pub(super) fn give(blocks: &mut Vec<Vec<u8>>, count: usize) {
-    for _ in 0..count {
-        let _ = blocks.pop();
-    }
+/// No memory but for so many bytes next to one another.
+pub(super) fn shortage(rt: &impl Abort, alloc: Global, bytes: usize) -> Shortage {
+    let mut shortage = Shortage::new(alloc).expect(rt, "no list");
+    shortage.give(alloc, bytes).expect(rt, "not given");
+    shortage
 }
 
 /// What the core tells of a copy of the step, if it has the memory. The copy takes none.
@@ -70,107 +50,101 @@ pub(super) fn told_if(
     }
 }
 
-// The rows that a view of the handle shows, none where it is not live.
-fn rows_at(rt: &impl Abort, alloc: Global, core: &mut TestCore, handle: u32) -> Vec<maps::Row> {
-    match core.step(alloc, Step::View(handle)) {
-        Ok(Outcome::View(view)) => rows_of_view(rt, alloc, &view),
-        _ => Vec::new(alloc),
-    }
-}
-
-// The same without a request for memory: whether a view of the handle shows these rows, none where it is not live.
-fn is_at(alloc: Global, core: &mut TestCore, handle: u32, rows: &[maps::Row]) -> bool {
-    match core.step(alloc, Step::View(handle)) {
-        Ok(Outcome::View(view)) => has_rows(alloc, &view, rows),
-        Ok(_) => rows.is_empty(),
-        Err(_) => false,
-    }
-}
-
-// What a part tells, and the pair that it has found.
-type Shown = Option<(Told, Option<maps::Row>)>;
-
-// What the part of a worker of job 0 tells.
-fn part_of(core: &TestCore, worker: u32) -> Shown {
-    core.part(0, worker).map(part_shown)
-}
-
-// What the handles 1 and 2 show, and what the parts of job 0 tell.
-#[derive(Drop)]
-struct Seen {
-    first: Vec<maps::Row>,
-    second: Vec<maps::Row>,
-    parts: (Shown, Shown),
-}
-
-// What is seen of the core.
-fn seen_of(rt: &impl Abort, alloc: Global, core: &mut TestCore) -> Seen {
-    let first = rows_at(rt, alloc, core, 1);
-    let second = rows_at(rt, alloc, core, 2);
-    Seen {
-        first,
-        second,
-        parts: (part_of(core, 0), part_of(core, 1)),
-    }
-}
-
-// Whether the same is seen of the core. No memory is asked for.
-fn is_seen(alloc: Global, core: &mut TestCore, seen: &Seen) -> bool {
-    is_at(alloc, core, 1, &seen.first)
-        && is_at(alloc, core, 2, &seen.second)
-        && part_of(core, 0) == seen.parts.0
-        && part_of(core, 1) == seen.parts.1
-}
-
-// Makes the step with no memory, with one block more, and so on until it is told something: with how many blocks, and
-// what. None where a refusal changed a map or a part, or where all blocks are too few.
-fn tried(
-    rt: &impl Abort,
-    alloc: Global,
-    core: &mut TestCore,
-    step: &TestStep,
-    seen: &Seen,
-    blocks: &mut Vec<Vec<u8>>,
-) -> Option<(usize, Told)>
-    requires { CanAsk IsReady (asked_by step.now) }
-{
-    for given in 0..MOST_GIVEN {
-        let told = told_if(rt, alloc, core, step);
-        if told.is_some() || !is_seen(alloc, core, seen) {
-            return told.map(|told| (given, told));
-        }
-        give(blocks, 1);
-    }
-    None
-}
-
-// The same of the step of a plan.
-fn first_told(
+// What the core tells of a step with so many bytes of memory, if those are enough.
+fn told_with(
     rt: &impl Abort,
     alloc: Global,
     core: &mut TestCore,
     plan: Plan,
-    first_is_last: bool,
-) -> Option<(usize, Told)> {
-    let seen = seen_of(rt, alloc, core);
+    bytes: usize,
+) -> Option<Told> {
     let step = step_of(rt, alloc, plan);
-    let mut blocks = spare(rt, alloc, first_is_last);
-    let _taken = no_memory(rt, alloc);
-    tried(rt, alloc, core, &step, &seen, &mut blocks)
+    let _shortage = shortage(rt, alloc, bytes);
+    told_if(rt, alloc, core, &step)
 }
 
-// How many blocks a step needs, which is told so then. While it has fewer, maps and parts are as before.
-fn needed(
+// The twins are told this of the steps.
+fn assert_twins(rt: &impl Abort, alloc: Global, twins: &mut Twins, rows: &[Row]) {
+    for (plan, told) in rows {
+        assert_told(rt, twins.make(rt, alloc, *plan), *told);
+    }
+}
+
+// Twins with two workers and grain 1 that have made the steps.
+fn twins_after(rt: &impl Abort, alloc: Global, rows: &[Row]) -> Twins {
+    let machine = Machine::new(alloc, LARGEST, 2, 1);
+    let mut twins = Twins::new(rt, alloc, machine);
+    assert_twins(rt, alloc, &mut twins, rows);
+    twins
+}
+
+// The machine makes a step that the core has made, and is told the same.
+fn follow(rt: &impl Abort, alloc: Global, twins: &mut Twins, row: Row) {
+    let expected = twins.machine.step(rt, alloc, row.0);
+    assert_told(rt, expected.told, row.1);
+}
+
+// The core has the maps of the machine's handles, its jobs and their parts.
+fn assert_alike(rt: &impl Abort, alloc: Global, twins: &mut Twins) {
+    twins.assert_parts(rt, alloc);
+    twins.assert_maps(rt, alloc);
+}
+
+// The same, and it makes the steps as the machine does.
+fn assert_goes_on(rt: &impl Abort, alloc: Global, twins: &mut Twins, rows: &[Row]) {
+    assert_alike(rt, alloc, twins);
+    assert_twins(rt, alloc, twins, rows);
+    assert_alike(rt, alloc, twins);
+}
+
+// The twins' next step has so many bytes of memory: what the core tells of it, if those are enough. Else it is refused
+// once more with no memory, and then made with ample memory.
+fn told_next(
     rt: &impl Abort,
     alloc: Global,
-    core: &mut TestCore,
+    twins: &mut Twins,
     row: Row,
-    first_is_last: bool,
-) -> usize {
-    let first = first_told(rt, alloc, core, row.0, first_is_last);
-    let (given, told) = first.expect(rt, "changed, or refused with memory to spare");
-    assert_told(rt, told, row.1);
-    given
+    bytes: usize,
+) -> Option<Told> {
+    let told = told_with(rt, alloc, &mut twins.core, row.0, bytes);
+    if told.is_some() {
+        follow(rt, alloc, twins, row);
+        return told;
+    }
+    let again = told_with(rt, alloc, &mut twins.core, row.0, 0);
+    assert_true(rt, again.is_none());
+    assert_goes_on(rt, alloc, twins, &[row]);
+    None
+}
+
+// What is told of the step of a number with so many bytes of memory, if those are enough. The steps before it and those
+// behind it have ample memory.
+fn told_at(
+    rt: &impl Abort,
+    alloc: Global,
+    rows: &[Row],
+    number: usize,
+    bytes: usize,
+) -> Option<Told>
+    requires { number < length rows.now }
+{
+    let mut twins = twins_after(rt, alloc, &rows[..number]);
+    let told = told_next(rt, alloc, &mut twins, rows[number], bytes);
+    assert_goes_on(rt, alloc, &mut twins, &rows[number + 1..]);
+    told
+}
+
+// The step of a number is refused with no memory, with a little, and so on, until it is told so: how often.
+fn refusals(rt: &impl Abort, alloc: Global, rows: &[Row], number: usize) -> usize
+    requires { number < length rows.now }
+{
+    for refused in 0..TRIES {
+        if let Some(told) = told_at(rt, alloc, rows, number, refused * FEW) {
+            assert_told(rt, told, rows[number].1);
+            return refused;
+        }
+    }
+    TRIES
 }
 
 // Whether a step that is told so makes a request for memory.
@@ -182,108 +156,84 @@ fn asks_for_memory(row: Row) -> bool {
     }
 }
 
-// A step that needs so many blocks is one that makes a request for memory, or it needs none.
-fn assert_asks(rt: &impl Abort, row: Row, given: usize) {
-    assert_is(rt, (row.1, given > 0), (row.1, asks_for_memory(row)));
-}
-
-// A new core makes the steps, each after all its refusals, and none is refused that makes no request.
-fn assert_refused(rt: &impl Abort, alloc: Global, rows: &[Row], first_is_last: bool) {
-    let mut core = core_of_two(rt, alloc);
-    for row in rows {
-        let given = needed(rt, alloc, &mut core, *row, first_is_last);
-        assert_asks(rt, *row, given);
+// Each of the steps is refused as long as it has too little memory: never where it makes no request.
+fn assert_each_refused(rt: &impl Abort, alloc: Global, rows: &[Row]) {
+    for number in 0..rows.len() {
+        let refused = refusals(rt, alloc, rows, number);
+        let (row, is_refused) = (rows[number], refused > 0);
+        assert_is(rt, (row.1, is_refused), (row.1, asks_for_memory(row)));
+        assert_is(rt, (row.1, refused < TRIES), (row.1, true));
     }
 }
 
-const COUNTED: [Row; 1] = [(Plan::Finish(0), Told::Count(2))];
+const COUNTED: [Row; 3] = [
+    (Plan::Finish(0), Told::Count(2)),
+    (Plan::On(1, Do::Size), Told::Size(3)),
+    (Plan::View(1), Told::Viewed),
+];
 
 #[test]
 fn a_count_goes_on_after_each_refusal(rt: HostRuntime) {
     let rows = all_worked(&rt, rt.alloc(), COUNT, &COUNTED);
-    assert_refused(&rt, rt.alloc(), &rows, true);
-    assert_refused(&rt, rt.alloc(), &rows, false);
+    assert_each_refused(&rt, rt.alloc(), &rows);
 }
 
-const MADE: [Row; 2] = [
+const MADE: [Row; 3] = [
     (Plan::Finish(0), Told::Made(2)),
     (Plan::On(2, Do::Size), Told::Size(2)),
+    (Plan::Drop(1), Told::Unit),
 ];
 
 #[test]
 fn a_filter_goes_on_after_each_refusal(rt: HostRuntime) {
     let ask = Ask::Filter(Within::ALL, 2);
     let rows = all_worked(&rt, rt.alloc(), ask, &MADE);
-    assert_refused(&rt, rt.alloc(), &rows, true);
-    assert_refused(&rt, rt.alloc(), &rows, false);
+    assert_each_refused(&rt, rt.alloc(), &rows);
 }
 
-// The outcomes of the steps as one list with so many blocks of memory, as far as the core comes.
+// The outcomes of the steps as one list with so many bytes of memory, as far as the core comes.
 fn outcomes_with(
     rt: &impl Abort,
     alloc: Global,
     core: &mut TestCore,
     steps: &[TestStep],
-    given: usize,
+    bytes: usize,
 ) -> Vec<TestOutcome>
     requires { All (λ step. CanAsk IsReady (asked_by step)) steps.now }
 {
-    let mut blocks = spare(rt, alloc, true);
-    let _taken = no_memory(rt, alloc);
-    give(&mut blocks, given);
+    let _shortage = shortage(rt, alloc, bytes);
     match core.run(alloc, steps) {
         Ok(trace) => trace.outcomes,
         Err((trace, _)) => trace.outcomes,
     }
 }
 
-// What the outcomes tell.
-fn told_in(rt: &impl Abort, alloc: Global, outcomes: &[TestOutcome]) -> Vec<Told> {
-    let mut told = Vec::new(alloc);
-    for outcome in outcomes {
-        told.push(told_of(outcome)).expect(rt, "no room");
-    }
-    told
-}
-
-// Makes the steps as one list with so many blocks of memory: what is told of them, as far as the core came.
-fn run_with(
+// The core makes the steps as one list with so many bytes of memory, as far as it comes: how many. The machine makes
+// the same.
+fn made_with(
     rt: &impl Abort,
     alloc: Global,
-    core: &mut TestCore,
+    twins: &mut Twins,
     rows: &[Row],
-    given: usize,
-) -> Vec<Told> {
+    bytes: usize,
+) -> usize {
     let plans = plans_of(rt, alloc, rows);
     let steps = steps_of(rt, alloc, &plans);
-    let outcomes = outcomes_with(rt, alloc, core, &steps, given);
-    told_in(rt, alloc, &outcomes)
-}
-
-// The core was told so of the first steps, and makes the others as if nothing had been refused.
-fn assert_goes_on(
-    rt: &impl Abort,
-    alloc: Global,
-    core: &mut TestCore,
-    rows: &[Row],
-    told: &[Told],
-) {
-    let mut number = 0usize;
-    for row in rows {
-        match told.get(number) {
-            Some(told) => assert_told(rt, *told, row.1),
-            None => assert_steps(rt, alloc, core, &[*row]),
-        }
-        number = number.saturating_add(1);
+    let outcomes = outcomes_with(rt, alloc, &mut twins.core, &steps, bytes);
+    for (outcome, row) in outcomes.iter().zip(rows) {
+        assert_told(rt, told_of(outcome), row.1);
+        follow(rt, alloc, twins, *row);
     }
+    outcomes.len()
 }
 
-// How many of the steps a new core makes as one list with so many blocks of memory. It makes the others afterwards.
-fn steps_made(rt: &impl Abort, alloc: Global, rows: &[Row], given: usize) -> usize {
-    let mut core = core_of_two(rt, alloc);
-    let told = run_with(rt, alloc, &mut core, rows, given);
-    assert_goes_on(rt, alloc, &mut core, rows, &told);
-    told.len()
+// How many of the steps a new core makes as one list with so many bytes of memory. It makes the others afterwards.
+fn steps_made(rt: &impl Abort, alloc: Global, rows: &[Row], bytes: usize) -> usize {
+    let mut twins = twins_after(rt, alloc, &[]);
+    let made = made_with(rt, alloc, &mut twins, rows, bytes);
+    assert!(rt; made <= rows.len());
+    assert_goes_on(rt, alloc, &mut twins, &rows[made..]);
+    made
 }
 
 #[test]
@@ -291,8 +241,8 @@ fn a_run_is_cut_short_and_goes_on(rt: HostRuntime) {
     let rows = all_worked(&rt, rt.alloc(), COUNT, &COUNTED);
     assert_is(&rt, steps_made(&rt, rt.alloc(), &rows, 0), 0);
     let mut longest = 0;
-    for number in 1..MOST_GIVEN / 3 {
-        longest = steps_made(&rt, rt.alloc(), &rows, 3 * number);
+    for number in 1..TRIES {
+        longest = steps_made(&rt, rt.alloc(), &rows, number * MANY);
     }
     assert_is(&rt, longest, rows.len());
 }

@@ -1,8 +1,8 @@
-//! Refusals that are due while requests for memory are refused: all, then all but one, and so on.
+//! Refusals that are due while requests for memory are refused: all, then those that a few bytes do not serve, and so on.
 ghost use Rattle.bulk_ops.specs.Queries.{IsReady};
 ghost use Rattle.core_steps.specs.Steps.{CanAsk, asked_by};
 
-use super::memory::{MOST_GIVEN, give, no_memory, spare, told_if};
+use super::memory::{FEW, TRIES, shortage, told_if};
 use super::rows::COUNT;
 use super::{Row, assert_is, assert_steps, core_of_two};
 use crate::asks::{Ask, Within};
@@ -25,22 +25,22 @@ const MAKES_1: Ask = Ask::Filter(Within::ALL, 1);
 
 const MAKES_1024: Ask = Ask::Filter(Within::ALL, 1024);
 
-// Whether the step is told this with no memory, with one block, and so on.
+// Whether the step is told this with no memory, with a little, and so on.
 fn is_always_told(
     rt: &impl Abort,
     alloc: Global,
     core: &mut TestCore,
     step: &TestStep,
-    blocks: &mut Vec<Vec<u8>>,
     want: Told,
 ) -> bool
     requires { CanAsk IsReady (asked_by step.now) }
 {
-    for _ in 0..MOST_GIVEN {
+    let mut shortage = shortage(rt, alloc, 0);
+    for _ in 0..TRIES {
         if told_if(rt, alloc, core, step) != Some(want) {
             return false;
         }
-        give(blocks, 1);
+        shortage.give(alloc, FEW).expect(rt, "not given");
     }
     true
 }
@@ -48,10 +48,7 @@ fn is_always_told(
 // The step is told this, whatever the memory.
 fn assert_always(rt: &impl Abort, alloc: Global, core: &mut TestCore, row: Row) {
     let step = step_of(rt, alloc, row.0);
-    let mut blocks = spare(rt, alloc, true);
-    let taken = no_memory(rt, alloc);
-    let is_told = is_always_told(rt, alloc, core, &step, &mut blocks, row.1);
-    drop(taken);
+    let is_told = is_always_told(rt, alloc, core, &step, row.1);
     assert_is(rt, (row.1, is_told), (row.1, true));
 }
 
@@ -78,15 +75,17 @@ fn begun(rt: &impl Abort, alloc: Global) -> TestCore {
 // The same with a job.
 fn frozen(rt: &impl Abort, alloc: Global, ask: Ask) -> TestCore {
     let mut core = begun(rt, alloc);
-    assert_steps(rt, alloc, &mut core, &[(Plan::Freeze(1, ask), Told::Job(0))]);
+    assert_steps(
+        rt,
+        alloc,
+        &mut core,
+        &[(Plan::Freeze(1, ask), Told::Job(0))],
+    );
     core
 }
 
 const REFUSED_FREEZES: [Row; 5] = [
-    (
-        Plan::Freeze(1024, COUNT),
-        Told::Refused(Refusal::BadNumber),
-    ),
+    (Plan::Freeze(1024, COUNT), Told::Refused(Refusal::BadNumber)),
     (
         Plan::Freeze(1, MAKES_1024),
         Told::Refused(Refusal::BadNumber),
