@@ -6,7 +6,7 @@ ghost use Rattle.core_steps.specs.Steps.{CanAsk, asked_by};
 
 use super::rows::{COUNT, all_worked};
 use super::twins::Twins;
-use super::{LARGEST, Row, assert_is, assert_told, assert_true, plans_of};
+use super::{LARGEST, Row, assert_is, assert_told, plans_of};
 use crate::asks::{Ask, Within};
 use crate::machine::Machine;
 use crate::plans::{Do, Plan, TestCore, TestStep, step_of, steps_of};
@@ -17,15 +17,17 @@ use std::panic::Expect;
 use std::process::Abort;
 use test_keys::Shortage;
 
-/// How many bytes more each try of a step has. No request takes fewer, so each of them is the first to be refused at
-/// some try.
-pub(super) const FEW: usize = 16;
+/// How many bytes more each try of a step has. No request takes fewer of the C library's heap, so each of them is the
+/// first to be refused at some try.
+pub(super) const FEW: usize = 32;
 
-/// More tries than any step needs, and any list.
-pub(super) const TRIES: usize = 512;
+/// More tries than any step needs.
+pub(super) const TRIES: usize = 256;
 
-// How many bytes more each try of a list has.
-const MANY: usize = 64;
+// How many bytes more each try of a list has, and more tries than a list needs.
+const MANY: usize = 256;
+
+const LISTS: usize = 128;
 
 /// No memory but for so many bytes next to one another.
 pub(super) fn shortage(rt: &impl Abort, alloc: Global, bytes: usize) -> Shortage {
@@ -97,8 +99,8 @@ fn assert_goes_on(rt: &impl Abort, alloc: Global, twins: &mut Twins, rows: &[Row
     assert_alike(rt, alloc, twins);
 }
 
-// The twins' next step has so many bytes of memory: what the core tells of it, if those are enough. Else it is refused
-// once more with no memory, and then made with ample memory.
+// The twins' next step has so many bytes of memory: what the core tells of it, if those are enough. Else it is made with
+// ample memory then.
 fn told_next(
     rt: &impl Abort,
     alloc: Global,
@@ -111,8 +113,6 @@ fn told_next(
         follow(rt, alloc, twins, row);
         return told;
     }
-    let again = told_with(rt, alloc, &mut twins.core, row.0, 0);
-    assert_true(rt, again.is_none());
     assert_goes_on(rt, alloc, twins, &[row]);
     None
 }
@@ -241,7 +241,7 @@ fn a_run_is_cut_short_and_goes_on(rt: HostRuntime) {
     let rows = all_worked(&rt, rt.alloc(), COUNT, &COUNTED);
     assert_is(&rt, steps_made(&rt, rt.alloc(), &rows, 0), 0);
     let mut longest = 0;
-    for number in 1..TRIES {
+    for number in 1..LISTS {
         longest = steps_made(&rt, rt.alloc(), &rows, number * MANY);
     }
     assert_is(&rt, longest, rows.len());
