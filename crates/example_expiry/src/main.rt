@@ -5,14 +5,13 @@
 //! What it prints is stored beside it. It fails, with status 1, where memory or the output does.
 #![tactic(auto)]
 
-mod fault;
 mod lease;
 mod outlook;
 mod queries;
 mod shared;
 mod tour;
 
-use crate::fault::Fault;
+use anyhow::Result;
 use std::process::ExitCode;
 use std::rt::Runtime;
 use std::sync::Wait;
@@ -21,15 +20,15 @@ use std::thread::Threads;
 fn main(rt: HostRuntime) -> ExitCode {
     match run(&rt) {
         Ok(()) => ExitCode::SUCCESS,
-        Err(fault) => {
-            let _ = rt.eprintln(format_args!("expiry: {fault}"));
+        Err(error) => {
+            let _ = rt.eprintln(format_args!("expiry: {error}"));
             ExitCode::FAILURE
         }
     }
 }
 
 // One registry after the other.
-fn run<R: Runtime + AllocGlobal + Threads + Wait + Sync>(rt: &R) -> Result<(), Fault> {
+fn run<R: Runtime + AllocGlobal + Threads + Wait + Sync>(rt: &R) -> Result<()> {
     tour::tour(rt)?;
     shared::tour(rt)
 }

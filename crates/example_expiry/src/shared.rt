@@ -2,9 +2,9 @@
 ghost use Rattle.std.specs.Prelude.{IfOk};
 ghost use Rattle.example_expiry.specs.Outlooks.{IsOutlook};
 
-use crate::fault::Fault;
 use crate::lease::Lease;
 use crate::outlook::{Outlook, OutlookAt};
+use anyhow::Result;
 use std::rt::Runtime;
 use std::sync::Wait;
 use std::thread;
@@ -30,7 +30,7 @@ const ASKED: OutlookAt = OutlookAt {
 };
 
 /// Leases to clients, asks for the outlook while three threads write the registry, and asks again when they have.
-pub fn tour<R: Runtime + AllocGlobal + Threads + Wait + Sync>(rt: &R) -> Result<(), Fault> {
+pub fn tour<R: Runtime + AllocGlobal + Threads + Wait + Sync>(rt: &R) -> Result<()> {
     let registry: Registry = TrieMap::new(rt)?;
     lease_from(rt, &registry, 0, 0)?;
     ask_meanwhile(rt, &registry)?;
@@ -41,7 +41,7 @@ pub fn tour<R: Runtime + AllocGlobal + Threads + Wait + Sync>(rt: &R) -> Result<
 fn ask_meanwhile<R: Runtime + AllocGlobal + Threads + Wait + Sync>(
     rt: &R,
     registry: &Registry,
-) -> Result<(), Fault> {
+) -> Result<()> {
     let before = registry.view(rt)?;
     let outlook = outlook_meanwhile(rt, registry, &before, ASKED)?;
     rt.println(format_args!("of {} clients before: {outlook}", before.len()))?;
@@ -51,7 +51,7 @@ fn ask_meanwhile<R: Runtime + AllocGlobal + Threads + Wait + Sync>(
 fn ask_afterwards<R: Runtime + AllocGlobal + Threads + Wait + Sync>(
     rt: &R,
     registry: &Registry,
-) -> Result<(), Fault> {
+) -> Result<()> {
     let after = registry.view(rt)?;
     let outlook = outlook_of(rt, &after, ASKED)?;
     rt.println(format_args!("of {} clients after: {outlook}", after.len()))?;
@@ -64,7 +64,7 @@ fn outlook_meanwhile<R: AllocGlobal + Threads + Wait + Sync>(
     registry: &Registry,
     view: &Frozen,
     asked: OutlookAt,
-) -> Result<Outlook, Fault>
+) -> Result<Outlook>
     ensures { IfOk result (λ outlook. IsOutlook asked view.now outlook) }
 {
     let (written, outlook) = thread::join(

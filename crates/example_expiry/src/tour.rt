@@ -1,8 +1,8 @@
 //! What the program does.
 
-use crate::fault::Fault;
 use crate::lease::{Lease, name, until};
 use crate::queries::{expired, live, seconds_left};
+use anyhow::Result;
 use bulk_ops::{Answer, ask};
 use generation::Source;
 use keys::ByteText;
@@ -22,7 +22,7 @@ type Registry = Version<ByteText, Lease>;
 type Frozen = View<ByteText, Lease>;
 
 /// Counts what has expired in a registry, and filters what is live into a new map, while the registry is written.
-pub fn tour<R: Runtime + AllocGlobal>(rt: &R) -> Result<(), Fault> {
+pub fn tour<R: Runtime + AllocGlobal>(rt: &R) -> Result<()> {
     let alloc = rt.alloc();
     let mut registry = Version::empty(alloc, 1_000, Source::new().next())?;
     lease(alloc, &mut registry, "alpha", 50)?;
@@ -41,19 +41,19 @@ pub fn tour<R: Runtime + AllocGlobal>(rt: &R) -> Result<(), Fault> {
 }
 
 /// Leases the name until the second.
-fn lease(alloc: Global, registry: &mut Registry, text: &str, second: u64) -> Result<(), Fault> {
+fn lease(alloc: Global, registry: &mut Registry, text: &str, second: u64) -> Result<()> {
     registry.put(alloc, name(alloc, text)?, until(alloc, second)?)?;
     Ok(())
 }
 
 /// What the program asks of the registry as it stood.
-fn questions<R: Runtime + AllocGlobal>(rt: &R, frozen: &Frozen) -> Result<(), Fault> {
+fn questions<R: Runtime + AllocGlobal>(rt: &R, frozen: &Frozen) -> Result<()> {
     count_expired(rt, frozen)?;
     filter_live(rt, frozen)?;
     sum_seconds(rt, frozen)
 }
 
-fn count_expired<R: Runtime + AllocGlobal>(rt: &R, frozen: &Frozen) -> Result<(), Fault> {
+fn count_expired<R: Runtime + AllocGlobal>(rt: &R, frozen: &Frozen) -> Result<()> {
     let alloc = rt.alloc();
     let (answer, _) = ask(alloc, frozen.try_clone()?, &expired(NOW))?;
     if let Answer::Count(count) = answer {
@@ -62,7 +62,7 @@ fn count_expired<R: Runtime + AllocGlobal>(rt: &R, frozen: &Frozen) -> Result<()
     Ok(())
 }
 
-fn filter_live<R: Runtime + AllocGlobal>(rt: &R, frozen: &Frozen) -> Result<(), Fault> {
+fn filter_live<R: Runtime + AllocGlobal>(rt: &R, frozen: &Frozen) -> Result<()> {
     let alloc = rt.alloc();
     let alpha = name(alloc, "alpha")?;
     let (_, made) = ask(alloc, frozen.try_clone()?, &live(NOW, LIVE))?;
@@ -73,7 +73,7 @@ fn filter_live<R: Runtime + AllocGlobal>(rt: &R, frozen: &Frozen) -> Result<(), 
     Ok(())
 }
 
-fn sum_seconds<R: Runtime + AllocGlobal>(rt: &R, frozen: &Frozen) -> Result<(), Fault> {
+fn sum_seconds<R: Runtime + AllocGlobal>(rt: &R, frozen: &Frozen) -> Result<()> {
     let alloc = rt.alloc();
     let (answer, _) = ask(alloc, frozen.try_clone()?, &seconds_left(NOW))?;
     if let Answer::Item(seconds) = answer {

@@ -4,7 +4,6 @@
 #![tactic(auto)]
 
 mod endpoint;
-mod fault;
 mod maps;
 mod tables;
 
@@ -13,8 +12,8 @@ use std::process::ExitCode;
 fn main(rt: HostRuntime) -> ExitCode {
     match maps::tour(&rt).and_then(|()| tables::tour(&rt)) {
         Ok(()) => ExitCode::SUCCESS,
-        Err(fault) => {
-            let _ = rt.eprintln(format_args!("registry: {fault}"));
+        Err(error) => {
+            let _ = rt.eprintln(format_args!("registry: {error}"));
             ExitCode::FAILURE
         }
     }

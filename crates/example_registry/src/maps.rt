@@ -1,7 +1,7 @@
 //! One map, its snapshot and its limit.
 
 use crate::endpoint::{Endpoint, at, name};
-use crate::fault::Fault;
+use anyhow::Result;
 use generation::Source;
 use keys::ByteText;
 use std::rt::Runtime;
@@ -12,13 +12,13 @@ use versions::{Refusal, Version};
 type Registry = Version<ByteText, Endpoint>;
 
 /// What one map does for a registry.
-pub fn tour<R: Runtime + AllocGlobal>(rt: &R) -> Result<(), Fault> {
+pub fn tour<R: Runtime + AllocGlobal>(rt: &R) -> Result<()> {
     snapshot(rt)?;
     limit(rt)
 }
 
 /// Services are put into a registry, one is moved only if nobody moved it before, and a snapshot keeps what it had.
-fn snapshot<R: Runtime + AllocGlobal>(rt: &R) -> Result<(), Fault> {
+fn snapshot<R: Runtime + AllocGlobal>(rt: &R) -> Result<()> {
     let alloc = rt.alloc();
 
     // A registry of at most 1,000 services. The source gives each stamp once, so that no two maps share one.
@@ -37,7 +37,7 @@ fn move_billing<R: Runtime + AllocGlobal>(
     rt: &R,
     registry: &mut Registry,
     snapshot: &Registry,
-) -> Result<(), Fault> {
+) -> Result<()> {
     let alloc = rt.alloc();
 
     // The registry is written on. billing moves only if it is still where it was seen.
@@ -63,7 +63,7 @@ fn move_billing<R: Runtime + AllocGlobal>(
 }
 
 /// A map that is full refuses a new key, and no other.
-fn limit<R: Runtime + AllocGlobal>(rt: &R) -> Result<(), Fault> {
+fn limit<R: Runtime + AllocGlobal>(rt: &R) -> Result<()> {
     let alloc = rt.alloc();
     let mut registry = Version::empty(alloc, 1, Source::new().next())?;
     registry.put(alloc, name(alloc, "mail")?, at(alloc, "10.0.0.6", 25)?)?;
@@ -72,7 +72,7 @@ fn limit<R: Runtime + AllocGlobal>(rt: &R) -> Result<(), Fault> {
     // A refusal is an answer that says why. The map is then as it was.
     match registry.put(alloc, name(alloc, "login")?, at(alloc, "10.0.0.8", 8080)?) {
         Err(Refusal::Full) => rt.println(format_args!("there is no room for login"))?,
-        Err(refusal) => return Err(Fault::Refused(refusal)),
+        Err(refusal) => return Err(refusal.into()),
         Ok(_) => rt.println(format_args!("login was put"))?,
     }
     rt.println(format_args!("services in the small registry: {}", registry.len()))?;

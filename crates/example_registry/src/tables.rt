@@ -1,7 +1,7 @@
 //! Maps under handle numbers, as a server keeps them for its clients.
 
 use crate::endpoint::{Endpoint, at, name};
-use crate::fault::Fault;
+use anyhow::Result;
 use handles::{Command, Limits, Reply, Table};
 use keys::ByteText;
 use std::alloc::Global;
@@ -17,7 +17,7 @@ const AUDIT: u32 = 2;
 type Services = Table<ByteText, Endpoint>;
 
 /// A server's table: each call names the map by its handle, and is one step of a machine of plain maps.
-pub fn tour<R: Runtime + AllocGlobal>(rt: &R) -> Result<(), Fault> {
+pub fn tour<R: Runtime + AllocGlobal>(rt: &R) -> Result<()> {
     let alloc = rt.alloc();
     let limits = Limits {
         pairs: 1_000,
@@ -36,7 +36,7 @@ pub fn tour<R: Runtime + AllocGlobal>(rt: &R) -> Result<(), Fault> {
 }
 
 /// Puts the service, takes a snapshot, and removes the service.
-fn write(alloc: Global, table: &mut Services, billing: &Arc<ByteText>) -> Result<(), Fault> {
+fn write(alloc: Global, table: &mut Services, billing: &Arc<ByteText>) -> Result<()> {
     table.open(alloc, LIVE)?;
     let put = Command::Put(Arc::try_clone(billing)?, at(alloc, "10.0.0.9", 8443)?);
     table.call(alloc, LIVE, put)?;
@@ -51,7 +51,7 @@ fn show<R: Runtime + AllocGlobal>(
     table: &mut Services,
     handle: u32,
     billing: &Arc<ByteText>,
-) -> Result<(), Fault> {
+) -> Result<()> {
     match table.call(rt.alloc(), handle, Command::Get(Arc::try_clone(billing)?))? {
         Reply::Old(Some(at)) => rt.println(format_args!("handle {handle} has billing at {at}"))?,
         _ => rt.println(format_args!("handle {handle} has no billing"))?,
