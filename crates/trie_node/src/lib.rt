@@ -19,15 +19,15 @@ mod removal_outcome;
 
 pub use merging::merged;
 pub use put::{Written, put_where, with_put};
-pub use put_in_place::{Done, put_in, put_in_where};
+pub use put_in_place::{Done, put_in, put_in_where, put_in_where_along};
 pub use removal::{removed_where, with_removed};
-pub use removal_in_place::{remove_in, remove_in_where};
+pub use removal_in_place::{remove_in, remove_in_where, remove_in_where_along};
 
 // What a root is, for the crates above, which write and read by this crate alone.
 pub use trie_shape::{
     Always, Condition, IfAbsent, IfEqual, IfPresent, Look, NoMemory, Node, Stamp,
-    bitmap_counts_children, branch_is_its_children, child, empty_root, find, leaf_is_its_pairs,
-    look, map_determines_root, map_names_nodes, root_has_few_nodes, root_is_map,
+    bitmap_counts_children, branch_is_its_children, child, empty_root, find, find_along,
+    leaf_is_its_pairs, look, map_determines_root, map_names_nodes, root_has_few_nodes, root_is_map,
     root_walks_in_order, size, stamp, trie_follows_digits, union_of_maps, unions_of_maps,
     walk_lists_map, writes_keep_stamps_below,
 };

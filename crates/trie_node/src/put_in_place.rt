@@ -16,7 +16,7 @@ ghost use Rattle.std.specs.declared.cmp.Ordering.TheVariants.{Equal};
 use crate::bucket_in_place::{have_path, put_in_pair, put_in_pairs};
 use crate::condition::holds_of_absent;
 use crate::put::{Entry, Written, put_at};
-use hash_path::PathKey;
+use hash_path::{Path, PathKey};
 use std::alloc::Global;
 use std::cmp::Ordering;
 use std::sync::Arc;
@@ -206,8 +206,33 @@ pub fn put_in_where<K: PathKey + Drop, V: Drop, C: Condition<V>>(
     ensures due { OnErr result ((C.holds condition.now (value_at K.cmp (map_of K.cmp (tree node.old)) key.value) || is_some (value_at K.cmp (map_of K.cmp (tree node.old)) key.value)) ≡ true) }
     ensures err { OnErr result (tree node.new ≡ tree node.old) }
 {
+    let path = key.path();
+    put_in_where_along(alloc, node, key, path, value, stamp, condition)
+}
+
+/// `put_in_where`, where the caller has the key's path word already: the key is not hashed again.
+pub fn put_in_where_along<K: PathKey + Drop, V: Drop, C: Condition<V>>(
+    alloc: Global,
+    node: &mut Node<K, V>,
+    key: Arc<K, Global>,
+    path: Path,
+    value: Arc<V, Global>,
+    stamp: Stamp,
+    condition: &C,
+) -> Result<Done<V>, NoMemory>
+    requires root { IsRoot K.cmp K.path_of (tree node.old) }
+    requires room { length (map_of K.cmp (tree node.old)) < 2 ^ 63 }
+    requires path { path.0 ≡ K.path_of key.value }
+    ensures previous { IfOk result (λ d. option_map arc_value d.previous ≡ value_at K.cmp (map_of K.cmp (tree node.old)) key.value) }
+    ensures written { IfOk result (λ d. d.written ≡ C.holds condition.now (value_at K.cmp (map_of K.cmp (tree node.old)) key.value)) }
+    ensures put { IfOk result (λ d. d.written ≡ true → IsPut K.cmp K.path_of stamp.0 key.value value.value (tree node.old) (tree node.new)) }
+    ensures kept { IfOk result (λ d. d.written ≡ false → tree node.new ≡ tree node.old) }
+    // An error comes only where the condition holds, or where the key is there and its value is to be handed out.
+    ensures due { OnErr result ((C.holds condition.now (value_at K.cmp (map_of K.cmp (tree node.old)) key.value) || is_some (value_at K.cmp (map_of K.cmp (tree node.old)) key.value)) ≡ true) }
+    ensures err { OnErr result (tree node.new ≡ tree node.old) }
+{
     let entry = Entry {
-        path: key.path(),
+        path,
         key,
         value,
         stamp,

@@ -169,7 +169,29 @@ pub fn remove_in_where<K: PathKey + Drop, V: Drop, C: Condition<V>>(
     ensures due { OnErr result (is_some (value_at K.cmp (map_of K.cmp (tree node.old)) key.now) ≡ true) }
     ensures err { OnErr result (tree node.new ≡ tree node.old) }
 {
-    match remove_in_at(alloc, node, key, key.path(), stamp, 0, condition)? {
+    remove_in_where_along(alloc, node, key, key.path(), stamp, condition)
+}
+
+/// `remove_in_where`, where the caller has the key's path word already: the key is not hashed again.
+pub fn remove_in_where_along<K: PathKey + Drop, V: Drop, C: Condition<V>>(
+    alloc: Global,
+    node: &mut Node<K, V>,
+    key: &K,
+    path: Path,
+    stamp: Stamp,
+    condition: &C,
+) -> Result<Done<V>, NoMemory>
+    requires root { IsRoot K.cmp K.path_of (tree node.old) }
+    requires path { path.0 ≡ K.path_of key.now }
+    ensures previous { IfOk result (λ d. option_map arc_value d.previous ≡ value_at K.cmp (map_of K.cmp (tree node.old)) key.now) }
+    ensures written { IfOk result (λ d. d.written ≡ (is_some (value_at K.cmp (map_of K.cmp (tree node.old)) key.now) && C.holds condition.now (value_at K.cmp (map_of K.cmp (tree node.old)) key.now))) }
+    ensures removed { IfOk result (λ d. d.written ≡ true → IsRemoval K.cmp K.path_of stamp.0 key.now (tree node.old) (tree node.new)) }
+    ensures kept { IfOk result (λ d. d.written ≡ false → tree node.new ≡ tree node.old) }
+    // An error comes only where the key is there, and its value is to be handed out.
+    ensures due { OnErr result (is_some (value_at K.cmp (map_of K.cmp (tree node.old)) key.now) ≡ true) }
+    ensures err { OnErr result (tree node.new ≡ tree node.old) }
+{
+    match remove_in_at(alloc, node, key, path, stamp, 0, condition)? {
         RemovedIn::Nothing(previous) => Ok(Done {
             previous,
             written: false,

@@ -14,7 +14,7 @@ use crate::stamps::Stamp;
 
 /// Takes the child at a place, which has the digit, out of a branch. Below the root, an only child
 /// that is left and is a leaf or bucket is handed out, to take the branch's place. For
-/// `trie_node`, which writes nodes.
+/// the crates that write whole roots.
 pub fn lose_child<K: Drop, V: Drop>(
     stamp: &mut Stamp,
     below: &mut Branch<K, V>,
@@ -42,7 +42,7 @@ pub fn lose_child<K: Drop, V: Drop>(
 }
 
 /// Counts a pair out of a branch whose child has lost it. Below the root, an only child that is a
-/// leaf or bucket is handed out, to take the branch's place. For `trie_node`, which writes nodes.
+/// leaf or bucket is handed out, to take the branch's place. For the crates that write whole roots.
 pub fn count_out<K: Drop, V: Drop>(
     stamp: &mut Stamp,
     below: &mut Branch<K, V>,

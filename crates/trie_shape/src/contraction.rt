@@ -26,7 +26,7 @@ pub(crate) fn is_pairs<K, V>(node: &Node<K, V>) -> bool
 }
 
 /// A branch with one child replaced by what is left of it. Below the root, an only child that is a
-/// leaf or bucket takes the branch's place. For `trie_node`, which writes nodes.
+/// leaf or bucket takes the branch's place. For the crates that write whole roots.
 pub fn with_rest<K: Drop, V: Drop>(
     alloc: Global,
     stamp: Stamp,
@@ -75,7 +75,7 @@ fn without_child<K: Drop, V: Drop>(
 
 /// A branch without its child of a digit, which stands at a place. Below the root, an only child
 /// that is left and is a leaf or bucket takes the branch's place: the same node, with the stamp
-/// that it has. For `trie_node`, which writes nodes.
+/// that it has. For the crates that write whole roots.
 pub fn without_rest<K: Drop, V: Drop>(
     alloc: Global,
     stamp: Stamp,

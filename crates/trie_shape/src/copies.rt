@@ -23,7 +23,7 @@ pub(crate) fn push_copies<K: Drop, V: Drop>(
     Ok(())
 }
 
-/// A branch with one child replaced. For `trie_node`, which writes nodes.
+/// A branch with one child replaced. For the crates that write whole roots.
 pub fn with_child<K: Drop, V: Drop>(
     alloc: Global,
     stamp: Stamp,
@@ -43,7 +43,7 @@ pub fn with_child<K: Drop, V: Drop>(
     make_branch(alloc, stamp, size, bitmap, all)
 }
 
-/// A branch with one more child. For `trie_node`, which writes nodes.
+/// A branch with one more child. For the crates that write whole roots.
 pub fn with_more<K: Drop, V: Drop>(
     alloc: Global,
     stamp: Stamp,

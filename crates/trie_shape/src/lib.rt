@@ -2,7 +2,7 @@
 //!
 //! A root is a finite map: `find` reads it. `look`, `child`, `size` and `stamp` show a node from
 //! outside. Which nodes a root has is a function of its pairs, and the laws say what follows from
-//! that. The calls that make nodes are for one crate, `trie_node`, which writes roots.
+//! that. The calls that make and change nodes are for the crates that write whole roots.
 #![tactic(auto)]
 
 mod bitmap;
@@ -30,14 +30,14 @@ pub use looks::Look;
 pub use no_memory::NoMemory;
 pub use node::{Node, empty_root};
 pub use reading::{child, look, size, stamp};
-pub use search::find;
+pub use search::{find, find_along};
 pub use stamps::Stamp;
 pub use union_laws::{union_of_maps, unions_of_maps};
 pub use walk_laws::{
     branch_is_its_children, leaf_is_its_pairs, trie_follows_digits, walk_lists_map,
 };
 
-// For `trie_node` alone, which writes nodes and hands none of these on.
+// For the crates that write whole roots. None of them hands these on.
 pub use bitmap::{has_digit, place};
 pub use branch_in_place::{count_out, lose_child};
 pub use contraction::{with_rest, without_rest};

@@ -36,8 +36,8 @@ pub enum Node<K, V> {
     },
 }
 
-/// What lies behind the pointer of a branch. Its fields are open to `trie_node`, which writes nodes,
-/// and to no crate above it.
+/// What lies behind the pointer of a branch. Its fields are open to the crates that write
+/// whole roots, and to no crate above them.
 #[cycle(node)]
 #[derive(Drop)]
 pub struct Branch<K, V> {
@@ -68,7 +68,7 @@ impl<K: Drop, V: Drop> Node<K, V> {
     }
 }
 
-/// A branch of these children. For `trie_node`, which writes nodes.
+/// A branch of these children. For the crates that write whole roots.
 pub fn make_branch<K: Drop, V: Drop>(
     alloc: Global,
     stamp: Stamp,
@@ -89,7 +89,7 @@ pub fn make_branch<K: Drop, V: Drop>(
     })
 }
 
-/// A leaf of one pair. For `trie_node`, which writes nodes.
+/// A leaf of one pair. For the crates that write whole roots.
 pub fn make_leaf<K, V>(stamp: Stamp, key: Arc<K, Global>, value: Arc<V, Global>) -> Node<K, V>
     ensures { tree result ≡ bucket stamp.0 ((key.value, value.value) ∷ []) }
 {
@@ -99,7 +99,7 @@ pub fn make_leaf<K, V>(stamp: Stamp, key: Arc<K, Global>, value: Arc<V, Global>)
     }
 }
 
-/// A bucket of pairs of one word. For `trie_node`, which writes nodes.
+/// A bucket of pairs of one word. For the crates that write whole roots.
 pub fn make_bucket<K: Drop, V: Drop>(
     alloc: Global,
     stamp: Stamp,

@@ -11,7 +11,7 @@ use std::alloc::Global;
 use std::cmp::Ordering;
 use std::sync::Arc;
 
-/// The value of the key among pairs. For `trie_node`, which writes nodes.
+/// The value of the key among pairs. For the crates that write whole roots.
 pub fn find_pair<'a, K: PathKey, V>(
     pairs: &'a [(Arc<K, Global>, Arc<V, Global>)],
     key: &K,
@@ -26,8 +26,8 @@ pub fn find_pair<'a, K: PathKey, V>(
     None
 }
 
-/// The pairs with the value put at the key, in order. A key that is there stays. For `trie_node`,
-/// which writes nodes.
+/// The pairs with the value put at the key, in order. A key that is there stays. For the
+/// crates that write whole roots.
 pub fn put_pair<K: PathKey + Drop, V: Drop>(
     alloc: Global,
     pairs: &[(Arc<K, Global>, Arc<V, Global>)],

@@ -60,5 +60,18 @@ pub fn find<'a, K: PathKey, V>(node: &'a Node<K, V>, key: &K) -> Option<&'a Arc<
     requires root { IsRoot K.cmp K.path_of (tree node.now) }
     ensures { option_map (λ v. v.now.value) result ≡ value_at K.cmp (map_of K.cmp (tree node.now)) key.now }
 {
-    find_at(node, key, key.path(), 0)
+    find_along(node, key, key.path())
+}
+
+/// `find`, where the caller has the key's path word already: the key is not hashed again.
+pub fn find_along<'a, K: PathKey, V>(
+    node: &'a Node<K, V>,
+    key: &K,
+    path: Path,
+) -> Option<&'a Arc<V, Global>>
+    requires root { IsRoot K.cmp K.path_of (tree node.now) }
+    requires path { path.0 ≡ K.path_of key.now }
+    ensures { option_map (λ v. v.now.value) result ≡ value_at K.cmp (map_of K.cmp (tree node.now)) key.now }
+{
+    find_at(node, key, path, 0)
 }

@@ -9,19 +9,17 @@ ghost use Rattle.versions.specs.Commands.{is_full_for};
 ghost use Rattle.versions.specs.Map.{IsMap, value_at, with_pair, without};
 ghost use Rattle.versions.specs.Puts.{FullExactly};
 
+mod along;
+
 use crate::change::Change;
 use crate::refusal::Refusal;
-use crate::room::WithinRoom;
 use crate::view::View;
 use generation::Source;
 use hash_path::PathKey;
 use std::alloc::Global;
 use std::marker::Model;
 use std::sync::Arc;
-use trie_node::{
-    Always, Condition, NoMemory, Node, Stamp, root_has_few_nodes, root_is_map,
-    writes_keep_stamps_below,
-};
+use trie_node::{Always, Condition, NoMemory, Node, Stamp, root_has_few_nodes, root_is_map};
 
 /// The most pairs that a map may be limited to.
 pub const MOST_PAIRS: u64 = 16_777_216;
@@ -88,7 +86,7 @@ impl<K: PathKey + Drop, V: Drop> Version<K, V> {
     pub fn get(&self, key: &K) -> Option<&Arc<V>>
         ensures { option_map (λ value. value.now.value) result ≡ value_at K.cmp self.now.entries key.now }
     {
-        trie_node::find(&self.root, key)
+        self.get_along(key, key.path())
     }
 
     /// Whether the key has a value. It takes no memory.
@@ -191,24 +189,8 @@ impl<K: PathKey + Drop, V: Drop> Version<K, V> {
         ensures full { FullExactly result (C.holds condition.now None && is_full_for K.cmp self.old.limit self.old.entries key.value) }
         ensures err { OnErr result (self.new ≡ self.old) }
     {
-        writes_keep_stamps_below();
-        let full = self.len() == self.limit;
-        let room = WithinRoom { condition, full };
-        let done = trie_node::put_in_where(alloc, &mut self.root, key, value, self.stamp, &room)?;
-        if done.written {
-            return Ok(Change {
-                previous: done.previous,
-                done: true,
-            });
-        }
-        let found = done.previous.as_ref();
-        if full && found.is_none() && condition.holds(found) {
-            return Err(Refusal::Full);
-        }
-        Ok(Change {
-            previous: done.previous,
-            done: false,
-        })
+        let path = key.path();
+        self.put_where_along(alloc, key, path, value, condition)
     }
 
     /// Removes the key, and answers the value before, or none. It is refused for want of memory alone, and the map
@@ -221,7 +203,7 @@ impl<K: PathKey + Drop, V: Drop> Version<K, V> {
         ensures nodes { OnOk result (RestampsIf (is_some (value_at K.cmp self.old.entries key.now)) self.old.stamp (word_of K.path_of key.now) self.old.nodes self.new.nodes) }
         ensures err { OnErr result (self.new ≡ self.old) }
     {
-        Ok(self.remove_where(alloc, key, &Always)?.previous)
+        self.remove_along(alloc, key, key.path())
     }
 
     /// Removes the key where it is there and the condition holds of its value, and answers the value that it had and
@@ -242,19 +224,7 @@ impl<K: PathKey + Drop, V: Drop> Version<K, V> {
         ensures nodes { IfOk result (λ change. RestampsIf change.done self.old.stamp (word_of K.path_of key.now) self.old.nodes self.new.nodes) }
         ensures err { OnErr result (self.new ≡ self.old) }
     {
-        root_is_map::<K, V>();
-        writes_keep_stamps_below();
-        let done = trie_node::remove_in_where(alloc, &mut self.root, key, self.stamp, condition)?;
-        if done.written {
-            return Ok(Change {
-                previous: done.previous,
-                done: true,
-            });
-        }
-        Ok(Change {
-            previous: done.previous,
-            done: false,
-        })
+        self.remove_where_along(alloc, key, key.path(), condition)
     }
 
     /// Removes all pairs, which leaves one node, with the version's stamp. It is refused for want of memory alone,

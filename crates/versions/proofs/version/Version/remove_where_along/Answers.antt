@@ -5,7 +5,7 @@ use Rattle.trie_shape.specs.Shape.{Restamps, nodes}
 use Rattle.trie_shape.specs.View.{tree}
 use Rattle.versions.specs.Map.{IsMap}
 use Rattle.versions.proofs.Maps.{without_fits}
-use Rattle.versions.proofs.version.Version.remove_where.Goals as goal
+use Rattle.versions.proofs.version.Version.remove_where_along.Goals as goal
 
 pub invariant_of-self-then-done : goal.invariant_of-self-then-done
 invariant_of-self-then-done g c =
@@ -14,7 +14,7 @@ invariant_of-self-then-done g c =
     let key = c.args.key.now in
     let limit = c.self.inside.limit in
     let old = tree c.self.inside.root in
-    let new = tree c.remove_in_where.new.node in
+    let new = tree c.remove_in_where_along.new.node in
     let removal : IsRemoval R path c.self.inside.stamp.0 key old new = c.in_ok-done.ensures.removed c.if-done.true in
     let sorted : IsMap R (map_of R old) = c.root_is_map.ensures.sorted old in
     let fits = without_fits R g.met.K.Ord.total limit (map_of R old) key sorted c.self.invariant.1 in (
@@ -27,5 +27,5 @@ invariant_of-self-then-done g c =
 
 pub returns-then-done-clause-nodes : goal.returns-then-done-clause-nodes
 returns-then-done-clause-nodes g c =
-    let removal : IsRemoval g.K.Ord.cmp g.K.PathKey.path_of c.self.inside.stamp.0 c.args.key.now (tree c.self.inside.root) (tree c.remove_in_where.new.node) = c.in_ok-done.ensures.removed c.if-done.true in
-    subst (λ h. Restamps h.stamp (word_of g.K.PathKey.path_of c.args.key.now) h.nodes (nodes (word_of g.K.PathKey.path_of) (tree c.remove_in_where.new.node))) c.self.view_is removal.stamps
+    let removal : IsRemoval g.K.Ord.cmp g.K.PathKey.path_of c.self.inside.stamp.0 c.args.key.now (tree c.self.inside.root) (tree c.remove_in_where_along.new.node) = c.in_ok-done.ensures.removed c.if-done.true in
+    subst (λ h. Restamps h.stamp (word_of g.K.PathKey.path_of c.args.key.now) h.nodes (nodes (word_of g.K.PathKey.path_of) (tree c.remove_in_where_along.new.node))) c.self.view_is removal.stamps

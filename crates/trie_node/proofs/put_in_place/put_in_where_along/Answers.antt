@@ -5,7 +5,7 @@ use Rattle.trie_shape.specs.View.{tree}
 use Rattle.trie_shape.proofs.Roots.{find_entries, root_is_trie, length_map_of}
 use Rattle.trie_node.proofs.RootWrites.{write_puts}
 use Rattle.trie_shape.proofs.Views.{on_ok}
-use Rattle.trie_node.proofs.put_in_place.put_in_where.Goals as goal
+use Rattle.trie_node.proofs.put_in_place.put_in_where_along.Goals as goal
 
 pub put_in_at-requires : goal.put_in_at-requires
 put_in_at-requires g c =
@@ -15,7 +15,7 @@ put_in_at-requires g c =
     let trie = root_is_trie R path g.met.K.Ord.total g.met.K.PathKey.exact g.met.K.PathKey.small t c.requires.root in
     record {
       trie = trie;
-      path = c.path.ensures ∙ ap path c.deref.ensures;
+      path = c.requires.path;
       agree = λ q found. omega arith;
       room = omega (arith, length_map_of R path g.met.K.Ord.total g.met.K.PathKey.exact g.met.K.PathKey.small t trie, c.requires.room);
     }

@@ -4,7 +4,7 @@ use Rattle.trie_node.specs.RemovalInPlace.{TakesOut}
 use Rattle.trie_shape.proofs.Roots.{find_entries, root_is_trie}
 use Rattle.trie_node.proofs.RootWrites.{write_removes}
 use Rattle.trie_node.proofs.Standing.{at_err}
-use Rattle.trie_node.proofs.removal_in_place.remove_in_where.Goals as goal
+use Rattle.trie_node.proofs.removal_in_place.remove_in_where_along.Goals as goal
 
 pub remove_in_at-requires-clause-trie : goal.remove_in_at-requires-clause-trie
 remove_in_at-requires-clause-trie g c = root_is_trie g.K.Ord.cmp g.K.PathKey.path_of g.met.K.Ord.total g.met.K.PathKey.exact g.met.K.PathKey.small (tree c.args.node.now) c.requires.root

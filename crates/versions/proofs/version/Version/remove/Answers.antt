@@ -1,7 +1,0 @@
-use Rattle.versions.proofs.Maps.{without_if_there}
-use Rattle.versions.proofs.version.Version.remove.Goals as goal
-
-pub returns-clause-entries : goal.returns-clause-entries
-returns-clause-entries g c =
-    let ensured = c.in_ok-remove_where.ensures in
-    without_if_there g.K.Ord.cmp c.args.self.now.entries c.remove_where.new.self.entries c.args.key.now c.in_ok-remove_where.field-0.done ensured.done ensured.entries

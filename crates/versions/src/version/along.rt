@@ -1,0 +1,118 @@
+//! Calls of a map where the caller has the key's path word already.
+ghost use Rattle.std.specs.Prelude.{◌≡◌, ◌&&◌, is_some, if◌then◌else◌, None, option_map, IfOk, OnOk, OnErr};
+ghost use Rattle.std.specs.Arc.{arc_value};
+ghost use Rattle.trie_shape.specs.Roots.{word_of};
+ghost use Rattle.versions.specs.Changes.{RestampsIf};
+ghost use Rattle.versions.specs.Commands.{is_full_for};
+ghost use Rattle.versions.specs.Map.{value_at, with_pair, without};
+ghost use Rattle.versions.specs.Puts.{FullExactly};
+
+use super::Version;
+use crate::change::Change;
+use crate::refusal::Refusal;
+use crate::room::WithinRoom;
+use hash_path::{Path, PathKey};
+use std::alloc::Global;
+use std::sync::Arc;
+use trie_node::{Always, Condition, NoMemory, root_is_map, writes_keep_stamps_below};
+
+impl<K: PathKey + Drop, V: Drop> Version<K, V> {
+    /// `get`, where the caller has the key's path word already: the key is not hashed again.
+    pub fn get_along(&self, key: &K, path: Path) -> Option<&Arc<V>>
+        requires { path.0 ≡ K.path_of key.now }
+        ensures { option_map (λ value. value.now.value) result ≡ value_at K.cmp self.now.entries key.now }
+    {
+        trie_node::find_along(&self.root, key, path)
+    }
+
+    /// `put_where`, where the caller has the key's path word already: the key is not hashed again.
+    pub fn put_where_along<C: Condition<V>>(
+        &mut self,
+        alloc: Global,
+        key: Arc<K>,
+        path: Path,
+        value: Arc<V>,
+        condition: &C,
+    ) -> Result<Change<V>, Refusal>
+        requires { path.0 ≡ K.path_of key.value }
+        ensures before { IfOk result (λ change. option_map arc_value change.previous ≡ value_at K.cmp self.old.entries key.value) }
+        ensures done { IfOk result (λ change. change.done ≡ C.holds condition.now (value_at K.cmp self.old.entries key.value)) }
+        ensures entries { IfOk result (λ change. self.new.entries ≡ (if change.done then with_pair K.cmp self.old.entries key.value value.value else self.old.entries)) }
+        ensures limit { self.new.limit ≡ self.old.limit }
+        ensures stamp { self.new.stamp ≡ self.old.stamp }
+        ensures nodes { IfOk result (λ change. RestampsIf change.done self.old.stamp (word_of K.path_of key.value) self.old.nodes self.new.nodes) }
+        ensures full { FullExactly result (C.holds condition.now None && is_full_for K.cmp self.old.limit self.old.entries key.value) }
+        ensures err { OnErr result (self.new ≡ self.old) }
+    {
+        writes_keep_stamps_below();
+        let full = self.len() == self.limit;
+        let room = WithinRoom { condition, full };
+        let root = &mut self.root;
+        let done = trie_node::put_in_where_along(alloc, root, key, path, value, self.stamp, &room)?;
+        if done.written {
+            return Ok(Change {
+                previous: done.previous,
+                done: true,
+            });
+        }
+        let found = done.previous.as_ref();
+        if full && found.is_none() && condition.holds(found) {
+            return Err(Refusal::Full);
+        }
+        Ok(Change {
+            previous: done.previous,
+            done: false,
+        })
+    }
+
+    /// `remove`, where the caller has the key's path word already: the key is not hashed again.
+    pub fn remove_along(
+        &mut self,
+        alloc: Global,
+        key: &K,
+        path: Path,
+    ) -> Result<Option<Arc<V>>, NoMemory>
+        requires { path.0 ≡ K.path_of key.now }
+        ensures before { IfOk result (λ before. option_map arc_value before ≡ value_at K.cmp self.old.entries key.now) }
+        ensures entries { OnOk result (self.new.entries ≡ without K.cmp self.old.entries key.now) }
+        ensures limit { self.new.limit ≡ self.old.limit }
+        ensures stamp { self.new.stamp ≡ self.old.stamp }
+        ensures nodes { OnOk result (RestampsIf (is_some (value_at K.cmp self.old.entries key.now)) self.old.stamp (word_of K.path_of key.now) self.old.nodes self.new.nodes) }
+        ensures err { OnErr result (self.new ≡ self.old) }
+    {
+        Ok(self.remove_where_along(alloc, key, path, &Always)?.previous)
+    }
+
+    /// `remove_where`, where the caller has the key's path word already: the key is not hashed again.
+    pub fn remove_where_along<C: Condition<V>>(
+        &mut self,
+        alloc: Global,
+        key: &K,
+        path: Path,
+        condition: &C,
+    ) -> Result<Change<V>, NoMemory>
+        requires { path.0 ≡ K.path_of key.now }
+        ensures before { IfOk result (λ change. option_map arc_value change.previous ≡ value_at K.cmp self.old.entries key.now) }
+        ensures done { IfOk result (λ change. change.done ≡ (is_some (value_at K.cmp self.old.entries key.now) && C.holds condition.now (value_at K.cmp self.old.entries key.now))) }
+        ensures entries { IfOk result (λ change. self.new.entries ≡ (if change.done then without K.cmp self.old.entries key.now else self.old.entries)) }
+        ensures limit { self.new.limit ≡ self.old.limit }
+        ensures stamp { self.new.stamp ≡ self.old.stamp }
+        ensures nodes { IfOk result (λ change. RestampsIf change.done self.old.stamp (word_of K.path_of key.now) self.old.nodes self.new.nodes) }
+        ensures err { OnErr result (self.new ≡ self.old) }
+    {
+        root_is_map::<K, V>();
+        writes_keep_stamps_below();
+        let root = &mut self.root;
+        let done = trie_node::remove_in_where_along(alloc, root, key, path, self.stamp, condition)?;
+        if done.written {
+            return Ok(Change {
+                previous: done.previous,
+                done: true,
+            });
+        }
+        Ok(Change {
+            previous: done.previous,
+            done: false,
+        })
+    }
+}
