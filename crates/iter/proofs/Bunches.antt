@@ -1,12 +1,16 @@
 -- Pairs that are taken from a trie many at a time.
-use Rattle.std.proofs.Common.{◌≡◌, ℕ, ◌+◌, ◌<◌, ◌==◌, Bool, true, List, [], ◌∷◌, ◌++◌, Option, Some, None, All, IsSome, length, map, drop, get_or, refl, ap, ◌∙◌, sym, arith, length-append}
+use Rattle.std.proofs.Common.{◌≡◌, ℕ, ◌+◌, ◌<◌, ◌≤◌, ◌==◌, Bool, true, List, [], ◌∷◌, ◌++◌, Option, Some, None, All, IsSome, length, map, take, drop, get_or, refl, ap, ◌∙◌, sym, arith, length-append}
 use Rattle.std.proofs.lemmas.Bool.{eqb-true}
 use Rattle.std.proofs.lemmas.List.{append_assoc, drop_more, length-map, map-append, nil_from_length}
 use Rattle.std.proofs.lemmas.List.Elements.{All-nil, All-cons}
+use Rattle.std.proofs.lemmas.List.Folds.{length-flat_map-take}
 use Rattle.std.specs.declared.sync.Arc.{Arc}
 use Rattle.std.specs.declared.alloc.Global.{Global}
+use Rattle.trie_shape.specs.Outline.{children}
+use Rattle.trie_shape.specs.Tree.{Tree, entries}
 use Rattle.trie_shape.specs.View.{pair_values}
 use Rattle.iter.specs.Bunches.{held, pairs_held}
+use Rattle.iter.specs.Subtries.{pairs_of_all}
 use denote.Ref.{Bor}
 
 -- a place of a bunch
@@ -37,6 +41,14 @@ module _ {K V : Type 0} where
   pub poured_count : (new old : List (Place K V)) (ps : List (K × V)) → map held new ≡ map held old ++ map Some ps → length new ≡ length old + length ps
   poured_count new old ps e =
       omega (arith, ap length e, length-map new held, length-append (map held old) (map Some ps), length-map old held, length-map ps Some)
+
+  -- the children of a branch up to a number, and the one there, take no more places than the branch has pairs
+  pub room_for_child : (whole child : Tree K V) (n : ℕ) (new old : List (Place K V)) → n < length (children whole) → child ≡ get_or (children whole) n child → entries whole ≡ pairs_of_all (children whole)
+      → map held new ≡ map held old ++ map Some (pairs_of_all (take n (children whole))) → length new + length (entries child) ≤ length old + length (entries whole)
+  room_for_child whole child n new old below at all e =
+      let poured = poured_count new old (pairs_of_all (take n (children whole))) e in
+      let part = length-flat_map-take entries (children whole) n child below in
+      omega (arith, poured, part, ap (λ u. length (entries u)) at, ap length all)
 
   -- the pair at a number is the next of those from there on
   pub next_held : (places : List (Place K V)) (i : ℕ) (place : Place K V) (x : Bor (Arc K Global × Arc V Global)) → i < length places → place ≡ get_or places i place → place ≡ Some x

@@ -4,6 +4,7 @@
 mod ahead;
 mod bunched;
 mod children;
+mod fetching;
 mod interval;
 mod laws;
 mod pouring;

@@ -21,7 +21,7 @@ pub(crate) const MOST_OF_BUNCH: usize = 256;
 /// places hold options, since each place has to hold something from the start.
 pub(crate) type Bunch<'a, K, V> = ArrayVec<Option<&'a (Arc<K>, Arc<V>)>, MOST_OF_BUNCH>;
 
-/// Appends the pairs of a node.
+/// Appends the pairs of a node. A leaf among its children takes no call of this.
 pub(crate) fn pour<'a, K, V>(node: &'a Node<K, V>, bunch: &mut Bunch<'a, K, V>)
     requires fits { Fits (tree node.now) }
     requires room { array_vec_len bunch.old + length (entries (tree node.now)) ≤ MOST_OF_BUNCH }
@@ -35,8 +35,13 @@ pub(crate) fn pour<'a, K, V>(node: &'a Node<K, V>, bunch: &mut Bunch<'a, K, V>)
         Look::Branch(bitmap) => {
             bitmap_counts_children::<K, V>();
             branch_is_its_children::<K, V>();
+            leaf_is_its_pairs::<K, V>();
             for n in 0..bitmap.count_ones() {
-                pour(child(node, n), bunch);
+                let below = child(node, n);
+                match look(below) {
+                    Look::Pairs(pairs) => pour_pairs(pairs, bunch),
+                    Look::Branch(_) => pour(below, bunch),
+                }
             }
         }
     }

@@ -5,6 +5,7 @@ ghost use Rattle.iter.specs.Bunches.{pairs_held, unpoured};
 ghost use Rattle.iter.specs.Stacks.{IsSound};
 
 use crate::ahead::{Ahead, Stop};
+use crate::fetching::fetch_below;
 use crate::pouring::{Bunch, MOST_OF_BUNCH, pour, pour_pairs};
 use hash_path::PathKey;
 use std::sync::Arc;
@@ -29,7 +30,10 @@ impl<'a, K: PathKey, V> Unpoured<'a, K, V> {
         if self.bucket.is_empty() {
             match self.ahead.next_few(MOST_OF_BUNCH as u64) {
                 None => return,
-                Some(Stop::Few(node)) => return pour(node, bunch),
+                Some(Stop::Few(node)) => {
+                    fetch_below(node);
+                    return pour(node, bunch);
+                }
                 Some(Stop::Bucket(pairs)) => self.bucket = pairs,
             }
         }
