@@ -1,13 +1,16 @@
 //! Operations on whole maps that are put together from parts.
-ghost use Rattle.std.specs.Prelude.{◌≡◌, ◌↔◌, ◌∷◌, [], IfOk, OnErr, OnOk, true};
+ghost use Rattle.std.specs.Prelude.{◌≡◌, ◌↔◌, ◌≤◌, ◌∷◌, [], length, IfOk, IfSome, OnErr, OnOk, true};
 ghost use Rattle.combiner.specs.Bulks.{CanAdd, CanJoin, IsAdded, IsJoined};
 ghost use Rattle.combiner.specs.Unions.{IsWithin};
+ghost use Rattle.trie_shape.specs.Roots.{IsRoot, map_of};
+ghost use Rattle.trie_shape.specs.View.{tree};
 ghost use Rattle.versions.specs.Map.{Map};
+ghost use Rattle.versions.specs.declared.version.TheConstants.{MOST_PAIRS};
 
 use hash_path::PathKey;
 use std::alloc::Global;
 use std::sync::Arc;
-use trie_node::NoMemory;
+use trie_node::{NoMemory, Node};
 
 /// An operation on a whole map whose parts may be worked apart and joined in any order.
 ///
@@ -63,5 +66,26 @@ pub trait Bulk<K: PathKey, V> {
         let one = self.one(alloc, key, value)?;
         *part = self.join(alloc, &one, part)?;
         Ok(())
+    }
+
+    /// Whether `of_root` may have a part, so that it is worth a root of the pairs to ask it.
+    fn by_shape(&self) -> bool {
+        false
+    }
+
+    /// The part of all pairs of a root, where the operation makes one from the shape of the trie.
+    ///
+    /// It means what `unit` and then an `add` for each pair do. Write it, and `by_shape` beside it, where the part
+    /// follows the nodes of the trie, as a map with the same keys does: it is then made branch by branch, with no way
+    /// down from the root for each pair. An operation that looks at pair after pair has no use for it.
+    fn of_root(&self, alloc: Global, root: &Node<K, V>) -> Result<Option<Self::Part>, NoMemory>
+        requires ready { ready self.now }
+        requires root { IsRoot K.cmp K.path_of (tree root.now) }
+        requires few { length (map_of K.cmp (tree root.now)) ≤ MOST_PAIRS }
+        ensures { IfOk result (λ made. IfSome made (λ part. answers self.now (map_of K.cmp (tree root.now)) part)) }
+    {
+        let _ = alloc;
+        let _ = root;
+        Ok(None)
     }
 }
