@@ -8,5 +8,6 @@ pub mod Settled
 pub mod Concluded
 pub mod Lent
 pub mod Works
+pub mod Shaped
 pub mod Permutations
 pub mod Whole

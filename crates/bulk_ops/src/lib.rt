@@ -11,6 +11,7 @@ mod closure;
 mod laws;
 mod part;
 mod query;
+mod shaping;
 mod stored;
 mod walking;
 mod working;

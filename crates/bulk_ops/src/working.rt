@@ -7,11 +7,12 @@ ghost use Rattle.bulk_ops.specs.Queries.{is_settled};
 use crate::closure::PairFn;
 use crate::part::{Pair, Part, no_pairs};
 use crate::query::Query;
+use crate::shaping::changed;
 use combiner::{Bulk, Monoid, merge};
 use hash_path::PathKey;
 use std::alloc::Global;
 use std::sync::Arc;
-use trie_node::NoMemory;
+use trie_node::{NoMemory, Node};
 
 impl<
     K: PathKey + Drop,
@@ -127,6 +128,21 @@ impl<
                 *part = Part::Item(folded);
                 Ok(())
             }
+        }
+    }
+
+    fn by_shape(&self) -> bool {
+        matches!(self, Query::MapValues(_, _))
+    }
+
+    fn of_root(
+        &self,
+        alloc: Global,
+        root: &Node<K, V>,
+    ) -> Result<Option<Part<K, V, M::Item>>, NoMemory> {
+        match self {
+            Query::MapValues(change, _) => Ok(Some(Part::Made(changed(alloc, root, change)?))),
+            _ => Ok(None),
         }
     }
 }

@@ -7,7 +7,7 @@ use Rattle.versions.specs.declared.version.TheConstants.{MOST_PAIRS}
 use Rattle.bulk_ops.proofs.PartKinds.{passing_le}
 use Rattle.bulk_ops.proofs.Unions.{sorted_passing, true_of, truth_of}
 use Rattle.bulk_ops.proofs.Works.{Working, begun, can_add, worked, worked_within}
-use Rattle.bulk_ops.proofs.walking.work.Goals as goal
+use Rattle.bulk_ops.proofs.walking.work_pairs.Goals as goal
 
 -- the walk lists the map of the piece
 pub loop-key-init : goal.loop-key-init

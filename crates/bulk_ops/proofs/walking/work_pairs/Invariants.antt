@@ -1,6 +1,6 @@
 use Rattle.iter.specs.Intervals.{part}
 use Rattle.bulk_ops.proofs.Works.{Working}
-use Rattle.bulk_ops.proofs.walking.work.Given as goal
+use Rattle.bulk_ops.proofs.walking.work_pairs.Given as goal
 
 -- the part answers the pairs so far
 abbrev pub invariant-loop-key : goal.invariant-loop-key
