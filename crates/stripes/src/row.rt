@@ -1,15 +1,14 @@
 //! The locks of a map.
 ghost use Rattle.std.specs.Prelude.{◌≡◌, ◌<◌, ◌≤◌, ◌*◌, ◌-◌, ◌++◌, ◌∷◌, [], IfOk, length, map};
 ghost use Rattle.std.specs.Sync.Mutex.{mutex_guard_value};
-ghost use Rattle.hash_path.specs.Digits.{fan_out};
-ghost use Rattle.stripes.specs.Rules.{first_digit};
+ghost use Rattle.hash_path.specs.Digits.{digit, fan_out};
 ghost use Rattle.stripes.specs.Stripes.{digits_of, up_to};
 
 use crate::blank::Blank;
 use crate::keeps::Keeps;
 use crate::stripe::{MOST_PAIRS_OF_STRIPE, STRIPES, Stripe};
 use crossbeam_utils::CachePadded;
-use hash_path::PathKey;
+use hash_path::{Path, PathKey};
 use std::alloc::Global;
 use std::sync::{Mutex, MutexGuard, Wait};
 use trie_node::NoMemory;
@@ -59,11 +58,11 @@ impl<K: PathKey + Drop, V: Drop, P: Keeps<K, V>> Row<K, V, P> {
         unreachable!()
     }
 
-    /// The stripe of the key.
-    pub fn stripe_of<R: Wait>(&self, rt: &R, key: &K) -> MutexGuard<'_, Stripe<K, V, P>>
-        ensures { (mutex_guard_value result).digit ≡ first_digit K.path_of key.now }
+    /// The stripe of the keys that have this path word.
+    pub fn stripe_at<R: Wait>(&self, rt: &R, path: Path) -> MutexGuard<'_, Stripe<K, V, P>>
+        ensures { (mutex_guard_value result).digit ≡ digit path.0 0 }
     {
-        self.locked(rt, key.path().digit(0))
+        self.locked(rt, path.digit(0))
     }
 
     /// All stripes, in the order of their digits. Each is taken once those before it are held.

@@ -11,7 +11,7 @@ mod deciding;
 
 use crate::blank::Blank;
 use crate::keeps::{Anything, Keeps};
-use hash_path::{FAN_OUT, PathKey};
+use hash_path::{FAN_OUT, Path, PathKey};
 use std::alloc::Global;
 use std::marker::{Model, PhantomData};
 use std::sync::Arc;
@@ -25,6 +25,8 @@ pub const STRIPES: u32 = FAN_OUT;
 pub const MOST_PAIRS_OF_STRIPE: u64 = 524_288;
 
 /// The pairs of a map whose keys' path words have one first digit. Each pair keeps the rule.
+///
+/// A call on a key is given the key's path word, which told its stripe: the key is hashed once.
 #[derive(Drop)]
 pub struct Stripe<K: PathKey, V, P: Keeps<K, V> = Anything> {
     version: Version<K, V>,
@@ -64,12 +66,13 @@ impl<K: PathKey + Drop, V: Drop, P: Keeps<K, V>> Stripe<K, V, P> {
     }
 
     /// The value of the key, or none.
-    pub fn get(&self, key: &K) -> Option<&Arc<V>>
-        requires { digit_of K.path_of key.now ≡ self.now.digit }
+    pub fn get(&self, key: &K, path: Path) -> Option<&Arc<V>>
+        requires path { path.0 ≡ K.path_of key.now }
+        requires place { digit_of K.path_of key.now ≡ self.now.digit }
         ensures value { option_map (λ value. value.now.value) result ≡ value_at K.cmp self.now.entries key.now }
         ensures kept { IfSome result (λ value. P.holds key.now value.now.value) }
     {
-        self.version.get(key)
+        self.version.get_along(key, path)
     }
 
     /// How many pairs there are.
@@ -89,10 +92,12 @@ impl<K: PathKey + Drop, V: Drop, P: Keeps<K, V>> Stripe<K, V, P> {
         &mut self,
         alloc: Global,
         key: Arc<K>,
+        path: Path,
         value: Arc<V>,
         condition: &C,
     ) -> Result<Change<V>, Refusal>
         requires rule { P.holds key.value value.value }
+        requires path { path.0 ≡ K.path_of key.value }
         requires place { digit_of K.path_of key.value ≡ self.old.digit }
         ensures before { IfOk result (λ change. option_map arc_value change.previous ≡ value_at K.cmp self.old.entries key.value) }
         ensures done { IfOk result (λ change. change.done ≡ C.holds condition.now (value_at K.cmp self.old.entries key.value)) }
@@ -103,7 +108,9 @@ impl<K: PathKey + Drop, V: Drop, P: Keeps<K, V>> Stripe<K, V, P> {
         ensures kept { IfOk result (λ change. IfSome change.previous (λ value. P.holds key.value value.value)) }
     {
         law_of_put::<K, V>();
-        let change = self.version.put_where(alloc, key, value, condition)?;
+        let change = self
+            .version
+            .put_where_along(alloc, key, path, value, condition)?;
         Ok(change)
     }
 
@@ -115,9 +122,11 @@ impl<K: PathKey + Drop, V: Drop, P: Keeps<K, V>> Stripe<K, V, P> {
         &mut self,
         alloc: Global,
         key: &K,
+        path: Path,
         condition: &C,
     ) -> Result<Change<V>, NoMemory>
-        requires { digit_of K.path_of key.now ≡ self.old.digit }
+        requires path { path.0 ≡ K.path_of key.now }
+        requires place { digit_of K.path_of key.now ≡ self.old.digit }
         ensures before { IfOk result (λ change. option_map arc_value change.previous ≡ value_at K.cmp self.old.entries key.now) }
         ensures done { IfOk result (λ change. change.done ≡ (is_some (value_at K.cmp self.old.entries key.now) && C.holds condition.now (value_at K.cmp self.old.entries key.now))) }
         ensures entries { IfOk result (λ change. self.new.entries ≡ (if change.done then without K.cmp self.old.entries key.now else self.old.entries)) }
@@ -126,7 +135,9 @@ impl<K: PathKey + Drop, V: Drop, P: Keeps<K, V>> Stripe<K, V, P> {
         ensures kept { IfOk result (λ change. IfSome change.previous (λ value. P.holds key.now value.value)) }
     {
         law_of_removal::<K, V>();
-        let change = self.version.remove_where(alloc, key, condition)?;
+        let change = self
+            .version
+            .remove_where_along(alloc, key, path, condition)?;
         Ok(change)
     }
 
@@ -136,9 +147,11 @@ impl<K: PathKey + Drop, V: Drop, P: Keeps<K, V>> Stripe<K, V, P> {
         &mut self,
         alloc: Global,
         key: Arc<K>,
+        path: Path,
         value: Arc<V>,
     ) -> Result<Option<Arc<V>>, Refusal>
         requires rule { P.holds key.value value.value }
+        requires path { path.0 ≡ K.path_of key.value }
         requires place { digit_of K.path_of key.value ≡ self.old.digit }
         ensures before { IfOk result (λ before. option_map arc_value before ≡ value_at K.cmp self.old.entries key.value) }
         ensures entries { OnOk result (self.new.entries ≡ with_pair K.cmp self.old.entries key.value value.value) }
@@ -147,13 +160,14 @@ impl<K: PathKey + Drop, V: Drop, P: Keeps<K, V>> Stripe<K, V, P> {
         ensures err { OnErr result (self.new ≡ self.old) }
         ensures kept { IfOk result (λ before. IfSome before (λ value. P.holds key.value value.value)) }
     {
-        Ok(self.put_where(alloc, key, value, &Always)?.previous)
+        Ok(self.put_where(alloc, key, path, value, &Always)?.previous)
     }
 
     /// Removes the key, and answers the value before, or none. It is refused for want of memory alone, and the stripe
     /// is then as before.
-    pub fn remove(&mut self, alloc: Global, key: &K) -> Result<Option<Arc<V>>, NoMemory>
-        requires { digit_of K.path_of key.now ≡ self.old.digit }
+    pub fn remove(&mut self, alloc: Global, key: &K, path: Path) -> Result<Option<Arc<V>>, NoMemory>
+        requires path { path.0 ≡ K.path_of key.now }
+        requires place { digit_of K.path_of key.now ≡ self.old.digit }
         ensures before { IfOk result (λ before. option_map arc_value before ≡ value_at K.cmp self.old.entries key.now) }
         ensures entries { OnOk result (self.new.entries ≡ without K.cmp self.old.entries key.now) }
         ensures digit { self.new.digit ≡ self.old.digit }
@@ -161,7 +175,7 @@ impl<K: PathKey + Drop, V: Drop, P: Keeps<K, V>> Stripe<K, V, P> {
         ensures kept { IfOk result (λ before. IfSome before (λ value. P.holds key.now value.value)) }
     {
         law_of_removal::<K, V>();
-        let before = self.version.remove(alloc, key)?;
+        let before = self.version.remove_along(alloc, key, path)?;
         Ok(before)
     }
 

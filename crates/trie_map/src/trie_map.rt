@@ -12,7 +12,7 @@ mod retaining;
 use crate::origin::{Origin, found_or_made};
 use crate::put_error::PutError;
 use crate::view::View;
-use hash_path::PathKey;
+use hash_path::{Path, PathKey};
 use std::alloc::Global;
 use std::sync::{Arc, Wait};
 use stripes::{Anything, Keeps, Row, Stripe, blanks, clear_all, empties, forks, joined};
@@ -73,18 +73,15 @@ impl<K: PathKey + Drop, V: Drop, P: Keeps<K, V>> TrieMap<K, V, P> {
     pub fn get<R: Wait>(&self, rt: &R, key: &K) -> Result<Option<Arc<V>>, NoMemory>
         ensures kept { IfOk result (λ found. IfSome found (λ value. P.holds key.now value.value)) }
     {
-        let stripe = self.row.stripe_of(rt, key);
-        match stripe.get(key) {
-            Some(value) => Ok(Some(Arc::try_clone(value)?)),
-            None => Ok(None),
-        }
+        self.found(rt, key, key.path())
     }
 
     /// Whether the key has a value. It takes no memory.
     pub fn contains_key<R: Wait>(&self, rt: &R, key: &K) -> bool
         ensures kept { IsTrue result → (value : V) × P.holds key.now value }
     {
-        self.row.stripe_of(rt, key).get(key).is_some()
+        let path = key.path();
+        self.row.stripe_at(rt, path).get(key, path).is_some()
     }
 
     /// How many pairs there are at one moment of the call, when all stripes are held: each is taken, in rising order of
@@ -108,9 +105,10 @@ impl<K: PathKey + Drop, V: Drop, P: Keeps<K, V>> TrieMap<K, V, P> {
         requires { P.holds key value }
         ensures kept { IfOk result (λ before. IfSome before (λ found. P.holds key found.value)) }
     {
+        let path = key.path();
         let key = Arc::new(self.alloc, key)?;
         let value = Arc::new(self.alloc, value)?;
-        Ok(self.write(rt, key, value, &Always)?.previous)
+        Ok(self.write(rt, key, path, value, &Always)?.previous)
     }
 
     /// Maps the key to the value where the key is absent, and answers the value before, or none.
@@ -125,9 +123,10 @@ impl<K: PathKey + Drop, V: Drop, P: Keeps<K, V>> TrieMap<K, V, P> {
         requires { P.holds key value }
         ensures kept { IfOk result (λ before. IfSome before (λ found. P.holds key found.value)) }
     {
+        let path = key.path();
         let key = Arc::new(self.alloc, key)?;
         let value = Arc::new(self.alloc, value)?;
-        Ok(self.write(rt, key, value, &IfAbsent)?.previous)
+        Ok(self.write(rt, key, path, value, &IfAbsent)?.previous)
     }
 
     /// Maps the key to the value where the key is present, and answers the value before, or none.
@@ -137,9 +136,13 @@ impl<K: PathKey + Drop, V: Drop, P: Keeps<K, V>> TrieMap<K, V, P> {
         requires { P.holds key value }
         ensures kept { IfOk result (λ before. IfSome before (λ found. P.holds key found.value)) }
     {
+        let path = key.path();
         let key = Arc::new(self.alloc, key)?;
         let value = Arc::new(self.alloc, value)?;
-        Ok(self.write_present(rt, key, value, &IfPresent)?.previous)
+        Ok(
+            self.write_present(rt, key, path, value, &IfPresent)?
+                .previous,
+        )
     }
 
     /// Removes the key, and answers the value before, or none. It is refused for want of memory alone.
@@ -164,13 +167,14 @@ impl<K: PathKey + Drop, V: Drop, P: Keeps<K, V>> TrieMap<K, V, P> {
         requires rule { (value : V) → F.post make value → P.holds key value }
         ensures kept { IfOk result (λ value. P.holds key value.value) }
     {
-        let made = match found_or_made(self.get(rt, &key)?, make) {
+        let path = key.path();
+        let made = match found_or_made(self.found(rt, &key, path)?, make) {
             Origin::Found(found) => return Ok(found),
             Origin::Made(made) => Arc::new(self.alloc, made)?,
         };
         let answer = Arc::try_clone(&made)?;
         let key = Arc::new(self.alloc, key)?;
-        match self.write(rt, key, made, &IfAbsent)?.previous {
+        match self.write(rt, key, path, made, &IfAbsent)?.previous {
             Some(found) => Ok(found),
             None => Ok(answer),
         }
@@ -222,19 +226,33 @@ impl<K: PathKey + Drop, V: Drop, P: Keeps<K, V>> TrieMap<K, V, P> {
         })
     }
 
+    // The value of the key, or none.
+    fn found<R: Wait>(&self, rt: &R, key: &K, path: Path) -> Result<Option<Arc<V>>, NoMemory>
+        requires { path.0 ≡ K.path_of key.now }
+        ensures kept { IfOk result (λ found. IfSome found (λ value. P.holds key.now value.value)) }
+    {
+        let stripe = self.row.stripe_at(rt, path);
+        match stripe.get(key, path) {
+            Some(value) => Ok(Some(Arc::try_clone(value)?)),
+            None => Ok(None),
+        }
+    }
+
     // A write of a pair that keeps the rule, where the condition holds.
     fn write<R: Wait, C: Condition<V>>(
         &self,
         rt: &R,
         key: Arc<K>,
+        path: Path,
         value: Arc<V>,
         condition: &C,
     ) -> Result<Change<V>, PutError>
-        requires { P.holds key.value value.value }
+        requires rule { P.holds key.value value.value }
+        requires path { path.0 ≡ K.path_of key.value }
         ensures kept { IfOk result (λ change. IfSome change.previous (λ found. P.holds key.value found.value)) }
     {
-        let mut stripe = self.row.stripe_of(rt, &key);
-        match stripe.put_where(self.alloc, key, value, condition) {
+        let mut stripe = self.row.stripe_at(rt, path);
+        match stripe.put_where(self.alloc, key, path, value, condition) {
             Ok(change) => Ok(change),
             Err(refusal) => Err(PutError::of(refusal)),
         }
@@ -246,15 +264,17 @@ impl<K: PathKey + Drop, V: Drop, P: Keeps<K, V>> TrieMap<K, V, P> {
         &self,
         rt: &R,
         key: Arc<K>,
+        path: Path,
         value: Arc<V>,
         condition: &C,
     ) -> Result<Change<V>, NoMemory>
         requires rule { P.holds key.value value.value }
+        requires path { path.0 ≡ K.path_of key.value }
         requires present { C.holds condition.now None ≡ false }
         ensures kept { IfOk result (λ change. IfSome change.previous (λ found. P.holds key.value found.value)) }
     {
-        let mut stripe = self.row.stripe_of(rt, &key);
-        match stripe.put_where(self.alloc, key, value, condition) {
+        let mut stripe = self.row.stripe_at(rt, path);
+        match stripe.put_where(self.alloc, key, path, value, condition) {
             Ok(change) => Ok(change),
             Err(Refusal::NoMemory) => Err(NoMemory),
             Err(_) => unreachable!(),
@@ -270,8 +290,9 @@ impl<K: PathKey + Drop, V: Drop, P: Keeps<K, V>> TrieMap<K, V, P> {
     ) -> Result<Change<V>, NoMemory>
         ensures kept { IfOk result (λ change. IfSome change.previous (λ found. P.holds key.now found.value)) }
     {
-        let mut stripe = self.row.stripe_of(rt, key);
-        stripe.remove_where(self.alloc, key, condition)
+        let path = key.path();
+        let mut stripe = self.row.stripe_at(rt, path);
+        stripe.remove_where(self.alloc, key, path, condition)
     }
 
     // A fork of each stripe, all as they stand at one moment when all are held.
@@ -291,9 +312,13 @@ impl<K: PathKey + Drop, V: Eq + Drop, P: Keeps<K, V>> TrieMap<K, V, P> {
     pub fn replace_if<R: Wait>(&self, rt: &R, key: K, old: &V, value: V) -> Result<bool, NoMemory>
         requires { P.holds key value }
     {
+        let path = key.path();
         let key = Arc::new(self.alloc, key)?;
         let value = Arc::new(self.alloc, value)?;
-        Ok(self.write_present(rt, key, value, &IfEqual(old))?.done)
+        Ok(
+            self.write_present(rt, key, path, value, &IfEqual(old))?
+                .done,
+        )
     }
 
     /// Removes the key where it is mapped to a value equal to `value`, and answers whether it was.

@@ -32,9 +32,10 @@ impl<K: PathKey + Drop, V: Drop, P: Keeps<K, V>> TrieMap<K, V, P> {
         ensures made { IfOk result (λ before. (made : Option V) × MayMake F.FnOnce change (option_map arc_value before) made) }
         ensures kept { IfOk result (λ before. IfSome before (λ found. P.holds key found.value)) }
     {
+        let path = key.path();
         let key = Arc::new(self.alloc, key)?;
-        let mut stripe = self.row.stripe_of(rt, &key);
-        match stripe.update(self.alloc, key, change) {
+        let mut stripe = self.row.stripe_at(rt, path);
+        match stripe.update(self.alloc, key, path, change) {
             Ok(before) => Ok(before),
             Err(refusal) => Err(PutError::of(refusal)),
         }

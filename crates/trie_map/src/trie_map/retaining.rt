@@ -8,7 +8,7 @@ ghost use Rattle.versions.specs.Map.{Map, value_at, without};
 use super::TrieMap;
 use crate::view::View;
 use closure_ops::answer_at;
-use hash_path::PathKey;
+use hash_path::{Path, PathKey};
 use std::alloc::Global;
 use std::sync::{Arc, Wait};
 use stripes::{Keeps, Stripe};
@@ -80,8 +80,9 @@ impl<K: PathKey + Drop, V: Drop, P: Keeps<K, V>> TrieMap<K, V, P> {
     ) -> Result<Option<Arc<V>>, NoMemory>
         requires { F.IsAlwaysCallable test.now }
     {
-        let mut stripe = self.row.stripe_of(rt, key);
-        remove_failing(self.alloc, &mut stripe, key, test)
+        let path = key.path();
+        let mut stripe = self.row.stripe_at(rt, path);
+        remove_failing(self.alloc, &mut stripe, key, path, test)
     }
 }
 
@@ -91,32 +92,36 @@ fn remove_failing<K: PathKey + Drop, V: Drop, P: Keeps<K, V>, F: Fn(&K, &V) -> b
     alloc: Global,
     stripe: &mut Stripe<K, V, P>,
     key: &Arc<K>,
+    path: Path,
     test: &F,
 ) -> Result<Option<Arc<V>>, NoMemory>
     requires callable { F.IsAlwaysCallable test.now }
+    requires path { path.0 ≡ K.path_of key.now.value }
     requires place { digit_of K.path_of key.now.value ≡ stripe.old.digit }
     ensures removed { IfOk result (λ removed. IfSome removed (λ value. MayAnswer F.Fn test.now key.now.value value.value false)) }
     ensures entries { IfOk result (λ removed. stripe.new.entries ≡ (if is_some removed then without K.cmp stripe.old.entries key.now.value else stripe.old.entries)) }
     ensures digit { stripe.new.digit ≡ stripe.old.digit }
     ensures err { OnErr result (stripe.new ≡ stripe.old) }
 {
-    if passes(stripe, key, test) {
+    if passes(stripe, key, path, test) {
         return Ok(None);
     }
-    stripe.remove(alloc, key)
+    stripe.remove(alloc, key, path)
 }
 
 // Whether the key is absent, or its value passes the test.
 fn passes<K: PathKey + Drop, V: Drop, P: Keeps<K, V>, F: Fn(&K, &V) -> bool>(
     stripe: &Stripe<K, V, P>,
     key: &Arc<K>,
+    path: Path,
     test: &F,
 ) -> bool
     requires callable { F.IsAlwaysCallable test.now }
+    requires path { path.0 ≡ K.path_of key.now.value }
     requires place { digit_of K.path_of key.now.value ≡ stripe.now.digit }
     ensures fails { result ≡ false → (value : V) × (value_at K.cmp stripe.now.entries key.now.value ≡ Some value) × MayAnswer F.Fn test.now key.now.value value false }
 {
-    match stripe.get(key) {
+    match stripe.get(key, path) {
         Some(value) => answer_at(test, key, value),
         None => true,
     }

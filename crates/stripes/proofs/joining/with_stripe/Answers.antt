@@ -1,8 +1,7 @@
-use Rattle.std.proofs.Common.{sym, ◌∙◌, ap, subst}
+use Rattle.std.proofs.Common.{sym, ◌∙◌, subst}
 use Rattle.trie_shape.specs.Roots.{map_of, word_of}
 use Rattle.trie_shape.specs.Shape.{NoneAbove, nodes}
 use Rattle.trie_shape.specs.View.{tree}
-use Rattle.versions.specs.Map.{Map, union}
 use Rattle.stripes.proofs.Placing.{each_has_digit}
 use Rattle.stripes.proofs.joining.with_stripe.Goals as goal
 
