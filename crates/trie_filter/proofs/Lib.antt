@@ -1,0 +1,4 @@
+pub mod Chosen
+pub mod LowDigits
+pub mod Underway
+pub mod Left

@@ -1,0 +1,162 @@
+//! A root of the pairs that pass a test.
+ghost use Rattle.std.specs.Prelude.{◌≡◌, ◌<◌, ◌≤◌, All, Bool, IfOk, filter, length, map, option_map};
+ghost use Rattle.trie_filter.specs.Few.{IsFew, items_of};
+ghost use Rattle.trie_filter.specs.Passing.{AreChosen, IsLeft, IsRow, PairsLeft};
+ghost use Rattle.trie_shape.specs.declared.looks.Look.TheVariants.{Branch};
+ghost use Rattle.trie_shape.specs.Looks.{Shows};
+ghost use Rattle.trie_shape.specs.Roots.{IsRoot, map_of, word_of};
+ghost use Rattle.trie_shape.specs.Shape.{NoneAbove, nodes};
+ghost use Rattle.trie_shape.specs.Tree.{IsTrie, entries};
+ghost use Rattle.trie_shape.specs.View.{pair_values, tree};
+ghost use Rattle.trie_values.specs.Values.{MayAnswer, Means};
+
+use crate::bitmaps::lowest_digit;
+use crate::fetching::fetch_pairs;
+use crate::few::Few;
+use crate::rows::Row;
+use hash_path::PathKey;
+use std::alloc::Global;
+use std::sync::Arc;
+use trie_node::{
+    Look, NoMemory, Node, Stamp, bitmap_counts_children, branch_is_its_children, child, look, size,
+};
+use trie_shape::{make_bucket, make_leaf};
+
+/// How many pairs a subtrie has at most whose keys and values are fetched at once.
+const MOST_AT_ONCE: u64 = 256;
+
+/// The root of the map of those pairs at which the test answers true. It shares the keys and values with the old
+/// root, which is unchanged. All its nodes are new and have the stamp.
+///
+/// The test is called once for each pair, in the order of a walk. A test may answer differently each time, so which
+/// pairs are left is exact for each meaning that it has. No memory is requested for a subtrie none of whose pairs
+/// pass, or of which a leaf is left.
+///
+/// # Errors
+///
+/// `NoMemory` where a request for memory, or the clone of a handle on a key or value, is refused.
+pub fn with_passing<K: PathKey + Drop, V: Drop, F: Fn(&K, &V) -> bool>(
+    alloc: Global,
+    root: &Node<K, V>,
+    stamp: Stamp,
+    test: &F,
+) -> Result<Node<K, V>, NoMemory>
+    requires root { IsRoot K.cmp K.path_of (tree root.now) }
+    requires callable { F.IsAlwaysCallable test.now }
+    ensures root { IfOk result (λ n. IsRoot K.cmp K.path_of (tree n)) }
+    ensures map { IfOk result (λ n. (p : K → V → Bool) → Means (MayAnswer F.Fn test.now) p → map_of K.cmp (tree n) ≡ filter (λ x. p x.0 x.1) (map_of K.cmp (tree root.now))) }
+    // In any case the test may answer true at each pair that stays, and false at each that is left out.
+    ensures chosen { IfOk result (λ n. AreChosen (MayAnswer F.Fn test.now) (map_of K.cmp (tree root.now)) (map_of K.cmp (tree n))) }
+    ensures count { IfOk result (λ n. length (map_of K.cmp (tree n)) ≤ length (map_of K.cmp (tree root.now))) }
+    ensures stamps { IfOk result (λ n. All (λ node. node.1 ≡ stamp.0) (nodes (word_of K.path_of) (tree n))) }
+    ensures newest { IfOk result (λ n. NoneAbove stamp.0 (nodes (word_of K.path_of) (tree n))) }
+{
+    match look(root) {
+        Look::Branch(bitmap) => {
+            let row = pass_children(alloc, root, bitmap, stamp, test, 0, false)?;
+            let made = row.into_branch(alloc, stamp)?;
+            Ok(made)
+        }
+        Look::Pairs(_) => unreachable!(),
+    }
+}
+
+/// What is left of a subtrie below the root, if anything. Its keys and values may have been fetched.
+#[cycle(passing)]
+fn pass_subtrie<K: PathKey + Drop, V: Drop, F: Fn(&K, &V) -> bool>(
+    alloc: Global,
+    node: &Node<K, V>,
+    stamp: Stamp,
+    test: &F,
+    level: u32,
+    fetched: bool,
+) -> Result<Option<Node<K, V>>, NoMemory>
+    requires trie { IsTrie K.cmp K.path_of level (tree node.now) }
+    requires below { 0 < level }
+    requires callable { F.IsAlwaysCallable test.now }
+    ensures { IfOk result (λ o. IsLeft K.cmp K.path_of (MayAnswer F.Fn test.now) level stamp.0 (tree node.now) (option_map tree o)) }
+{
+    match look(node) {
+        Look::Pairs(pairs) => {
+            let left = pass_pairs(alloc, pairs, stamp, test)?;
+            Ok(left)
+        }
+        Look::Branch(bitmap) => {
+            let row = pass_children(alloc, node, bitmap, stamp, test, level, fetched)?;
+            let left = row.drawn_up(alloc, stamp)?;
+            Ok(left)
+        }
+    }
+}
+
+/// What is left of the children of a branch.
+#[cycle(passing)]
+fn pass_children<K: PathKey + Drop, V: Drop, F: Fn(&K, &V) -> bool>(
+    alloc: Global,
+    node: &Node<K, V>,
+    bitmap: u32,
+    stamp: Stamp,
+    test: &F,
+    level: u32,
+    fetched: bool,
+) -> Result<Row<K, V>, NoMemory>
+    requires branch { Shows (Branch bitmap) (tree node.now) }
+    requires trie { IsTrie K.cmp K.path_of level (tree node.now) }
+    requires callable { F.IsAlwaysCallable test.now }
+    ensures row { IfOk result (λ row. IsRow K.cmp K.path_of (MayAnswer F.Fn test.now) level stamp.0 (entries (tree node.now)) row.bitmap row.size (map tree (items_of row.children))) }
+    ensures few { IfOk result (λ row. IsFew row.children) }
+{
+    bitmap_counts_children::<K, V>();
+    branch_is_its_children::<K, V>();
+    let few = size(node) <= MOST_AT_ONCE;
+    if few && !fetched {
+        fetch_pairs(node);
+    }
+    let mut row = Row {
+        children: Few::Nothing,
+        size: 0,
+        bitmap: 0,
+    };
+    let mut rest = bitmap;
+    for n in 0..bitmap.count_ones() {
+        let digit = lowest_digit(rest);
+        rest &= !(1 << digit);
+        let left = pass_subtrie(alloc, child(node, n), stamp, test, level + 1, few)?;
+        if let Some(left) = left {
+            row = row.with(alloc, bitmap.count_ones() as usize, digit, left)?;
+        }
+    }
+    Ok(row)
+}
+
+/// The leaf or bucket that is left of some pairs, if any.
+fn pass_pairs<K: Drop, V: Drop, F: Fn(&K, &V) -> bool>(
+    alloc: Global,
+    pairs: &[(Arc<K>, Arc<V>)],
+    stamp: Stamp,
+    test: &F,
+) -> Result<Option<Node<K, V>>, NoMemory>
+    requires callable { F.IsAlwaysCallable test.now }
+    ensures { IfOk result (λ o. PairsLeft (MayAnswer F.Fn test.now) stamp.0 (map pair_values pairs.now) (option_map tree o)) }
+{
+    let mut left = Few::Nothing;
+    for (key, value) in pairs {
+        if answer_at(test, key, value) {
+            let pair = (Arc::try_clone(key)?, Arc::try_clone(value)?);
+            left = left.with(alloc, pairs.len(), pair)?;
+        }
+    }
+    match left {
+        Few::Nothing => Ok(None),
+        Few::One((key, value)) => Ok(Some(make_leaf(stamp, key, value))),
+        Few::More(pairs) => Ok(Some(make_bucket(alloc, stamp, pairs)?)),
+    }
+}
+
+/// What the test answers at a pair.
+fn answer_at<K, V, F: Fn(&K, &V) -> bool>(test: &F, key: &Arc<K>, value: &Arc<V>) -> bool
+    requires { F.IsAlwaysCallable test.now }
+    ensures { MayAnswer F.Fn test.now key.now.value value.now.value result }
+{
+    test(key, value)
+}
