@@ -7,7 +7,7 @@ ghost use Rattle.bulk_ops.specs.Queries.{is_settled};
 use crate::closure::PairFn;
 use crate::part::{Pair, Part, no_pairs};
 use crate::query::Query;
-use crate::shaping::changed;
+use crate::shaping::{changed, passed};
 use combiner::{Bulk, Monoid, merge};
 use hash_path::PathKey;
 use std::alloc::Global;
@@ -132,7 +132,7 @@ impl<
     }
 
     fn by_shape(&self) -> bool {
-        matches!(self, Query::MapValues(_, _))
+        matches!(self, Query::Filter(_, _) | Query::MapValues(_, _))
     }
 
     fn of_root(
@@ -141,6 +141,7 @@ impl<
         root: &Node<K, V>,
     ) -> Result<Option<Part<K, V, M::Item>>, NoMemory> {
         match self {
+            Query::Filter(test, _) => Ok(Some(Part::Made(passed(alloc, root, test)?))),
             Query::MapValues(change, _) => Ok(Some(Part::Made(changed(alloc, root, change)?))),
             _ => Ok(None),
         }
