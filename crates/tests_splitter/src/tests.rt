@@ -3,6 +3,7 @@
 mod bunches;
 mod cuts;
 mod memory;
+mod roots;
 mod small_cuts;
 mod small_walks;
 mod walks;
