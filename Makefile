@@ -33,9 +33,9 @@ install: build ## Puts the program's binary into PREFIX/bin.
 	@install -m 755 $(PROGRAM) $(DESTDIR)$(PREFIX)/bin/trierun
 	@echo "installed $(DESTDIR)$(PREFIX)/bin/trierun"
 
-bench: ## Proves and builds the benchmark, which bench/README.md explains.
-	@tests/build trie_bench
-	@echo "built crates/trie_bench/out/trie_bench"
+bench: ## Proves and builds the benchmarks, which bench/README.md explains.
+	@tests/build trie_bench shared_bench
+	@echo "built crates/trie_bench/out/trie_bench and crates/shared_bench/out/shared_bench"
 
 clean: ## Drops everything that was proved and built.
 	@rm -rf out crates/*/out bench/out

@@ -1,5 +1,6 @@
 // What Scala's own TrieMap and ParTrieMap take for the work that this project is measured by.
-// Prints one line a measurement: NAME THREADS NANOSECONDS, the best of the rounds, for N pairs.
+// Prints one line a measurement: NAME THREADS NANOSECONDS, the best of the rounds, for N pairs. The words are text or u64,
+// for the keys, and then N and the rounds.
 import scala.collection.concurrent.TrieMap
 import scala.collection.parallel.ForkJoinTaskSupport
 import scala.collection.parallel.mutable.ParTrieMap
@@ -20,7 +21,7 @@ object Bench {
     System.nanoTime - start
   }
 
-  // how many calls a round of the mixed load makes, over all its threads
+  // how many calls a round of the loads of several threads makes, over all its threads
   val calls = 400000
 
   // the calls of one thread: keys by xorshift, the first of ten calls a put
@@ -39,9 +40,57 @@ object Bench {
     sum
   }
 
+  // the time of the work of so many threads, each of which is given its number
+  def byThreads(threads: Int)(work: Int => Any): Long = timed {
+    val workers = (0 until threads).map { t => new Thread(new Runnable { def run(): Unit = work(t) }) }
+    workers.foreach(_.start())
+    workers.foreach(_.join())
+  }
+
+  // the calls of one thread at one key
+  def gets(map: TrieMap[String, Long], key: String, calls: Int): Long = {
+    var sum = 0L
+    var call = 0
+    while (call < calls) { sum += map(key); call += 1 }
+    sum
+  }
+
+  def puts(map: TrieMap[String, Long], key: String, value: Long, calls: Int): Unit = {
+    var call = 0
+    while (call < calls) { map.put(key, value); call += 1 }
+  }
+
+  def show(name: String, threads: Int, ns: Long) = println(s"$name $threads $ns")
+
+  // a map whose keys are the numbers from 0, of 64 bits each
+  def numbers(n: Int, rounds: Int): Unit = {
+    def filled: TrieMap[Long, Long] = {
+      val m = TrieMap.empty[Long, Long]
+      var i = 0
+      while (i < n) { m.put(i.toLong, i.toLong); i += 1 }
+      m
+    }
+    val map = filled
+    val half = n / 2
+    show("u64_put", 1, best(rounds)(timed(filled)))
+    show("u64_get", 1, best(rounds)(timed { var s = 0L; var i = 0; while (i < n) { s += map(i.toLong); i += 1 }; s }))
+    show("u64_replace", 1, best(rounds)(timed { var i = 0; while (i < n) { map.put(i.toLong, i.toLong); i += 1 } }))
+    val pool = new ForkJoinPool(1)
+    val par: ParTrieMap[Long, Long] = map.par
+    par.tasksupport = new ForkJoinTaskSupport(pool)
+    show("u64_count", 1, best(rounds)(timed(par.count { case (_, v) => v < half })))
+    pool.shutdown()
+    show("u64_remove", 1, best(rounds) { val m = filled; timed { var i = 0; while (i < n) { m.remove(i.toLong); i += 1 } } })
+  }
+
   def main(args: Array[String]): Unit = {
-    val n = args(0).toInt
-    val rounds = args(1).toInt
+    val n = args(1).toInt
+    val rounds = args(2).toInt
+    if (args(0) == "u64") numbers(n, rounds) else texts(n, rounds)
+  }
+
+  // a map whose keys are the texts k0000000, k0000001 and so on
+  def texts(n: Int, rounds: Int): Unit = {
     val keys = Array.tabulate(n)(key)
     def filled: TrieMap[String, Long] = {
       val m = TrieMap.empty[String, Long]
@@ -49,8 +98,6 @@ object Bench {
       while (i < n) { m.put(keys(i), i.toLong); i += 1 }
       m
     }
-    def show(name: String, threads: Int, ns: Long) = println(s"$name $threads $ns")
-
     def held: Long = { System.gc(); System.gc(); Runtime.getRuntime.totalMemory - Runtime.getRuntime.freeMemory }
     val atRandom = new scala.util.Random(1).shuffle(keys.toSeq).toArray
 
@@ -79,20 +126,24 @@ object Bench {
     // nine gets for each put, over all threads
     for (threads <- Seq(1, 2, 4)) {
       val shared = filled
-      show("mixed", threads, best(rounds)(timed {
-        val workers = (0 until threads).map { t => new Thread(new Runnable { def run(): Unit = mixed(shared, keys, calls / threads, t) }) }
-        workers.foreach(_.start())
-        workers.foreach(_.join())
-      }) / calls)
+      show("mixed", threads, best(rounds)(byThreads(threads)(t => mixed(shared, keys, calls / threads, t))) / calls)
     }
+    // one key, which all threads get, and then put
+    val hot = filled
+    val last = keys(n - 1)
+    for (threads <- Seq(1, 4))
+      show("one_key_reads", threads, best(rounds)(byThreads(threads)(_ => gets(hot, last, calls / threads))) / calls)
+    for (threads <- Seq(1, 4))
+      show("one_key_writes", threads, best(rounds)(byThreads(threads)(_ => puts(hot, last, n - 1L, calls / threads))) / calls)
+    // the median of read-only snapshots with nobody writing
+    show("view_alone", 1, Array.fill(1001)(timed(hot.readOnlySnapshot())).sorted.apply(500))
     // the median of read-only snapshots while four threads write
-    val written = filled
     @volatile var over = false
     val writers = (0 until 4).map { t =>
-      new Thread(new Runnable { def run(): Unit = { var seed = t; while (!over) { mixed(written, keys, 100, seed); seed += 4 } } })
+      new Thread(new Runnable { def run(): Unit = { var seed = t; while (!over) { mixed(hot, keys, 100, seed); seed += 4 } } })
     }
     writers.foreach(_.start())
-    val times = Array.fill(1001)(timed(written.readOnlySnapshot()))
+    val times = Array.fill(1001)(timed(hot.readOnlySnapshot()))
     over = true
     writers.foreach(_.join())
     show("view_under_writes", 4, times.sorted.apply(500))

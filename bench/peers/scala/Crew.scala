@@ -1,7 +1,6 @@
-// What the questions of crew_bench take Scala's own ParTrieMap, on a pool of so many threads.
-// Prints a line a question: OPERATION,PAIRS,THREADS,MEDIAN,LEAST, in milliseconds, of 15 rounds. Before them come ten more,
-// and as many as half a second takes, in which the JVM compiles what it runs.
-import java.util.Locale
+// What the questions of shared_bench's crew take Scala's own ParTrieMap, on a pool of so many threads.
+// Prints a line a question: NAME THREADS NANOSECONDS, the median of 15 rounds. Before them come ten more, and as many as
+// half a second takes, in which the JVM compiles what it runs.
 import scala.collection.concurrent.TrieMap
 import scala.collection.parallel.ForkJoinTaskSupport
 import scala.collection.parallel.mutable.ParTrieMap
@@ -28,14 +27,12 @@ object Crew {
     par.tasksupport = new ForkJoinTaskSupport(pool)
     val half = pairs / 2
 
-    def milliseconds(nanoseconds: Long): String = "%.6f".formatLocal(Locale.ROOT, nanoseconds / 1e6)
-
     def show(name: String)(work: => Any): Unit = {
       var warmed = 0
       val start = System.nanoTime
       while (warmed < warming || System.nanoTime - start < warmingNanoseconds) { work; warmed += 1 }
       val times = Array.fill(rounds)(timed(work)).sorted
-      println(s"$name,$pairs,$threads,${milliseconds(times(rounds / 2))},${milliseconds(times(0))}")
+      println(s"crew_$name $threads ${times(rounds / 2)}")
     }
 
     show("count")(par.count { case (_, v) => v < half })

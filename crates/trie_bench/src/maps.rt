@@ -2,40 +2,18 @@
 
 ghost use Rattle.std.specs.Prelude.{◌≡◌, ◌≤◌, ◌<◌, ◌+◌, ◌*◌, ◌^◌, OnOk, IfOk, length};
 
-use crate::fault::Fault;
+use bench_kit::Fault;
 use generation::Source;
-use keys::ByteText;
-use rand::seq::SliceRandom;
-use rand_pcg::Pcg32;
+use hash_path::PathKey;
 use std::alloc::Global;
 use std::sync::Arc;
 use versions::{MOST_PAIRS, Version};
 
 /// A map of the benchmark.
-pub type Map = Version<ByteText, i64>;
-
-/// The keys `k0000000`, `k0000001` and so on.
-pub fn keys(alloc: Global, count: u32) -> Result<Vec<Arc<ByteText>>, Fault> {
-    let mut keys = Vec::with_capacity(alloc, count as usize)?;
-    for number in 0..count {
-        let text = format!(in alloc; "k{number:07}")?;
-        keys.push(Arc::new(alloc, ByteText::new(text.into_bytes()))?)?;
-    }
-    Ok(keys)
-}
-
-/// The keys in an order of no order, the same in each run.
-pub fn shuffled(alloc: Global, keys: &[Arc<ByteText>]) -> Result<Vec<Arc<ByteText>>, Fault> {
-    let mut shuffled = Vec::with_capacity(alloc, keys.len())?;
-    for key in keys {
-        shuffled.push(Arc::try_clone(key)?)?;
-    }
-    shuffled.as_mut_slice().shuffle(&mut Pcg32::new(1, 1));
-    Ok(shuffled)
-}
+pub type Map<K> = Version<K, i64>;
 
 /// The empty map, with a stamp of the source.
-pub fn empty(alloc: Global, source: &mut Source) -> Result<Map, Fault>
+pub fn empty<K: PathKey + Drop>(alloc: Global, source: &mut Source) -> Result<Map<K>, Fault>
     requires { source.old < 2 ^ 63 }
     ensures issued { source.new ≡ source.old + 1 }
     ensures stamp { IfOk result (λ map. map.stamp ≤ source.new) }
@@ -44,10 +22,10 @@ pub fn empty(alloc: Global, source: &mut Source) -> Result<Map, Fault>
 }
 
 /// Maps each key to its number plus `more`, and answers the sum of the values before.
-pub fn put_all(
+pub fn put_all<K: PathKey + Drop>(
     alloc: Global,
-    map: &mut Map,
-    keys: &[Arc<ByteText>],
+    map: &mut Map<K>,
+    keys: &[Arc<K>],
     more: i64,
 ) -> Result<i64, Fault>
     ensures { map.new.stamp ≡ map.old.stamp }
@@ -65,7 +43,7 @@ pub fn put_all(
 }
 
 /// The sum of the values of the keys.
-pub fn get_all(map: &Map, keys: &[Arc<ByteText>]) -> i64 {
+pub fn get_all<K: PathKey + Drop>(map: &Map<K>, keys: &[Arc<K>]) -> i64 {
     let mut sum = 0i64;
     for key in keys {
         if let Some(value) = map.get(key) {
@@ -76,7 +54,11 @@ pub fn get_all(map: &Map, keys: &[Arc<ByteText>]) -> i64 {
 }
 
 /// Removes each key, and answers the sum of the values that were removed.
-pub fn remove_all(alloc: Global, map: &mut Map, keys: &[Arc<ByteText>]) -> Result<i64, Fault> {
+pub fn remove_all<K: PathKey + Drop>(
+    alloc: Global,
+    map: &mut Map<K>,
+    keys: &[Arc<K>],
+) -> Result<i64, Fault> {
     let mut sum = 0i64;
     for key in keys {
         if let Some(before) = map.remove(alloc, key)? {
@@ -88,11 +70,11 @@ pub fn remove_all(alloc: Global, map: &mut Map, keys: &[Arc<ByteText>]) -> Resul
 
 /// Takes a snapshot and then puts a value, at each of the keys, and answers the sum of the values
 /// that the snapshots have there.
-pub fn snapshot_all(
+pub fn snapshot_all<K: PathKey + Drop>(
     alloc: Global,
-    map: &mut Map,
+    map: &mut Map<K>,
     source: &mut Source,
-    keys: &[Arc<ByteText>],
+    keys: &[Arc<K>],
 ) -> Result<i64, Fault>
     requires issued { map.old.stamp ≤ source.old }
     requires room { source.old + 2 * length keys.now ≤ 2 ^ 63 }

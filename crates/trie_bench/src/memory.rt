@@ -1,6 +1,6 @@
 //! How much memory the process holds.
 
-use crate::fault::Fault;
+use bench_kit::Fault;
 use std::fs;
 use std::rt::Runtime;
 

@@ -1,6 +1,8 @@
-//! Walks and cuts, each with its checksum.
+//! Walks, cuts and merges, each with its checksum.
 
-use crate::fault::Fault;
+use crate::maps::Map;
+use bench_kit::Fault;
+use combiner::merge;
 use keys::ByteText;
 use splitter::{Cut, cut, whole};
 use std::alloc::Global;
@@ -41,4 +43,13 @@ pub fn cut_all(alloc: Global, view: &View<ByteText, i64>, grain: u64) -> Result<
         }
     }
     Ok(pieces)
+}
+
+/// The number of pairs of both maps together, which share no key; none where one map may not hold them.
+pub fn merge_all(alloc: Global, left: &Map<ByteText>, right: &Map<ByteText>) -> Result<u64, Fault> {
+    let limit = left.limit();
+    if right.limit() != limit || left.len() + right.len() > limit {
+        return Ok(0);
+    }
+    Ok(merge(alloc, left, right)?.len())
 }

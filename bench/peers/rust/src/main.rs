@@ -1,5 +1,6 @@
 // What a Rust user would pick instead: a HashMap under a Mutex, dashmap, and the persistent HashMap of im.
-// Prints one line a measurement: PEER NAME THREADS NANOSECONDS, the best of the rounds, for N pairs.
+// Prints one line a measurement: PEER NAME THREADS NANOSECONDS, the best of the rounds, for N pairs. The words are text or
+// u64, for the keys, and then N and the rounds.
 use std::collections::HashMap;
 use std::sync::Mutex;
 use std::time::Instant;
@@ -41,7 +42,7 @@ fn show(peer: &str, name: &str, threads: usize, ns: u128) {
     println!("{peer} {name} {threads} {ns}");
 }
 
-/// How many calls a round of the mixed load makes, over all its threads.
+/// How many calls a round of the loads of several threads makes, over all its threads.
 const CALLS: usize = 400_000;
 
 /// The calls of one thread: keys by xorshift, the first of ten calls a put.
@@ -62,9 +63,73 @@ fn mixed(map: &dashmap::DashMap<Box<[u8]>, i64>, keys: &[Box<[u8]>], calls: usiz
     sum
 }
 
+/// Times the work of several threads, each of which is given its number, for one call.
+fn shared(rounds: usize, threads: usize, work: impl Fn(usize) -> i64 + Sync) -> u128 {
+    let work = &work;
+    let round = || timed(|| std::thread::scope(|scope| {
+        for thread in 0..threads {
+            scope.spawn(move || std::hint::black_box(work(thread)));
+        }
+    }));
+    best(rounds, round) / CALLS as u128
+}
+
+/// Maps whose keys are the numbers from 0, of 64 bits each.
+fn numbers(n: usize, rounds: usize) {
+    let half = n as i64 / 2;
+    let keys: Vec<u64> = (0..n as u64).collect();
+    let fill = || {
+        let mut map = im_rc::HashMap::<u64, i64>::new();
+        for k in &keys {
+            map.insert(*k, *k as i64);
+        }
+        map
+    };
+    let mut map = fill();
+    show("im_rc", "u64_get", 1, best(rounds, || timed(|| keys.iter().map(|k| map[k]).sum::<i64>())));
+    show("im_rc", "u64_replace", 1, best(rounds, || timed(|| for k in &keys {
+        map.insert(*k, *k as i64);
+    })));
+    show("im_rc", "u64_count", 1, best(rounds, || timed(|| map.values().filter(|v| **v < half).count())));
+    drop(map);
+    show("im_rc", "u64_put", 1, best(rounds, || timed(&fill)));
+    show("im_rc", "u64_remove", 1, best(rounds, || {
+        let mut map = fill();
+        timed(|| for k in &keys { map.remove(k); })
+    }));
+    let fill = || {
+        let map = dashmap::DashMap::<u64, i64>::new();
+        for k in &keys {
+            map.insert(*k, *k as i64);
+        }
+        map
+    };
+    let map = fill();
+    show("dashmap", "u64_get", 1, best(rounds, || timed(|| keys.iter().map(|k| *map.get(k).unwrap()).sum::<i64>())));
+    show("dashmap", "u64_replace", 1, best(rounds, || timed(|| for k in &keys {
+        map.insert(*k, *k as i64);
+    })));
+    show("dashmap", "u64_count", 1, best(rounds, || timed(|| map.iter().filter(|e| *e.value() < half).count())));
+    drop(map);
+    show("dashmap", "u64_put", 1, best(rounds, || timed(&fill)));
+    show("dashmap", "u64_remove", 1, best(rounds, || {
+        let map = fill();
+        timed(|| for k in &keys { map.remove(k); })
+    }));
+}
+
 fn main() {
-    let args: Vec<usize> = std::env::args().skip(1).map(|a| a.parse().unwrap()).collect();
-    let (n, rounds) = (args[0], args[1]);
+    let args: Vec<String> = std::env::args().skip(1).collect();
+    let (n, rounds) = (args[1].parse().unwrap(), args[2].parse().unwrap());
+    if args[0] == "u64" {
+        numbers(n, rounds);
+    } else {
+        texts(n, rounds);
+    }
+}
+
+/// Maps whose keys are the texts `k0000000`, `k0000001` and so on.
+fn texts(n: usize, rounds: usize) {
     let before_keys = resident();
     let keys: Vec<Box<[u8]>> = (0..n).map(key).collect();
     // what the keys take beside the 16 bytes by which a table holds each
@@ -140,11 +205,17 @@ fn main() {
     show("dashmap", "get", 1, best(rounds, || timed(|| keys.iter().map(|k| *dash.get(k).unwrap()).sum::<i64>())));
     show("dashmap", "count", 1, best(rounds, || timed(|| dash.iter().filter(|e| *e.value() % 2 == 0).count())));
     for threads in [1, 2, 4] {
-        show("dashmap", "mixed", threads, best(rounds, || timed(|| std::thread::scope(|scope| {
-            for thread in 0..threads {
-                let (dash, keys) = (&dash, &keys);
-                scope.spawn(move || std::hint::black_box(mixed(dash, keys, CALLS / threads, thread as u64)));
-            }
-        }))) / CALLS as u128);
+        let calls = |thread| mixed(&dash, &keys, CALLS / threads, thread as u64);
+        show("dashmap", "mixed", threads, shared(rounds, threads, calls));
+    }
+    // one key, which all threads get, and then put
+    let (one, place) = (&keys[n - 1], n as i64 - 1);
+    for threads in [1, 4] {
+        let gets = |_| (0..CALLS / threads).map(|_| *dash.get(one).unwrap()).sum();
+        show("dashmap", "one_key_reads", threads, shared(rounds, threads, gets));
+    }
+    for threads in [1, 4] {
+        let puts = |_| (0..CALLS / threads).map(|_| dash.insert(one.clone(), place).unwrap()).sum();
+        show("dashmap", "one_key_writes", threads, shared(rounds, threads, puts));
     }
 }

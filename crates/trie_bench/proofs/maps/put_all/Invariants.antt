@@ -2,4 +2,4 @@ use Rattle.std.proofs.Common.{◌≡◌}
 use Rattle.trie_bench.proofs.maps.put_all.Given as goal
 
 abbrev pub invariant-loop-key : goal.invariant-loop-key
-invariant-loop-key l = l.map.stamp ≡ l.fn.map.stamp
+invariant-loop-key g l = l.map.stamp ≡ l.fn.map.stamp

@@ -1,0 +1,18 @@
+//! What the benchmarks share: keys, questions about whole maps, times, and why a benchmark stops.
+#![tactic(auto)]
+
+mod best;
+mod fault;
+mod key_lists;
+mod questions;
+mod times;
+mod words;
+
+pub use best::Best;
+pub use fault::Fault;
+pub use key_lists::{copied, number_keys, shuffled, text_key, text_keys};
+pub use questions::{
+    Below, Constant, Question, Value, count, exists, filter, fold_sum, map_values,
+};
+pub use times::{Spread, Times};
+pub use words::{MOST_PAIRS_OF_A_BENCHMARK, number, words_of};

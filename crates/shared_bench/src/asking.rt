@@ -1,0 +1,83 @@
+//! The time that a crew takes for each question.
+
+use crate::maps::Map;
+use bench_kit::{Fault, Question, Times, count, exists, filter, fold_sum, map_values};
+use combiner::Bulk;
+use std::rt::Runtime;
+use std::sync::Wait;
+use std::thread::Threads;
+use std::time::Instant;
+use trie_map::{Answer, ByteText, Crew, Version, View};
+
+/// How often each question is asked.
+const ROUNDS: u32 = 15;
+
+/// Asks each question of a view of the map, which has so many pairs.
+pub fn ask_all<R: Runtime + AllocGlobal + Threads + Wait + Sync>(
+    rt: &R,
+    map: &Map,
+    pairs: u32,
+    workers: u32,
+) -> Result<(), Fault> {
+    let view = map.view(rt)?;
+    let half = i64::from(pairs / 2);
+    ask_one(rt, workers, "crew_count", &view, &count(half))?;
+    ask_one(rt, workers, "crew_exists_absent", &view, &exists(0))?;
+    ask_one(rt, workers, "crew_fold_sum", &view, &fold_sum())?;
+    ask_one(rt, workers, "crew_filter", &view, &filter(half))?;
+    ask_one(rt, workers, "crew_map_values", &view, &map_values(1))
+}
+
+/// Asks one question of the view. An answer is dropped once its time is counted.
+fn ask_one<R: Runtime + AllocGlobal + Threads + Wait + Sync>(
+    rt: &R,
+    workers: u32,
+    name: &str,
+    view: &View<ByteText, i64>,
+    question: &Question<ByteText>,
+) -> Result<(), Fault>
+    requires { ⟦<Question<ByteText> as Bulk<ByteText, i64>>⟧.ready question.now }
+{
+    let mut times = Times::new(rt.alloc());
+    let mut checksum = 0;
+    for _ in 0..ROUNDS {
+        let start = Instant::now(rt)?;
+        let reply = ask(rt, view, question, workers)?;
+        times.count(start.elapsed(rt)?)?;
+        checksum = told(&reply);
+    }
+    let median = times.spread()?.median;
+    rt.eprintln(format_args!("tambyulo {name} {workers} {median}"))?;
+    rt.println(format_args!("{name} {checksum}"))?;
+    Ok(())
+}
+
+/// What is told of a whole view, and the map that was made where the question makes one.
+type Reply = (Answer<ByteText, i64, i128>, Option<Version<ByteText, i64>>);
+
+/// The answer for all pairs of the view, by a crew of so many workers, or by the caller alone where there are none.
+fn ask<R: Threads + Wait + Sync>(
+    rt: &R,
+    view: &View<ByteText, i64>,
+    question: &Question<ByteText>,
+    workers: u32,
+) -> Result<Reply, Fault>
+    requires { ⟦<Question<ByteText> as Bulk<ByteText, i64>>⟧.ready question.now }
+{
+    if workers == 0 {
+        Ok(view.query(question)?)
+    } else {
+        Ok(view.query_by(rt, question, Crew::of(workers))?)
+    }
+}
+
+/// A number for the answer: itself, a truth as 0 or 1, the size of a map.
+fn told(reply: &Reply) -> i128 {
+    match &reply.0 {
+        Answer::Count(count) => i128::from(*count),
+        Answer::Truth(truth) => i128::from(*truth),
+        Answer::Found(found) => i128::from(found.is_some()),
+        Answer::Made(count) => i128::from(*count),
+        Answer::Item(item) => *item,
+    }
+}

@@ -1,0 +1,57 @@
+//! Calls on a table of maps, as values: those that fill a map, and a load of nine gets for each put.
+
+use crate::mixed::{CALLS_OF_A_PUT, next};
+use bench_kit::Fault;
+use handles::{Call, CallReply, Command, Reply};
+use keys::ByteText;
+use std::alloc::Global;
+use std::sync::Arc;
+
+/// The handle of the map.
+pub const MAP: u32 = 1;
+
+/// A call on the map.
+pub type MapCall = Call<ByteText, i64>;
+
+/// The calls that open the map and map each key to its number.
+pub fn filling(alloc: Global, keys: &[Arc<ByteText>]) -> Result<Vec<MapCall>, Fault> {
+    let mut calls = Vec::new(alloc);
+    calls.push(Call::Open(MAP))?;
+    for (number, key) in keys.iter().enumerate() {
+        calls.push(put(alloc, Arc::try_clone(key)?, number as i64)?)?;
+    }
+    Ok(calls)
+}
+
+/// So many calls at keys in an order of no order, the same in each run. A put gives a key the value that it has.
+pub fn load(alloc: Global, keys: &[Arc<ByteText>], count: u32) -> Result<Vec<MapCall>, Fault> {
+    let mut calls = Vec::with_capacity(alloc, count as usize)?;
+    let mut state = 1;
+    for call in 0..count {
+        state = next(state);
+        let place = (state % (keys.len() as u64).max(1)) as usize;
+        let Some(key) = keys.get(place) else {
+            break;
+        };
+        let key = Arc::try_clone(key)?;
+        calls.push(if call % CALLS_OF_A_PUT == 0 {
+            put(alloc, key, place as i64)?
+        } else {
+            Call::On(MAP, Command::Get(key))
+        })?;
+    }
+    Ok(calls)
+}
+
+/// The call that maps the key to the value.
+pub fn put(alloc: Global, key: Arc<ByteText>, value: i64) -> Result<MapCall, Fault> {
+    Ok(Call::On(MAP, Command::Put(key, Arc::new(alloc, value)?)))
+}
+
+/// The value that a call was told, 0 where it was told none.
+pub fn value_in(reply: &CallReply<i64>) -> i64 {
+    match reply {
+        CallReply::Reply(Reply::Old(Some(value))) => **value,
+        _ => 0,
+    }
+}

@@ -1,0 +1,90 @@
+//! Calls of several threads on one map, with their checksums: nine gets for each put.
+
+use crate::maps::Map;
+use bench_kit::{Best, Fault, copied};
+use keys::ByteText;
+use std::alloc::Global;
+use std::rt::Runtime;
+use std::sync::{Arc, Wait};
+use std::thread;
+use std::thread::Threads;
+use std::time::Instant;
+
+/// How many calls a round makes, over all its threads.
+const CALLS: u32 = 400_000;
+
+/// How many of them are one put and gets else.
+pub const CALLS_OF_A_PUT: u32 = 10;
+
+/// Times the calls by one, two and four threads.
+pub fn mixed<R: Runtime + AllocGlobal + Threads + Wait + Sync>(
+    rt: &R,
+    map: &Map,
+    keys: &[Arc<ByteText>],
+    rounds: u32,
+) -> Result<(), Fault> {
+    for threads in [1, 2, 4] {
+        let mut best = Best::new();
+        let mut sum = 0i64;
+        for _ in 0..rounds {
+            let start = Instant::now(rt)?;
+            sum = one_round(rt, map, keys, threads)?;
+            best.count(start.elapsed(rt)?);
+        }
+        best.show_of(rt, "mixed", threads, CALLS, i128::from(sum))?;
+    }
+    Ok(())
+}
+
+/// The calls of one round, divided among the threads: the sum of the values that were read.
+fn one_round<R: Runtime + AllocGlobal + Threads + Wait + Sync>(
+    rt: &R,
+    map: &Map,
+    keys: &[Arc<ByteText>],
+    threads: u32,
+) -> Result<i64, Fault> {
+    let calls = CALLS / threads.max(1);
+    let mut sum = 0i64;
+    for read in thread::map_indices(
+        rt,
+        rt.alloc(),
+        threads as usize,
+        &|thread: usize| { calls_of(rt, rt.alloc(), map, keys, calls, thread as u64) },
+    )? {
+        sum = sum.wrapping_add(read?);
+    }
+    Ok(sum)
+}
+
+/// The next number of no order: xorshift.
+pub fn next(state: u64) -> u64 {
+    let state = state ^ (state << 13);
+    let state = state ^ (state >> 7);
+    state ^ (state << 17)
+}
+
+/// The calls of one thread. A put gives a key the value that it has, so that the sum is the same in each run.
+pub fn calls_of<R: Wait>(
+    rt: &R,
+    alloc: Global,
+    map: &Map,
+    keys: &[Arc<ByteText>],
+    calls: u32,
+    thread: u64,
+) -> Result<i64, Fault> {
+    let mut sum = 0i64;
+    let mut state = thread.wrapping_add(1);
+    for call in 0..calls {
+        state = next(state);
+        let place = (state % (keys.len() as u64).max(1)) as usize;
+        let Some(key) = keys.get(place) else {
+            break;
+        };
+        if call % CALLS_OF_A_PUT == 0 {
+            map.put(rt, copied(alloc, key)?, place as i64)?;
+        } else if let Some(value) = map.get(rt, key)? {
+            sum = sum.wrapping_add(*value);
+        }
+    }
+    Ok(sum)
+}

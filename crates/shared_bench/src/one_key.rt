@@ -1,0 +1,119 @@
+//! Calls of several threads at one key of a map, with their checksums: gets, and then puts.
+
+use crate::maps::Map;
+use bench_kit::{Best, Fault, copied, text_key};
+use keys::ByteText;
+use std::alloc::Global;
+use std::rt::Runtime;
+use std::sync::Wait;
+use std::thread;
+use std::thread::Threads;
+use std::time::Instant;
+
+/// How many calls a round makes, over all its threads.
+const CALLS: u32 = 400_000;
+
+/// What the threads do at the key.
+#[derive(Clone, Copy)]
+enum Call {
+    Get,
+    Put,
+}
+
+/// Times gets, and then puts, of the last key of the map, each by one and by four threads.
+pub fn one_key<R: Runtime + AllocGlobal + Threads + Wait + Sync>(
+    rt: &R,
+    map: &Map,
+    pairs: u32,
+    rounds: u32,
+) -> Result<(), Fault> {
+    let number = pairs.saturating_sub(1);
+    let key = text_key(rt.alloc(), number)?;
+    for threads in [1, 4] {
+        calls_by(rt, map, &key, number, rounds, threads, Call::Get)?;
+    }
+    for threads in [1, 4] {
+        calls_by(rt, map, &key, number, rounds, threads, Call::Put)?;
+    }
+    Ok(())
+}
+
+/// Times the calls by so many threads.
+fn calls_by<R: Runtime + AllocGlobal + Threads + Wait + Sync>(
+    rt: &R,
+    map: &Map,
+    key: &ByteText,
+    number: u32,
+    rounds: u32,
+    threads: u32,
+    call: Call,
+) -> Result<(), Fault> {
+    let mut best = Best::new();
+    let mut sum = 0i64;
+    for _ in 0..rounds {
+        let start = Instant::now(rt)?;
+        sum = one_round(rt, map, key, number, threads, call)?;
+        best.count(start.elapsed(rt)?);
+    }
+    let name = match call {
+        Call::Get => "one_key_reads",
+        Call::Put => "one_key_writes",
+    };
+    best.show_of(rt, name, threads, CALLS, i128::from(sum))
+}
+
+/// The calls of one round, divided among the threads: the sum of the values that they were told.
+fn one_round<R: Runtime + AllocGlobal + Threads + Wait + Sync>(
+    rt: &R,
+    map: &Map,
+    key: &ByteText,
+    number: u32,
+    threads: u32,
+    call: Call,
+) -> Result<i64, Fault> {
+    let calls = CALLS / threads.max(1);
+    let mut sum = 0i64;
+    for told in thread::map_indices(
+        rt,
+        rt.alloc(),
+        threads as usize,
+        &|_: usize| {
+            match call {
+                Call::Get => gets(rt, map, key, calls),
+                Call::Put => puts(rt, rt.alloc(), map, key, number, calls),
+            }
+        },
+    )? {
+        sum = sum.wrapping_add(told?);
+    }
+    Ok(sum)
+}
+
+/// The gets of one thread.
+fn gets<R: Wait>(rt: &R, map: &Map, key: &ByteText, calls: u32) -> Result<i64, Fault> {
+    let mut sum = 0i64;
+    for _ in 0..calls {
+        if let Some(value) = map.get(rt, key)? {
+            sum = sum.wrapping_add(*value);
+        }
+    }
+    Ok(sum)
+}
+
+/// The puts of one thread. Each gives the key the value that it has, so that the sum is the same in each run.
+fn puts<R: Wait>(
+    rt: &R,
+    alloc: Global,
+    map: &Map,
+    key: &ByteText,
+    number: u32,
+    calls: u32,
+) -> Result<i64, Fault> {
+    let mut sum = 0i64;
+    for _ in 0..calls {
+        if let Some(value) = map.put(rt, copied(alloc, key)?, i64::from(number))? {
+            sum = sum.wrapping_add(*value);
+        }
+    }
+    Ok(sum)
+}

@@ -1,0 +1,110 @@
+//! Views of a map, with nobody writing and while others write.
+
+use crate::maps::Map;
+use crate::mixed::calls_of;
+use bench_kit::{Fault, Times};
+use keys::ByteText;
+use std::rt::Runtime;
+use std::sync::atomic::{AtomicBool, Ordering};
+use std::sync::{Arc, Wait};
+use std::thread;
+use std::thread::Threads;
+use std::time::{Clock, Instant};
+
+/// How many threads write while views are taken, and how many views are timed.
+const WRITERS: u32 = 4;
+
+const VIEWS: usize = 1_001;
+
+/// How many calls a writer makes before it looks whether the views are taken.
+const CALLS_AT_A_TIME: u32 = 100;
+
+/// Times views with nobody writing, and while four threads write, and tells the median of each.
+pub fn views<R: Runtime + Clock + AllocGlobal + Threads + Wait + Sync>(
+    rt: &R,
+    map: &Map,
+    keys: &[Arc<ByteText>],
+) -> Result<(), Fault> {
+    let alone = median_of_views(rt, map)?;
+    show(rt, "view_alone", 1, alone, map.view(rt)?.len())?;
+    let beside = beside_writers(rt, map, keys)?;
+    show(
+        rt,
+        "view_under_writes",
+        WRITERS,
+        beside,
+        map.view(rt)?.len(),
+    )
+}
+
+/// The median of the nanoseconds that a view takes.
+fn median_of_views<R: Clock + AllocGlobal + Wait>(rt: &R, map: &Map) -> Result<u64, Fault> {
+    let mut times = Times::new(rt.alloc());
+    for _ in 0..VIEWS {
+        let start = Instant::now(rt)?;
+        let view = map.view(rt)?;
+        times.count(start.elapsed(rt)?)?;
+        drop(view);
+    }
+    Ok(times.spread()?.median)
+}
+
+/// The same while four threads make calls, nine gets for each put.
+fn beside_writers<R: Clock + AllocGlobal + Threads + Wait + Sync>(
+    rt: &R,
+    map: &Map,
+    keys: &[Arc<ByteText>],
+) -> Result<u64, Fault> {
+    let ended = AtomicBool::new(false);
+    let over = &ended;
+    let mut median = 0u64;
+    for told in thread::map_indices(
+        rt,
+        rt.alloc(),
+        WRITERS as usize + 1,
+        &|thread: usize| -> Result<u64, Fault> {
+            if thread == 0 {
+                let median = median_of_views(rt, map);
+                over.store(true, Ordering::SeqCst);
+                return median;
+            }
+            write_until(rt, over, map, keys, thread as u64)?;
+            Ok(0)
+        },
+    )? {
+        median = median.max(told?);
+    }
+    Ok(median)
+}
+
+/// Makes calls, some at a time, until it is over.
+fn write_until<R: AllocGlobal + Wait>(
+    rt: &R,
+    over: &AtomicBool,
+    map: &Map,
+    keys: &[Arc<ByteText>],
+    thread: u64,
+) -> Result<(), Fault> {
+    let mut seed = thread;
+    for _ in rt.forever() {
+        if over.load(Ordering::SeqCst) {
+            break;
+        }
+        calls_of(rt, rt.alloc(), map, keys, CALLS_AT_A_TIME, seed)?;
+        seed = seed.wrapping_add(u64::from(WRITERS));
+    }
+    Ok(())
+}
+
+/// Prints the median beside so many writers, and the number of pairs.
+fn show<R: Runtime>(
+    rt: &R,
+    name: &str,
+    threads: u32,
+    median: u64,
+    pairs: u64,
+) -> Result<(), Fault> {
+    rt.eprintln(format_args!("tambyulo {name} {threads} {median}"))?;
+    rt.println(format_args!("{name} {pairs}"))?;
+    Ok(())
+}

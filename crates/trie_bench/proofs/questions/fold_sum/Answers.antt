@@ -1,5 +1,0 @@
-use Rattle.trie_bench.proofs.questions.fold_sum.Goals as goal
-
--- what the item means
-pub new-requires : goal.new-requires
-new-requires c = (λ key value. value, λ key value given h. h)
