@@ -173,11 +173,13 @@ fn texts(n: usize, rounds: usize) {
         let mut map = fill();
         timed(|| for k in &keys { map.remove(k); })
     }));
-    // two maps of half the keys each
-    let half = |keys: &[Box<[u8]>]| keys.iter().map(|k| (k.clone(), 1i64)).collect::<im_rc::HashMap<_, _>>();
-    let (low, high) = (half(&keys[..n / 2]), half(&keys[n / 2..]));
-    show("im_rc", "merge", 1, best(rounds, || timed(|| low.clone().union(high.clone()))));
     drop(map);
+    // two maps of half the keys each
+    {
+        let half = |keys: &[Box<[u8]>]| keys.iter().map(|k| (k.clone(), 1i64)).collect::<im_rc::HashMap<_, _>>();
+        let (low, high) = (half(&keys[..n / 2]), half(&keys[n / 2..]));
+        show("im_rc", "merge", 1, best(rounds, || timed(|| low.clone().union(high.clone()))));
+    }
 
     // std: a HashMap under one Mutex; its snapshot is a clone
     let fill = || {
@@ -196,6 +198,8 @@ fn texts(n: usize, rounds: usize) {
         map.lock().unwrap().insert(keys[0].clone(), 1);
         copy.len()
     })));
+
+    drop(map);
 
     // dashmap: no snapshot
     let dash = dashmap::DashMap::<Box<[u8]>, i64>::new();
