@@ -60,7 +60,7 @@ module _ {K V : Type 0} (R : K → K → Ordering) (path : K → ℕ) (total : I
     some_first t ts some = omega (arith, some.0, length-append (entries t) (entries_of_all ts))
 
     -- 1. What is left of the children of a branch below the root.
-    pub children_left : 0 < level → level ≤ last_level → (t : Tree K V) (b size : ℕ) (row : List (Tree K V)) → IsRow R path gives level stamp (entries t) b size row → IsLeft R path gives level stamp t (drawn_up stamp size b row)
+    children_left : 0 < level → level ≤ last_level → (t : Tree K V) (b size : ℕ) (row : List (Tree K V)) → IsRow R path gives level stamp (entries t) b size row → IsLeft R path gives level stamp t (drawn_up stamp size b row)
     children_left up depth t b size [] h = (h.chosen, tt)
     children_left up depth t b size (bucket old es ∷ []) h =
         let trie = only_trie level (digits_of b) (bucket old es) h.tries in
@@ -83,6 +83,9 @@ module _ {K V : Type 0} (R : K → K → Ordering) (path : K → ℕ) (total : I
         (own_stamp, h.stamped),
       ),
     )
+
+    pub drawn_left : 0 < level → level ≤ last_level → (t : Tree K V) (b size : ℕ) (row : List (Tree K V)) → IsRow R path gives level stamp (entries t) b size row → (o : Option (Tree K V)) → o ≡ drawn_up stamp size b row → IsLeft R path gives level stamp t o
+    drawn_left up depth t b size row h o is = subst (IsLeft R path gives level stamp t) (sym is) (children_left up depth t b size row h)
 
     -- 2. What is left of a leaf or bucket.
     node_left : (old : ℕ) (es fs : List (K × V)) → IsTrie R path level (bucket old es) → AreChosen gives es fs → IfSome (pairs_node stamp fs) (λ u. IsTrie R path level u × (0 < length (entries u)) × StampsPass (is_stamp stamp) u)

@@ -123,7 +123,8 @@ fn pass_children<K: PathKey + Drop, V: Drop, F: Fn(&K, &V) -> bool>(
         rest &= !(1 << digit);
         let left = pass_subtrie(alloc, child(node, n), stamp, test, level + 1, few)?;
         if let Some(left) = left {
-            row = row.with(alloc, bitmap.count_ones() as usize, digit, left)?;
+            let room = (bitmap.count_ones() - n) as usize + 1;
+            row = row.with(alloc, room, digit, left)?;
         }
     }
     Ok(row)

@@ -5,9 +5,9 @@ use Rattle.trie_shape.specs.Outline.{children}
 use Rattle.trie_shape.specs.View.{tree}
 use Rattle.trie_shape.proofs.Divides.{trie_fits}
 use Rattle.trie_filter.specs.Few.{IsFew, items_of}
-use Rattle.trie_filter.specs.Passing.{IsLeft, drawn_up}
+use Rattle.trie_filter.specs.Passing.{IsLeft}
 use Rattle.trie_values.specs.Values.{MayAnswer}
-use Rattle.trie_filter.proofs.Left.{branch_depth, children_left, pairs_left}
+use Rattle.trie_filter.proofs.Left.{branch_depth, drawn_left, pairs_left}
 use Rattle.trie_filter.proofs.Underway.{IsUnderway, next_trie, rest_more, room, underway_done, underway_gone, underway_kept, underway_start}
 use Rattle.trie_filter.proofs.passing.+passing.Goals as goal
 use Rattle.trie_filter.proofs.passing.+passing.Goals.{pass_children-in-Some+in_ok-row, pass_children-in_default}
@@ -135,5 +135,5 @@ pass_subtrie-returns-in_ok-left-in-Branch g t c =
     let whole = tree a.node.now in
     let depth = branch_depth R path total exact a.level whole c.in-Branch.bitmap c.in-Branch.ensures c.requires.trie in
     let gives = MayAnswer g.F.Fn a.test.now in
-    subst (IsLeft R path gives a.level a.stamp.0 whole) {x = drawn_up a.stamp.0 row.size row.bitmap (map tree (items_of row.children))} {y = option_map tree c.in_ok-left-in-Branch.left} (sym c.in_ok-left-in-Branch.ensures)
-    (children_left R path total exact gives a.level a.stamp.0 c.requires.below depth whole row.bitmap row.size (map tree (items_of row.children)) c.in_ok-row-in-Branch.ensures.row)
+    drawn_left R path total exact gives a.level a.stamp.0 c.requires.below depth whole row.bitmap row.size (map tree (items_of row.children)) c.in_ok-row-in-Branch.ensures.row
+    (option_map tree c.in_ok-left-in-Branch.left) c.in_ok-left-in-Branch.ensures
