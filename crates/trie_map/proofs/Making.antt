@@ -1,11 +1,9 @@
 -- What a map that is made of pairs so far has of the whole map.
-use Rattle.std.proofs.Common.{◌≡◌, ℕ, ◌+◌, ◌<◌, ◌≤◌, Bool, true, false, cond, is_some, T, length, [], ◌∷◌, Option, Some, None, refl, sym, ap, ◌∙◌, arith}
+use Rattle.std.proofs.Common.{◌≡◌, ℕ, ◌+◌, ◌<◌, ◌≤◌, Bool, true, false, cond, is_some, length, [], ◌∷◌, refl, sym, ap, ◌∙◌, arith}
 use Rattle.std.specs.Cmp.{IsTotalOrder}
 use Rattle.std.specs.FinMap.{is_sorted}
-use Rattle.std.specs.FinMap.Entries.{by_order, is_sorted-put, length-put}
-use Rattle.std.specs.Ordering.{is_eq}
+use Rattle.std.specs.FinMap.Entries.{is_sorted-put, length-put}
 use Rattle.std.specs.declared.cmp.Ordering.{Ordering}
-use Rattle.std.specs.declared.cmp.Ordering.TheVariants.{Less, Equal, Greater}
 use Rattle.versions.specs.Contents.{Contents}
 use Rattle.versions.specs.Map.{Map, IsMap, union, value_at, with_pair}
 use Rattle.versions.specs.declared.version.TheConstants.{MOST_PAIRS}
@@ -15,9 +13,8 @@ use Rattle.bulk_ops.specs.Answers.{passing}
 use Rattle.bulk_ops.specs.Meanings.{Means}
 use Rattle.bulk_ops.proofs.Made.{passing_union}
 use Rattle.bulk_ops.proofs.Totals.{length_union}
-use Rattle.bulk_ops.proofs.Unions.{there, true_of, truth_of}
+use Rattle.bulk_ops.proofs.Unions.{true_of, truth_of}
 use Rattle.bulk_ops.proofs.Works.{Working}
-use Rattle.trie_map.specs.Questions.{changed}
 
 one_more_at_most : (t : Bool) (n m : ℕ) → m ≡ cond t n (n + 1) → m ≤ n + 1
 one_more_at_most true n m is = omega arith

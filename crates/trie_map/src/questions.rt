@@ -28,7 +28,7 @@ impl<K: PathKey + Drop, V: Drop, P: Keeps<K, V>> View<K, V, P> {
     {
         self.len();
         let mut count = 0u64;
-        for (key, value) in self.pairs()? {
+        for (key, value) in self.bunched() {
             count += u64::from(answer_at(&test, key, value));
         }
         Ok(count)
@@ -39,7 +39,7 @@ impl<K: PathKey + Drop, V: Drop, P: Keeps<K, V>> View<K, V, P> {
         requires callable { F.IsAlwaysCallable test }
         ensures { IfOk result (λ some. (p : K → V → Bool) → Means (MayAnswer F.Fn test) p → some ≡ list_any (passes p) self.now) }
     {
-        for (key, value) in self.pairs()? {
+        for (key, value) in self.bunched() {
             if answer_at(&test, key, value) {
                 return Ok(true);
             }
@@ -52,7 +52,7 @@ impl<K: PathKey + Drop, V: Drop, P: Keeps<K, V>> View<K, V, P> {
         requires callable { F.IsAlwaysCallable test }
         ensures { IfOk result (λ all. (p : K → V → Bool) → Means (MayAnswer F.Fn test) p → all ≡ list_all (passes p) self.now) }
     {
-        for (key, value) in self.pairs()? {
+        for (key, value) in self.bunched() {
             if !answer_at(&test, key, value) {
                 return Ok(false);
             }
@@ -66,7 +66,7 @@ impl<K: PathKey + Drop, V: Drop, P: Keeps<K, V>> View<K, V, P> {
         ensures found { IfOk result (λ found. (p : K → V → Bool) → Means (MayAnswer F.Fn test) p → IsFound p self.now (option_map pair_of found)) }
         ensures kept { IfOk result (λ found. IfSome found (λ pair. P.holds pair.0.value pair.1.value)) }
     {
-        for (key, value) in self.pairs()? {
+        for (key, value) in self.bunched() {
             if answer_at(&test, key, value) {
                 return Ok(Some(shared_pair(key, value)?));
             }
@@ -85,7 +85,7 @@ impl<K: PathKey + Drop, V: Drop, P: Keeps<K, V>> View<K, V, P> {
     {
         law_of_folds::<K, V, M>();
         let mut all = monoid.unit();
-        for (key, value) in self.pairs()? {
+        for (key, value) in self.bunched() {
             all = monoid.op(&answer_at(&item, key, value), &all);
         }
         Ok(all)

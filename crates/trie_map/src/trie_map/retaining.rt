@@ -46,7 +46,7 @@ impl<K: PathKey + Drop, V: Drop, P: Keeps<K, V>> TrieMap<K, V, P> {
     {
         view.len();
         let mut removed = 0u64;
-        for (key, value) in view.pairs()? {
+        for (key, value) in view.bunched() {
             let gone = self.remove_if_both_fail(rt, key, value, test)?;
             removed += u64::from(gone);
         }

@@ -30,7 +30,7 @@ impl<K: PathKey + Drop, V: Drop, P: Keeps<K, V>> View<K, V, P> {
         walk_lists_map::<K, V>();
         self.len();
         let mut made = Version::empty(self.alloc, MOST_PAIRS, Stamp::LOOSE)?;
-        for (key, value) in self.pairs()? {
+        for (key, value) in self.bunched() {
             put_if_passing(self.alloc, &mut made, &test, key, value)?;
         }
         Ok(made)

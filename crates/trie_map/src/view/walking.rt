@@ -1,4 +1,4 @@
-//! Walks over a view that a `for` takes as they are.
+//! Walks over a view that are never refused.
 ghost use Rattle.std.specs.Prelude.{◌≡◌, All, IsPermutation};
 ghost use Rattle.trie_shape.specs.Order.{walked};
 ghost use Rattle.trie_shape.specs.Roots.{IsRoot, map_of};
@@ -6,7 +6,7 @@ ghost use Rattle.trie_shape.specs.View.{tree};
 
 use super::View;
 use hash_path::PathKey;
-use iter::Pairs;
+use iter::{BunchedPairs, Pairs};
 use std::alloc::Global;
 use std::sync::Arc;
 use stripes::Keeps;
@@ -24,6 +24,16 @@ impl<K: PathKey + Drop, V: Drop, P: Keeps<K, V>> View<K, V, P> {
     {
         self.law();
         walk_of_root(self.alloc, self.plain.root())
+    }
+
+    // The same walk, which takes its pairs from the trie in bunches: for calls that mostly look at all of them.
+    pub(crate) fn bunched(&self) -> BunchedPairs<'_, K, V>
+        ensures rest { result ≡ walked K.cmp K.path_of self.now }
+        ensures once { IsPermutation self.now result }
+        ensures kept { All (λ pair. P.holds pair.0 pair.1) result }
+    {
+        self.law();
+        bunches_of_root(self.alloc, self.plain.root())
     }
 }
 
@@ -54,6 +64,21 @@ fn walk_of_root<K: PathKey, V>(alloc: Global, root: &Node<K, V>) -> Pairs<'_, K,
     trie_follows_digits::<K, V>();
     match look(root) {
         Look::Branch(bitmap) => { Pairs::below(alloc, root, 0, 0, bitmap.count_ones(), size(root)) }
+        Look::Pairs(_) => unreachable!(),
+    }
+}
+
+// The same walk in bunches.
+fn bunches_of_root<K: PathKey, V>(alloc: Global, root: &Node<K, V>) -> BunchedPairs<'_, K, V>
+    requires { IsRoot K.cmp K.path_of (tree root.now) }
+    ensures { result ≡ walked K.cmp K.path_of (map_of K.cmp (tree root.now)) }
+{
+    bitmap_counts_children::<K, V>();
+    branch_is_its_children::<K, V>();
+    root_walks_in_order::<K, V>();
+    trie_follows_digits::<K, V>();
+    match look(root) {
+        Look::Branch(bitmap) => BunchedPairs::below(alloc, root, 0, 0, bitmap.count_ones()),
         Look::Pairs(_) => unreachable!(),
     }
 }

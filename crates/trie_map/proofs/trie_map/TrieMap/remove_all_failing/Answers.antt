@@ -7,7 +7,7 @@ use Rattle.trie_map.proofs.trie_map.TrieMap.remove_all_failing.Goals as goal
 
 pub loop-key-init : goal.loop-key-init
 loop-key-init g c =
-    let same : IsPermutation c.args.view.now c.into_iter-key-iterator.result.rest = subst (IsPermutation c.args.view.now) (sym (λ i. (c.into_iter-key-iterator.ensures.into_iter_gives i).rest)) c.in_ok-items.ensures.once in
+    let same : IsPermutation c.args.view.now c.into_iter-key-iterator.result = subst (IsPermutation c.args.view.now) (sym c.into_iter-key-iterator.ensures.into_iter_gives) c.bunched-key-items.ensures.once in
     record {
       next = tt;
       finite = tt;
@@ -27,5 +27,5 @@ loop-key-preserved g c =
       few = omega (arith, few, at_most_one c.in_ok-gone.gone c.from-removed.result c.from-removed.ensures);
       gone = λ p means.
           let before = subst (λ (rest : List (g.row.K.Denot × g.row.V.Denot)). c.loop-key.removed + length (failing p rest) ≤ length (failing p c.args.view.now)) c.in-Some.ensures.steps (c.loop-key.invariant.gone p means) in
-          removal_step (λ k v. not (p k v)) pair c.next.new.self.rest c.loop-key.removed c.from-removed.result _ c.in_ok-gone.gone before c.from-removed.ensures (λ is. ap not (sym (means _ _ _ (c.in_ok-gone.ensures is))));
+          removal_step (λ k v. not (p k v)) pair c.next.new.self c.loop-key.removed c.from-removed.result _ c.in_ok-gone.gone before c.from-removed.ensures (λ is. ap not (sym (means _ _ _ (c.in_ok-gone.ensures is))));
     }

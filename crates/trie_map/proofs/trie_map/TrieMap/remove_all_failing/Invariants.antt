@@ -9,6 +9,6 @@ invariant-loop-key g l = record {
   next : (goal.iterator-loop-key g).can_next l.key-iterator;
   finite : (goal.iterator-loop-key g).is_finite l.key-iterator;
   callable : goal.F-IsAlwaysCallable g l.test;
-  few : l.removed + length l.key-iterator.rest ≤ length l.view;
-  gone : (p : g.row.K.Denot → g.row.V.Denot → Bool) → Means (MayAnswer g.F.Fn l.test) p → l.removed + length (failing p l.key-iterator.rest) ≤ length (failing p l.view);
+  few : l.removed + length l.key-iterator ≤ length l.view;
+  gone : (p : g.row.K.Denot → g.row.V.Denot → Bool) → Means (MayAnswer g.F.Fn l.test) p → l.removed + length (failing p l.key-iterator) ≤ length (failing p l.view);
 }

@@ -7,7 +7,7 @@ use Rattle.trie_map.proofs.view.View.count.Goals as goal
 
 pub loop-key-init : goal.loop-key-init
 loop-key-init g c =
-    let same : IsPermutation c.args.self.now c.into_iter-key-iterator.result.rest = subst (IsPermutation c.args.self.now) (sym (λ i. (c.into_iter-key-iterator.ensures.into_iter_gives i).rest)) c.in_ok-items.ensures.once in
+    let same : IsPermutation c.args.self.now c.into_iter-key-iterator.result = subst (IsPermutation c.args.self.now) (sym c.into_iter-key-iterator.ensures.into_iter_gives) c.bunched-key-items.ensures.once in
     record {
       next = tt;
       finite = tt;
@@ -27,5 +27,5 @@ loop-key-preserved g c =
       few = omega (arith, few, at_most_one c.answer_at.result c.from-count.result c.from-count.ensures);
       count = λ p means.
           let before = subst (λ (rest : List (g.row.K.Denot × g.row.V.Denot)). c.loop-key.count + length (passing p rest) ≡ length (passing p c.args.self.now)) c.in-Some.ensures.steps (c.loop-key.invariant.count p means) in
-          count_step p pair c.next.new.self.rest c.loop-key.count c.from-count.result _ c.answer_at.result before c.from-count.ensures (means _ _ _ c.answer_at.ensures);
+          count_step p pair c.next.new.self c.loop-key.count c.from-count.result _ c.answer_at.result before c.from-count.ensures (means _ _ _ c.answer_at.ensures);
     }

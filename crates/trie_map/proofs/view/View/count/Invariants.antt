@@ -9,6 +9,6 @@ invariant-loop-key g l = record {
   next : (goal.iterator-loop-key g).can_next l.key-iterator;
   finite : (goal.iterator-loop-key g).is_finite l.key-iterator;
   callable : goal.F-IsAlwaysCallable g l.test;
-  few : l.count + length l.key-iterator.rest ≤ length l.self;
-  count : (p : g.row.K.Denot → g.row.V.Denot → Bool) → Means (MayAnswer g.F.Fn l.test) p → l.count + length (passing p l.key-iterator.rest) ≡ length (passing p l.self);
+  few : l.count + length l.key-iterator ≤ length l.self;
+  count : (p : g.row.K.Denot → g.row.V.Denot → Bool) → Means (MayAnswer g.F.Fn l.test) p → l.count + length (passing p l.key-iterator) ≡ length (passing p l.self);
 }

@@ -16,7 +16,7 @@ loop-key-init g c =
     let few : length walk ≤ MOST_PAIRS = omega (arith, laws.count all c.len.ensures.sorted, c.len.ensures.few) in
     let none = none_filtered R (MayAnswer g.F.Fn c.args.test) c.in_ok-made.made c.in_ok-made.ensures.entries c.in_ok-made.ensures.limit in
     let work = begun R g.met.K.Ord.total answers walk all c.in_ok-made.made none (laws.once all) (laws.gathered all c.len.ensures.sorted) few in
-    let same : c.into_iter-key-iterator.result.rest ≡ walk = (λ i. (c.into_iter-key-iterator.ensures.into_iter_gives i).rest) ∙ c.in_ok-items.ensures.rest in
+    let same : c.into_iter-key-iterator.result ≡ walk = c.into_iter-key-iterator.ensures.into_iter_gives ∙ c.bunched-key-items.ensures.rest in
     record {
       next = tt;
       finite = tt;
@@ -30,7 +30,7 @@ put_if_passing-requires-clause-room g c =
     let gives = MayAnswer g.F.Fn c.args.test in
     let pair : g.row.K.Denot × g.row.V.Denot = (c.in-Some.key.now.value, c.in-Some.value.now.value) in
     let work = subst (λ rest. Working R (Filtered R gives) rest c.args.self.now c.loop-key.made) c.in-Some.ensures.steps c.loop-key.invariant.working in
-    filter_room R gives pair c.next.new.self.rest c.args.self.now c.loop-key.made work
+    filter_room R gives pair c.next.new.self c.args.self.now c.loop-key.made work
 
 pub loop-key-preserved : goal.loop-key-preserved
 loop-key-preserved g c =
@@ -44,5 +44,5 @@ loop-key-preserved g c =
       next = tt;
       finite = tt;
       callable = c.requires.callable;
-      working = worked R g.met.K.Ord.total (Filtered R gives) pair c.next.new.self.rest c.args.self.now c.loop-key.made c.put_if_passing.new.made work added;
+      working = worked R g.met.K.Ord.total (Filtered R gives) pair c.next.new.self c.args.self.now c.loop-key.made c.put_if_passing.new.made work added;
     }

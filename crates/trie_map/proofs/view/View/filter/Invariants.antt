@@ -9,5 +9,5 @@ invariant-loop-key g l = record {
   next : (goal.iterator-loop-key g).can_next l.key-iterator;
   finite : (goal.iterator-loop-key g).is_finite l.key-iterator;
   callable : goal.F-IsAlwaysCallable g l.test;
-  working : Working g.K.Ord.cmp (Filtered g.K.Ord.cmp (MayAnswer g.F.Fn l.test)) l.key-iterator.rest l.self l.made;
+  working : Working g.K.Ord.cmp (Filtered g.K.Ord.cmp (MayAnswer g.F.Fn l.test)) l.key-iterator l.self l.made;
 }

@@ -11,13 +11,13 @@ use Rattle.trie_map.proofs.view.View.find.Goals as goal
 
 pub loop-key-init : goal.loop-key-init
 loop-key-init g c =
-    let same : IsPermutation c.args.self.now c.into_iter-key-iterator.result.rest = subst (IsPermutation c.args.self.now) (sym (λ i. (c.into_iter-key-iterator.ensures.into_iter_gives i).rest)) c.in_ok-items.ensures.once in
+    let same : IsPermutation c.args.self.now c.into_iter-key-iterator.result = subst (IsPermutation c.args.self.now) (sym c.into_iter-key-iterator.ensures.into_iter_gives) c.bunched-key-items.ensures.once in
     record {
       next = tt;
       finite = tt;
       callable = c.requires.callable;
       some = λ p means. sym (list_any-IsPermutation (passes p) _ _ same);
-      kept = subst (All (λ (x : g.row.K.Denot × g.row.V.Denot). g.P.Keeps.holds x.0 x.1)) (sym (λ i. (c.into_iter-key-iterator.ensures.into_iter_gives i).rest)) c.in_ok-items.ensures.kept;
+      kept = subst (All (λ (x : g.row.K.Denot × g.row.V.Denot). g.P.Keeps.holds x.0 x.1)) (sym c.into_iter-key-iterator.ensures.into_iter_gives) c.bunched-key-items.ensures.kept;
       there = λ x. Contains-permutation _ _ x (IsPermutation-sym _ _ same);
     }
 
@@ -31,7 +31,7 @@ pub returns-then-answer_at-clause-kept : goal.returns-then-answer_at-clause-kept
 returns-then-answer_at-clause-kept g c =
     let pair : g.row.K.Denot × g.row.V.Denot = (c.in-Some.key.now.value, c.in-Some.value.now.value) in
     let kept = subst (All (λ (x : g.row.K.Denot × g.row.V.Denot). g.P.Keeps.holds x.0 x.1)) c.in-Some.ensures.steps c.loop-key.invariant.kept in
-    subst (λ (x : g.row.K.Denot × g.row.V.Denot). g.P.Keeps.holds x.0 x.1) (sym c.in_ok-shared_pair.ensures) (All-head (λ (x : g.row.K.Denot × g.row.V.Denot). g.P.Keeps.holds x.0 x.1) pair c.next.new.self.rest kept)
+    subst (λ (x : g.row.K.Denot × g.row.V.Denot). g.P.Keeps.holds x.0 x.1) (sym c.in_ok-shared_pair.ensures) (All-head (λ (x : g.row.K.Denot × g.row.V.Denot). g.P.Keeps.holds x.0 x.1) pair c.next.new.self kept)
 
 pub loop-key-preserved : goal.loop-key-preserved
 loop-key-preserved g c =
@@ -42,7 +42,7 @@ loop-key-preserved g c =
       callable = c.requires.callable;
       some = λ p means.
           let before = subst (λ (rest : List (g.row.K.Denot × g.row.V.Denot)). list_any (passes p) rest ≡ list_any (passes p) c.args.self.now) c.in-Some.ensures.steps (c.loop-key.invariant.some p means) in
-          sym (any_false p pair c.next.new.self.rest c.answer_at.result (means _ _ _ c.answer_at.ensures) c.if-answer_at.false) ∙ before;
-      kept = All-tail (λ (x : g.row.K.Denot × g.row.V.Denot). g.P.Keeps.holds x.0 x.1) pair c.next.new.self.rest (subst (All (λ (x : g.row.K.Denot × g.row.V.Denot). g.P.Keeps.holds x.0 x.1)) c.in-Some.ensures.steps c.loop-key.invariant.kept);
-      there = λ x among. c.loop-key.invariant.there x (subst (λ (rest : List (g.row.K.Denot × g.row.V.Denot)). Contains rest x) (sym c.in-Some.ensures.steps) (Contains-append_right (pair ∷ []) c.next.new.self.rest x among));
+          sym (any_false p pair c.next.new.self c.answer_at.result (means _ _ _ c.answer_at.ensures) c.if-answer_at.false) ∙ before;
+      kept = All-tail (λ (x : g.row.K.Denot × g.row.V.Denot). g.P.Keeps.holds x.0 x.1) pair c.next.new.self (subst (All (λ (x : g.row.K.Denot × g.row.V.Denot). g.P.Keeps.holds x.0 x.1)) c.in-Some.ensures.steps c.loop-key.invariant.kept);
+      there = λ x among. c.loop-key.invariant.there x (subst (λ (rest : List (g.row.K.Denot × g.row.V.Denot)). Contains rest x) (sym c.in-Some.ensures.steps) (Contains-append_right (pair ∷ []) c.next.new.self x among));
     }

@@ -11,7 +11,7 @@ invariant-loop-key g l = record {
   next : (goal.iterator-loop-key g).can_next l.key-iterator;
   finite : (goal.iterator-loop-key g).is_finite l.key-iterator;
   callable : goal.F-IsAlwaysCallable g l.test;
-  some : (p : g.row.K.Denot → g.row.V.Denot → Bool) → Means (MayAnswer g.F.Fn l.test) p → list_any (passes p) l.key-iterator.rest ≡ list_any (passes p) l.self;
-  kept : All (λ (x : g.row.K.Denot × g.row.V.Denot). g.P.Keeps.holds x.0 x.1) l.key-iterator.rest;
-  there : (x : g.row.K.Denot × g.row.V.Denot) → Contains l.key-iterator.rest x → Contains l.self x;
+  some : (p : g.row.K.Denot → g.row.V.Denot → Bool) → Means (MayAnswer g.F.Fn l.test) p → list_any (passes p) l.key-iterator ≡ list_any (passes p) l.self;
+  kept : All (λ (x : g.row.K.Denot × g.row.V.Denot). g.P.Keeps.holds x.0 x.1) l.key-iterator;
+  there : (x : g.row.K.Denot × g.row.V.Denot) → Contains l.key-iterator x → Contains l.self x;
 }

@@ -7,14 +7,14 @@ use Rattle.trie_map.proofs.view.View.fold.Goals as goal
 
 pub loop-key-init : goal.loop-key-init
 loop-key-init g c =
-    let same : IsPermutation c.args.self.now c.into_iter-key-iterator.result.rest = subst (IsPermutation c.args.self.now) (sym (λ i. (c.into_iter-key-iterator.ensures.into_iter_gives i).rest)) c.in_ok-items.ensures.once in
+    let same : IsPermutation c.args.self.now c.into_iter-key-iterator.result = subst (IsPermutation c.args.self.now) (sym c.into_iter-key-iterator.ensures.into_iter_gives) c.bunched-key-items.ensures.once in
     record {
       next = tt;
       finite = tt;
       callable = c.requires.callable;
       all = λ i means.
-          ap (λ unit. folded (g.M.Monoid.combine c.args.monoid.now) unit (items_of i c.into_iter-key-iterator.result.rest)) c.unit-all.ensures
-          ∙ c.law_of_folds.ensures c.args.monoid.now i c.args.self.now c.into_iter-key-iterator.result.rest same;
+          ap (λ unit. folded (g.M.Monoid.combine c.args.monoid.now) unit (items_of i c.into_iter-key-iterator.result)) c.unit-all.ensures
+          ∙ c.law_of_folds.ensures c.args.monoid.now i c.args.self.now c.into_iter-key-iterator.result same;
     }
 
 pub loop-key-preserved : goal.loop-key-preserved
@@ -27,7 +27,7 @@ loop-key-preserved g c =
       callable = c.requires.callable;
       all = λ i means.
           let before = subst (λ (rest : List (g.row.K.Denot × g.row.V.Denot)). folded combine c.loop-key.all (items_of i rest) ≡ folded combine (g.M.Monoid.unit_of c.args.monoid.now) (items_of i c.args.self.now)) c.in-Some.ensures.steps (c.loop-key.invariant.all i means) in
-          ap (λ all. folded combine all (items_of i c.next.new.self.rest)) (c.op-all.ensures ∙ ap (λ item. combine item c.loop-key.all) (means _ _ _ c.answer_at.ensures))
-          ∙ fold_step combine (g.met.M.Monoid.associative c.args.monoid.now) (g.met.M.Monoid.commutative c.args.monoid.now) (i pair.0 pair.1) c.loop-key.all (items_of i c.next.new.self.rest)
+          ap (λ all. folded combine all (items_of i c.next.new.self)) (c.op-all.ensures ∙ ap (λ item. combine item c.loop-key.all) (means _ _ _ c.answer_at.ensures))
+          ∙ fold_step combine (g.met.M.Monoid.associative c.args.monoid.now) (g.met.M.Monoid.commutative c.args.monoid.now) (i pair.0 pair.1) c.loop-key.all (items_of i c.next.new.self)
           ∙ before;
     }

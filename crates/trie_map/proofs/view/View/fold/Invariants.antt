@@ -10,5 +10,5 @@ invariant-loop-key g l = record {
   next : (goal.iterator-loop-key g).can_next l.key-iterator;
   finite : (goal.iterator-loop-key g).is_finite l.key-iterator;
   callable : goal.G-IsAlwaysCallable g l.item;
-  all : (i : g.row.K.Denot → g.row.V.Denot → g.row.M-Item.Denot) → Means (MayAnswer g.G.Fn l.item) i → folded (g.M.Monoid.combine l.monoid) l.all (items_of i l.key-iterator.rest) ≡ folded (g.M.Monoid.combine l.monoid) (g.M.Monoid.unit_of l.monoid) (items_of i l.self);
+  all : (i : g.row.K.Denot → g.row.V.Denot → g.row.M-Item.Denot) → Means (MayAnswer g.G.Fn l.item) i → folded (g.M.Monoid.combine l.monoid) l.all (items_of i l.key-iterator) ≡ folded (g.M.Monoid.combine l.monoid) (g.M.Monoid.unit_of l.monoid) (items_of i l.self);
 }

@@ -10,5 +10,5 @@ invariant-loop-key g l = record {
   next : (goal.iterator-loop-key g).can_next l.key-iterator;
   finite : (goal.iterator-loop-key g).is_finite l.key-iterator;
   callable : goal.F-IsAlwaysCallable g l.test;
-  all : (p : g.row.K.Denot → g.row.V.Denot → Bool) → Means (MayAnswer g.F.Fn l.test) p → list_all (passes p) l.key-iterator.rest ≡ list_all (passes p) l.self;
+  all : (p : g.row.K.Denot → g.row.V.Denot → Bool) → Means (MayAnswer g.F.Fn l.test) p → list_all (passes p) l.key-iterator ≡ list_all (passes p) l.self;
 }
