@@ -129,7 +129,7 @@ fn wanted_by_filter(alloc: Global, pairs: usize, id: u32) -> Result<usize, Fail>
     Ok(MOST_GIVEN)
 }
 
-// No key is below 1, one is below 2: a filter that keeps nothing wants its empty map alone, of one pair as of three.
+// No key is below 1, two are below 3: a filter that keeps nothing wants its empty map alone, of one pair as of three.
 #[test]
 fn a_pair_that_does_not_pass_asks_for_no_memory(rt: HostRuntime) -> Result<(), Fail> {
     let alloc = rt.alloc();
@@ -137,7 +137,7 @@ fn a_pair_that_does_not_pass_asks_for_no_memory(rt: HostRuntime) -> Result<(), F
     assert!(rt; empty > 0 && empty < MOST_GIVEN);
     let none = wanted_by_filter(alloc, 3, 1)?;
     assert_eq!(rt; none, empty);
-    let some = wanted_by_filter(alloc, 3, 2)?;
+    let some = wanted_by_filter(alloc, 3, 3)?;
     assert!(rt; some > empty);
     Ok(())
 }
