@@ -1,4 +1,4 @@
-use Rattle.std.proofs.Common.{◌≡◌, ◌+◌, ◌≤◌, not, List, length, arith, sym, ap, subst}
+use Rattle.std.proofs.Common.{◌+◌, ◌≤◌, not, List, length, arith, sym, ap, subst}
 use Rattle.std.specs.List.Sorted.{IsPermutation}
 use Rattle.std.proofs.lemmas.List.Sorted.{length_permutation}
 use Rattle.trie_map.specs.Questions.{failing}

@@ -1,4 +1,4 @@
-use Rattle.std.proofs.Common.{◌≡◌, ◌+◌, ◌≤◌, Bool, length}
+use Rattle.std.proofs.Common.{◌+◌, ◌≤◌, Bool, length}
 use Rattle.bulk_ops.specs.Meanings.{MayAnswer, Means}
 use Rattle.trie_map.specs.Questions.{failing}
 use Rattle.trie_map.proofs.trie_map.TrieMap.remove_all_failing.Given as goal
