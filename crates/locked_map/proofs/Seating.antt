@@ -1,7 +1,6 @@
 -- Seats of clients, before and after they ran.
 use Rattle.std.proofs.Common.{◌≡◌, ℕ, zero, suc, ◌<◌, length, arith, List, [], ◌∷◌, ◌++◌, ap, subst, ◌∙◌, map, slice_index_or}
 use Rattle.std.proofs.lemmas.List.{map-append}
-use Rattle.std.specs.Prelude.{Result, Ok, Err, IfOk}
 use Rattle.locked_map.specs.Seats.{Seated, AllFresh, fresh}
 
 -- what holds of each element of a list at its place, with one element more
@@ -26,8 +25,3 @@ moved P a a' b b' c c' p q r h = subst (λ x. P x b' c') p (subst (λ y. P a y c
 pub some_of : {X : Type 0} (xs : List X) (k : ℕ) → k < length xs → X
 some_of [] k h = absurd (omega arith)
 some_of (x ∷ xs) k h = x
-
--- what holds of a value holds of the result that has it
-pub where_ok : {X E : Type 0} (r : Result X E) (P Q : X → Type 0) → ((x : X) → P x → Q x) → IfOk r P → IfOk r Q
-where_ok (Ok x) P Q f p = f x p
-where_ok (Err e) P Q f p = tt

@@ -13,12 +13,19 @@ use bulk_ops::Asks;
 use handles::{Limits, MOST_ENTRIES};
 use hash_path::PathKey;
 use journal::{Entries, Room};
+use sized_threads::{Work, map_vec};
 use std::alloc::{AllocError, Global};
-use std::marker::Brand;
+use std::marker::{Brand, PhantomData};
 use std::sync::Wait;
-use std::thread;
 use std::thread::Threads;
 use versions::{MOST_PAIRS, NoMemory};
+
+/// The stack of a client's thread, in bytes. The first client is run by the caller's thread, and has the caller's.
+///
+/// The deepest calls that were found, about maps of up to 20,000 pairs by a script's client, work with 64 KiB and not
+/// with 48; no map's are much deeper, since a trie has at most 13 levels. This is eight times that, for what else a
+/// client does.
+pub const CLIENT_STACK: usize = 512 * 1024;
 
 /// What one client does with a map, whichever map it is.
 ///
@@ -77,7 +84,10 @@ impl From<AllocError> for NoJournal {
 /// Runs the clients over a new map, each on a thread of its own and with the seat of its number, and closes the map
 /// once all have ended. It gives what each came to, in their order, and the journal with the table that it leads to.
 ///
-/// A client whose thread cannot be started is run by the caller's thread after the others.
+/// A client whose thread cannot be started is run by the caller's thread when those before it have ended.
+///
+/// A client's thread has a stack of `CLIENT_STACK` bytes. It is not started where there is not the address space for the
+/// stack and for 128 MiB, by which the C library places a thread's heap.
 pub fn with_clients<K, V, Q, C, R>(
     rt: &R,
     alloc: Global,
@@ -222,14 +232,42 @@ where
     ensures len { IfOk result (λ v. vec_len v ≡ vec_len jobs) }
     ensures each { IfOk result (λ v. (k : ℕ) (b : _) (e : _) → k < vec_len jobs → C.gives (slice_index_or jobs.items k b).client (pairs (slice_index_or v.items k e).seat.list) (slice_index_or v.items k e).out) }
 {
-    thread::map_vec(
+    let running = Running {
         rt,
-        jobs,
-        &|job: Begun<K, V, Q, C, J>| -> Ended<K, V, Q, C::Out, J>
-            requires { IsSync R.row × C.needs job.client × (job.seat.list ≡ []) }
-            ensures { C.gives job.client (pairs result.seat.list) result.out }
-        { run_one(rt, map, job) },
-    )
+        map,
+        client: PhantomData,
+    };
+    map_vec(rt, map.alloc, CLIENT_STACK, jobs, &running)
+}
+
+// The run of a client on its seat.
+#[derive(Drop)]
+struct Running<'a, K: PathKey, V: Eq, Q: Asks<K, V>, C, J: Room, R> {
+    rt: &'a R,
+    map: &'a SharedMap<K, V, Q, J>,
+    client: PhantomData<C>,
+}
+
+impl<K, V, Q, J, C, R> Work for Running<'_, K, V, Q, C, J, R>
+where
+    K: PathKey + Drop,
+    V: Eq + Drop,
+    Q: Asks<K, V> + Drop,
+    J: Room,
+    C: Client<K, V, Q>,
+    R: Threads + Wait + Sync,
+{
+    type Job = Begun<K, V, Q, C, J>;
+
+    type Out = Ended<K, V, Q, C::Out, J>;
+
+    ghost needs = { λ _ job. IsSync R.row × C.needs job.client × (job.seat.list ≡ []) };
+
+    ghost gives = { λ _ job result. C.gives job.client (pairs result.seat.list) result.out };
+
+    fn run(&self, job: Begun<K, V, Q, C, J>) -> Ended<K, V, Q, C::Out, J> {
+        run_one(self.rt, self.map, job)
+    }
 }
 
 fn run_one<K, V, Q, J, C, R>(

@@ -16,7 +16,7 @@ mod seat;
 mod shared_map;
 mod ticket;
 
-pub use clients::{Client, NoJournal, with_clients};
+pub use clients::{CLIENT_STACK, Client, NoJournal, with_clients};
 pub use closed::{Closed, Torn};
 pub use filed::Filed;
 pub use journal::{Asked, Entry, Journal, Room, Told};

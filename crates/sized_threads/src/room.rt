@@ -3,16 +3,20 @@ ghost use Rattle.std.specs.Prelude.{◌≤◌};
 
 use std::alloc::{AllocError, Global};
 
-// What the C library asks for to place the heap of a thread: it keeps 64 MiB of the address space, at a multiple of that.
+// What the C library asks of the address space to place the heap of a thread, in bytes: it keeps the half, 64 MiB, at a
+// multiple of that.
 const HEAP: usize = 128 << 20;
 
 /// How many threads with a stack of so many bytes there is address space for, up to so many.
 ///
-/// Each is counted with the heap that the C library may give it, and as much as one thread takes is left to all else.
-/// For a moment that much address space is taken, and none of it is touched.
+/// It asks for a block of the stack's size and 128 MiB for each thread, and for one more, which is left to all else. It
+/// counts the blocks that it gets, and gives all of them back. No byte of them is touched, so they take address space and
+/// no memory; a block costs an `mmap` and a `munmap`, some microseconds together.
 ///
-/// Where the C library finds no place for a thread's heap, it meets each of the thread's requests by a page of its own
-/// or more, so that little address space would soon be used up.
+/// 128 MiB is what glibc asks for to place a thread's heap, of which it keeps 64. Where it finds no place for it, it meets
+/// each request of the thread by a page or more of its own, so that little address space would soon be used up.
+///
+/// Where Linux counts untouched memory too (`vm.overcommit_memory=2`), fewer threads are started.
 pub fn room_for(alloc: Global, stack: usize, most: usize) -> usize
     ensures { result ≤ most }
 {
