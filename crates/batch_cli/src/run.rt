@@ -49,7 +49,7 @@ const LARGEST: Limits = Limits {
 ///
 /// A crew of its own works each bulk verb. A client asks the gate before each of its lines. The clients are those from 0
 /// to the greatest number in the script; one without a line ends at once. A client whose thread cannot be started runs
-/// on the caller's after the others.
+/// on the caller's when those before it have ended.
 ///
 /// # Errors
 ///

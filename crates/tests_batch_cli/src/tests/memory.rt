@@ -1,10 +1,10 @@
 //! Runs with no memory, with a little, and with none from some line on or for some lines.
 use super::{CREW, assert_is, plain};
 use batch_cli::{Free, LineGate, RunFault, Script, execute, parse_script, run_script};
-use std::alloc::Global;
+use std::alloc::{AllocError, Global};
 use std::io;
 use std::io::Write;
-use std::sync::{Mutex, Wait};
+use std::sync::{Barrier, Mutex, Wait};
 use std::test::Fail;
 use std::thread::Threads;
 use test_keys::{Shortage, take_all};
@@ -38,10 +38,13 @@ const STEP: usize = 16;
 
 const TRIES: u32 = 7_680;
 
-// The same where each try takes threads.
-const LARGE_STEP: usize = 1_024;
+// How many clients there are. The first lines of all are the first ones of the script.
+const CLIENTS: u32 = 4;
 
-const FEW_TRIES: u32 = 120;
+// How many bytes more are left each time to clients that have begun, and how often that is tried.
+const LARGE_STEP: usize = 3_072;
+
+const FEW_TRIES: usize = 40;
 
 // How far behind a line memory is given back, where it is.
 const APART: u32 = 5;
@@ -125,20 +128,18 @@ fn refusals<R: Threads + Wait + Sync>(
     rt: &R,
     alloc: Global,
     script: &Script,
-    step: usize,
-    tries: u32,
 ) -> Option<(u32, bool)> {
     let mut shortage = Shortage::new(alloc).ok()?;
-    for refused in 0..tries {
+    for refused in 0..TRIES {
         if is_run(rt, alloc, script, &Free)? {
             return Some((refused, true));
         }
-        shortage.give(alloc, step).ok()?;
+        shortage.give(alloc, STEP).ok()?;
     }
-    Some((tries, false))
+    Some((TRIES, false))
 }
 
-// With each try a request more is met. No thread gets a stack of what little there is, so the clients are run one after
+// With each try a request more is met. No thread is started in what little there is, so the clients are run one after
 // another by the caller, and the pieces of their crews are left to them. It catches a run that loses a line, a piece or
 // an entry where memory is wanting, one that writes before all replies are there, and one that takes want of memory for
 // a reply.
@@ -146,22 +147,75 @@ fn refusals<R: Threads + Wait + Sync>(
 fn a_run_is_refused_at_each_request(rt: HostRuntime) -> Result<(), Fail> {
     let alloc = rt.alloc();
     let script = parse_script(alloc, SCRIPT)?;
-    let runs = refusals(&rt, alloc, &script, STEP, TRIES);
+    let runs = refusals(&rt, alloc, &script);
     let (refused, is_whole) = runs.ok_or("runs that are as they have to be")?;
     assert_is(&rt, (refused > 0, is_whole), (true, true));
     Ok(())
 }
 
-// The stacks of a run with ample memory are there for the threads of the next ones, so clients run at once while
-// requests of their caller are refused. Threads have heaps of their own, so how much memory is enough differs. It catches
-// a client that is lost with a thread that is not started.
+/// Lets no client go on before all have begun. It takes all memory then but for so many bytes next to one another, and
+/// lets them go on.
+#[derive(Drop)]
+struct Rationer<'a, R: Wait> {
+    rt: &'a R,
+    alloc: Global,
+    bytes: usize,
+    all: Barrier,
+    taken: Mutex<Option<Vec<Vec<u8>>>>,
+}
+
+impl<R: Wait> LineGate for Rationer<'_, R> {
+    fn before(&self, _client: u32, line: u32) {
+        if line > CLIENTS {
+            return;
+        }
+        self.all.wait(self.rt);
+        if line == 1 {
+            let left: Result<Vec<u8>, AllocError> = Vec::with_capacity(self.alloc, self.bytes);
+            *self.taken.lock(self.rt) = take_all(self.alloc).ok();
+            drop(left);
+        }
+        self.all.wait(self.rt);
+    }
+}
+
+// What the run came to where so many bytes are left to clients that have begun.
+fn is_run_with<R: Threads + Wait + Sync>(
+    rt: &R,
+    alloc: Global,
+    script: &Script,
+    bytes: usize,
+) -> Option<bool> {
+    let gate = Rationer {
+        rt,
+        alloc,
+        bytes,
+        all: Barrier::new(CLIENTS as usize),
+        taken: Mutex::new(None),
+    };
+    is_run(rt, alloc, script, &gate)
+}
+
+// How many of the runs want memory, where no bytes are left, then some, and so on. Nothing where a run is not as it has
+// to be.
+fn rationed<R: Threads + Wait + Sync>(rt: &R, alloc: Global, script: &Script) -> Option<u32> {
+    let mut refused = 0u32;
+    for count in 0..FEW_TRIES {
+        if !is_run_with(rt, alloc, script, LARGE_STEP.saturating_mul(count))? {
+            refused = refused.saturating_add(1);
+        }
+    }
+    Some(refused)
+}
+
+// Each client has a thread when memory is taken, and it does not end where one has none. Threads have heaps of their
+// own, so clients run at once while requests of their caller's thread are refused, and how much memory is enough differs.
+// It catches a client that is lost where the caller's wants memory.
 #[test]
 fn a_run_of_threads_is_refused_at_some_requests(rt: HostRuntime) -> Result<(), Fail> {
     let alloc = rt.alloc();
     let script = parse_script(alloc, SCRIPT)?;
-    assert_is(&rt, is_run(&rt, alloc, &script, &Free), Some(true));
-    let runs = refusals(&rt, alloc, &script, LARGE_STEP, FEW_TRIES);
-    let (refused, _) = runs.ok_or("runs that are as they have to be")?;
+    let refused = rationed(&rt, alloc, &script).ok_or("runs that are as they have to be")?;
     assert_is(&rt, refused > 0, true);
     assert_is(&rt, is_run(&rt, alloc, &script, &Free), Some(true));
     Ok(())
