@@ -33,10 +33,12 @@ const BEYOND: u32 = 29;
 
 const ENTRIES: usize = 36;
 
-// How many bytes are given after each refusal, and how often a run is tried at most.
+// How many bytes are given after each refusal, how often a run is tried before memory is taken anew, and how often it is.
 const STEP: usize = 16;
 
-const TRIES: u32 = 7_680;
+const TRIES_AT_ONCE: u32 = 64;
+
+const ROUNDS: u32 = 120;
 
 // How many clients there are. The first lines of all are the first ones of the script.
 const CLIENTS: u32 = 4;
@@ -122,6 +124,30 @@ fn is_run<R: Threads + Wait + Sync, G: LineGate + Sync>(
     }
 }
 
+// Runs the script with so many times the bytes of a step, and with a step more each time: how many runs wanted memory
+// before one was whole, with those that came before these; none where no run was whole. Nothing where a run is not as it
+// has to be.
+//
+// Memory is taken anew for them: what earlier runs have let go lies in pieces among the bytes that were given to them.
+fn refusals_from<R: Threads + Wait + Sync>(
+    rt: &R,
+    alloc: Global,
+    script: &Script,
+    from: u32,
+) -> Option<Option<u32>> {
+    let mut shortage = Shortage::new(alloc).ok()?;
+    shortage
+        .give(alloc, (from as usize).saturating_mul(STEP))
+        .ok()?;
+    for refused in from..from.saturating_add(TRIES_AT_ONCE) {
+        if is_run(rt, alloc, script, &Free)? {
+            return Some(Some(refused));
+        }
+        shortage.give(alloc, STEP).ok()?;
+    }
+    Some(None)
+}
+
 // Runs the script with no memory, with a little, and so on: how many runs wanted memory before one was whole, and whether
 // one was. Nothing where a run is not as it has to be.
 fn refusals<R: Threads + Wait + Sync>(
@@ -129,14 +155,13 @@ fn refusals<R: Threads + Wait + Sync>(
     alloc: Global,
     script: &Script,
 ) -> Option<(u32, bool)> {
-    let mut shortage = Shortage::new(alloc).ok()?;
-    for refused in 0..TRIES {
-        if is_run(rt, alloc, script, &Free)? {
+    for round in 0..ROUNDS {
+        let from = round.saturating_mul(TRIES_AT_ONCE);
+        if let Some(refused) = refusals_from(rt, alloc, script, from)? {
             return Some((refused, true));
         }
-        shortage.give(alloc, STEP).ok()?;
     }
-    Some((TRIES, false))
+    Some((0, false))
 }
 
 // With each try a request more is met. No thread is started in what little there is, so the clients are run one after
