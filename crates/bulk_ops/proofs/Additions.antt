@@ -4,25 +4,28 @@ use Rattle.std.specs.Prelude.{option_map}
 use Rattle.std.specs.declared.cmp.Ordering.{Ordering}
 use mir.Val.{bool_byte}
 use Rattle.std.specs.Cmp.{IsTotalOrder}
-use Rattle.versions.specs.Map.{Map, union, with_pair}
+use Rattle.versions.specs.Map.{Map, IsAntisymmetric, IsMap, union, with_pair}
 use Rattle.versions.specs.Contents.{Contents}
 use Rattle.combiner.specs.Unions.{AreApart}
 use Rattle.combiner.specs.Bulks.{IsAdded}
 use Rattle.combiner.specs.Monoids.{IsAssociative, IsCommutative, IsNeutral, IsClosed, folded}
-use Rattle.bulk_ops.specs.Meanings.{Means}
-use Rattle.bulk_ops.specs.Answers.{Question, count, exists, for_all, find, filtered, mapped, fold, Answer, answers, passes, passing, items_of}
-use Rattle.bulk_ops.specs.Parts.{pair_of, IsPut}
+use Rattle.bulk_ops.specs.Meanings.{Means, MeansImages}
+use Rattle.bulk_ops.specs.Answers.{Question, count, exists, for_all, find, filtered, mapped, paired, fold, Answer, answers, IsImage, passes, passing, items_of}
+use Rattle.bulk_ops.specs.Parts.{pair_of, IsPut, IsImagePut}
 use Rattle.bulk_ops.specs.Queries.{Asks, PartAnswers}
 use Rattle.bulk_ops.specs.declared.closure.PairFn.{Ghosts}
+use Rattle.bulk_ops.specs.declared.closure.ImageFn.{Ghosts as ImageGhosts}
 use Rattle.bulk_ops.specs.declared.stored.Stored.{Stored}
+use Rattle.bulk_ops.specs.declared.stored.StoredPairs.{StoredPairs}
 use Rattle.bulk_ops.specs.declared.query.Query.{Query}
-use Rattle.bulk_ops.specs.declared.query.Query.TheVariants.{Count, Exists, ForAll, Find, Filter, MapValues, Fold}
+use Rattle.bulk_ops.specs.declared.query.Query.TheVariants.{Count, Exists, ForAll, Find, Filter, MapValues, MapPairs, Fold}
 use Rattle.bulk_ops.specs.declared.part.Part.{Part}
 use Rattle.bulk_ops.specs.declared.part.Part.TheVariants as parts
 use Rattle.bulk_ops.proofs.Unions.{truth_of}
 use Rattle.std.specs.List.{list_any}
 use Rattle.bulk_ops.proofs.Totals.{all_union, any_union, count_union, fold_union, folded_is_item}
 use Rattle.bulk_ops.proofs.Made.{in_left, in_right, passing_union, values_union}
+use Rattle.bulk_ops.proofs.Images.{image_one, image_union}
 
 or_false : (b : Bool) → b ≡ (b || false)
 or_false true = refl
@@ -59,6 +62,11 @@ module _ {K V R C : Type 0} {t : Ghosts C K V R} (k : K) (v : V) where
   abbrev Says : Stored K V R C t → R → Type 0
   Says s r = (p : K → V → R) → Means (t.gives s.call) p → r ≡ p k v
 
+module _ {K V P : Type 0} {h : ImageGhosts P K V} (k : K) (v : V) where
+  -- r is the image that the closure means at the pair
+  abbrev pub IsImageOf : StoredPairs K V P h → K × V → Type 0
+  IsImageOf s r = (p : K → V → K × V) → MeansImages (h.gives s.call) p → r ≡ p k v
+
 module _ {K V : Type 0} (R : K → K → Ordering) (o : IsTotalOrder R) (k : K) (v : V) where
   -- what was found in a map is found with a pair that does not pass
   kept_found : (I : Type 0) (p : K → V → Bool) (m : Map K V) (x : Option (K × V)) → false ≡ p k v → AreApart R ((k, v) ∷ []) m
@@ -83,15 +91,15 @@ module _ {K V : Type 0} (R : K → K → Ordering) (o : IsTotalOrder R) (k : K) 
         ∙ assoc (p k v) unit rest
         ∙ ap (op (p k v)) (comm unit rest ∙ neutral rest item)
 
-module _ {K V C D M E I : Type 0} {t : Ghosts C K V Bool} {f : Ghosts D K V V} {g : Ghosts E K V I} (combine : M → I → I → I) (unit_of : M → I) where
-  abbrev Answered : Query K V C D M E I t f g → Map K V → Part K V I → Type 0
+module _ {K V C D M E P I : Type 0} {t : Ghosts C K V Bool} {f : Ghosts D K V V} {g : Ghosts E K V I} {h : ImageGhosts P K V} (combine : M → I → I → I) (unit_of : M → I) where
+  abbrev Answered : Query K V C D M E P I t f g h → Map K V → Part K V I → Type 0
   Answered q m part = PartAnswers combine unit_of q m part
 
-  abbrev Asked : Query K V C D M E I t f g → Question K V I → Type 0
+  abbrev Asked : Query K V C D M E P I t f g h → Question K V I → Type 0
   Asked q z = Asks combine unit_of q z
 
   module _ (R : K → K → Ordering) (o : IsTotalOrder R) (k : K) (v : V) where
-    abbrev Added : Query K V C D M E I t f g → Part K V I → Part K V I → Type 0
+    abbrev Added : Query K V C D M E P I t f g h → Part K V I → Part K V I → Type 0
     Added q a c = IsAdded R (λ m part. PartAnswers combine unit_of q m part) a k v c
 
     count_with : (s : Stored K V Bool C t) (b : Bool) (j : ℕ) (m : Map K V) → Says k v s b → Answered (Count s) m (parts.Number j) → AreApart R ((k, v) ∷ []) m
@@ -103,7 +111,7 @@ module _ {K V C D M E I : Type 0} {t : Ghosts C K V Bool} {f : Ghosts D K V V} {
     count_with s b j m says y apart z asks = absurd asks
 
     -- one more is counted where the pair passes
-    pub count_added : (q : Query K V C D M E I t f g) (s : Stored K V Bool C t) (b : Bool) (a : Part K V I) (i j : ℕ) → q ≡ Count s → Says k v s b → i ≡ cond b 1 0 → a ≡ parts.Number j → Added q a (parts.Number (i + j))
+    pub count_added : (q : Query K V C D M E P I t f g h) (s : Stored K V Bool C t) (b : Bool) (a : Part K V I) (i j : ℕ) → q ≡ Count s → Says k v s b → i ≡ cond b 1 0 → a ≡ parts.Number j → Added q a (parts.Number (i + j))
     count_added q s b a i j is says e second m y apart =
         let was : Answered (Count s) m (parts.Number j) = subst (λ a. Answered (Count s) m a) second (subst (λ q. Answered q m a) is y) in
         subst (λ q. Answered q (with_pair R m k v) (parts.Number (i + j))) (sym is)
@@ -116,7 +124,7 @@ module _ {K V C D M E I : Type 0} {t : Ghosts C K V Bool} {f : Ghosts D K V V} {
     exists_with s i j m says y apart z asks = absurd asks
 
     -- some pair passes where this one does, or one did
-    pub exists_added : (q : Query K V C D M E I t f g) (s : Stored K V Bool C t) (i j r : Bool) (a : Part K V I) → q ≡ Exists s → Says k v s i → a ≡ parts.Truth j → r ≡ (i || j) → Added q a (parts.Truth r)
+    pub exists_added : (q : Query K V C D M E P I t f g h) (s : Stored K V Bool C t) (i j r : Bool) (a : Part K V I) → q ≡ Exists s → Says k v s i → a ≡ parts.Truth j → r ≡ (i || j) → Added q a (parts.Truth r)
     exists_added q s i j r a is says second e m y apart =
         let was : Answered (Exists s) m (parts.Truth j) = subst (λ a. Answered (Exists s) m a) second (subst (λ q. Answered q m a) is y) in
         subst (λ q. Answered q (with_pair R m k v) (parts.Truth r)) (sym is)
@@ -129,7 +137,7 @@ module _ {K V C D M E I : Type 0} {t : Ghosts C K V Bool} {f : Ghosts D K V V} {
     for_all_with s i j m says y apart z asks = absurd asks
 
     -- every pair passes where this one does, and all did
-    pub for_all_added : (q : Query K V C D M E I t f g) (s : Stored K V Bool C t) (i j r : Bool) (a : Part K V I) → q ≡ ForAll s → Says k v s i → a ≡ parts.Truth j → r ≡ (i && j) → Added q a (parts.Truth r)
+    pub for_all_added : (q : Query K V C D M E P I t f g h) (s : Stored K V Bool C t) (i j r : Bool) (a : Part K V I) → q ≡ ForAll s → Says k v s i → a ≡ parts.Truth j → r ≡ (i && j) → Added q a (parts.Truth r)
     for_all_added q s i j r a is says second e m y apart =
         let was : Answered (ForAll s) m (parts.Truth j) = subst (λ a. Answered (ForAll s) m a) second (subst (λ q. Answered q m a) is y) in
         subst (λ q. Answered q (with_pair R m k v) (parts.Truth r)) (sym is)
@@ -142,7 +150,7 @@ module _ {K V C D M E I : Type 0} {t : Ghosts C K V Bool} {f : Ghosts D K V V} {
     find_hit s x a m is says y apart z asks = absurd asks
 
     -- the pair passes, and is found
-    pub find_added : (q : Query K V C D M E I t f g) (s : Stored K V Bool C t) (b : Bool) (x : _) (a : Part K V I) → q ≡ Find s → b ≡ true → Says k v s b
+    pub find_added : (q : Query K V C D M E P I t f g h) (s : Stored K V Bool C t) (b : Bool) (x : _) (a : Part K V I) → q ≡ Find s → b ≡ true → Says k v s b
         → pair_of x ≡ (k, v) → Added q a (parts.Found (Some x))
     find_added q s b x a is e says same m y apart =
         subst (λ q. Answered q (with_pair R m k v) (parts.Found (Some x))) (sym is)
@@ -158,7 +166,7 @@ module _ {K V C D M E I : Type 0} {t : Ghosts C K V Bool} {f : Ghosts D K V V} {
     find_kept s a m says y apart = absurd y.kind
 
     -- the pair does not pass, and what was found stays
-    pub find_passed : (q : Query K V C D M E I t f g) (s : Stored K V Bool C t) (b : Bool) (a : Part K V I) → q ≡ Find s → b ≡ false → Says k v s b → Added q a a
+    pub find_passed : (q : Query K V C D M E P I t f g h) (s : Stored K V Bool C t) (b : Bool) (a : Part K V I) → q ≡ Find s → b ≡ false → Says k v s b → Added q a a
     find_passed q s b a is e says m y apart =
         subst (λ q. Answered q (with_pair R m k v) a) (sym is) (find_kept s a m (λ p means. sym e ∙ says p means) (subst (λ q. Answered q m a) is y) apart)
 
@@ -175,7 +183,7 @@ module _ {K V C D M E I : Type 0} {t : Ghosts C K V Bool} {f : Ghosts D K V V} {
     filter_made s to a c m says put y apart = absurd put
 
     -- the pair passes, and is put into the map
-    pub filter_added : (q : Query K V C D M E I t f g) (s : Stored K V Bool C t) (to : ℕ) (b : Bool) (a c : Part K V I) → q ≡ Filter s to → b ≡ true → Says k v s b
+    pub filter_added : (q : Query K V C D M E P I t f g h) (s : Stored K V Bool C t) (to : ℕ) (b : Bool) (a c : Part K V I) → q ≡ Filter s to → b ≡ true → Says k v s b
         → IsPut R a k v c → Added q a c
     filter_added q s to b a c is e says put m y apart =
         subst (λ q. Answered q (with_pair R m k v) c) (sym is) (filter_made s to a c m (λ p means. sym e ∙ says p means) put (subst (λ q. Answered q m a) is y) apart)
@@ -185,7 +193,7 @@ module _ {K V C D M E I : Type 0} {t : Ghosts C K V Bool} {f : Ghosts D K V V} {
     filter_kept s to a m says y apart = absurd y.kind
 
     -- the pair does not pass, and the map stays
-    pub filter_passed : (q : Query K V C D M E I t f g) (s : Stored K V Bool C t) (to : ℕ) (b : Bool) (a : Part K V I) → q ≡ Filter s to → b ≡ false → Says k v s b → Added q a a
+    pub filter_passed : (q : Query K V C D M E P I t f g h) (s : Stored K V Bool C t) (to : ℕ) (b : Bool) (a : Part K V I) → q ≡ Filter s to → b ≡ false → Says k v s b → Added q a a
     filter_passed q s to b a is e says m y apart =
         subst (λ q. Answered q (with_pair R m k v) a) (sym is) (filter_kept s to a m (λ p means. sym e ∙ says p means) (subst (λ q. Answered q m a) is y) apart)
 
@@ -202,9 +210,29 @@ module _ {K V C D M E I : Type 0} {t : Ghosts C K V Bool} {f : Ghosts D K V V} {
     values_made s to r a c m says put y apart = absurd put
 
     -- the key is put with its new value
-    pub values_added : (q : Query K V C D M E I t f g) (s : Stored K V V D f) (to : ℕ) (r : V) (a c : Part K V I) → q ≡ MapValues s to → Says k v s r → IsPut R a k r c → Added q a c
+    pub values_added : (q : Query K V C D M E P I t f g h) (s : Stored K V V D f) (to : ℕ) (r : V) (a c : Part K V I) → q ≡ MapValues s to → Says k v s r → IsPut R a k r c → Added q a c
     values_added q s to r a c is says put m y apart =
         subst (λ q. Answered q (with_pair R m k v) c) (sym is) (values_made s to r a c m says put (subst (λ q. Answered q m a) is y) apart)
+
+    pairs_with : (exact : IsAntisymmetric R) (s : StoredPairs K V P h) (to : ℕ) (r : K × V) (v' : Contents K V) (w' z' : Map K V) (m : Map K V) → IsImageOf k v s r → z' ≡ with_pair R v'.entries r.0 r.1 → IsMap R z'
+        → Answered (MapPairs s to) m (parts.Images v' w') → AreApart R ((k, v) ∷ []) m → (z : Question K V I) → Asked (MapPairs s to) z → answers z (with_pair R m k v) (Answer.images z')
+    pairs_with exact s to r v' w' z' m says e sorted y apart (paired p n) asks =
+        let was : IsImage p m v'.entries = subst (λ n. IsImage p m n) (sym y.kind.2) (y.answer (paired p n) asks) in
+        subst (λ es. answers {I = I} (paired p n) (with_pair R m k v) (Answer.images es)) (sym e)
+        (image_union R exact o p ((k, v) ∷ []) m (r ∷ []) v'.entries apart (truth_of _ (subst (IsMap R) e sorted)) (image_one p k v r (says p asks.0)) was)
+    pairs_with exact s to r v' w' z' m says e sorted y apart z asks = absurd asks
+
+    pairs_made : (exact : IsAntisymmetric R) (s : StoredPairs K V P h) (to : ℕ) (r : K × V) (a c : Part K V I) (m : Map K V) → IsImageOf k v s r → IsImagePut R a r.0 r.1 c
+        → Answered (MapPairs s to) m a → AreApart R ((k, v) ∷ []) m → Answered (MapPairs s to) (with_pair R m k v) c
+    pairs_made exact s to r (parts.Images v' w') (parts.Images y' z') m says put y apart =
+        record { kind = (put.2, put.3, put.4); answer = pairs_with exact s to r v' w' z' m says put.0 put.1 y apart }
+    pairs_made exact s to r a c m says put y apart = absurd put
+
+    -- the image is put into the map
+    pub pairs_added : (exact : IsAntisymmetric R) (q : Query K V C D M E P I t f g h) (s : StoredPairs K V P h) (to : ℕ) (r : K × V) (a c : Part K V I) → q ≡ MapPairs s to → IsImageOf k v s r
+        → IsImagePut R a r.0 r.1 c → Added q a c
+    pairs_added exact q s to r a c is says put m y apart =
+        subst (λ q. Answered q (with_pair R m k v) c) (sym is) (pairs_made exact s to r a c m says put (subst (λ q. Answered q m a) is y) apart)
 
     module _ (is_item : M → I → Type 0) (assoc : (m : M) → IsAssociative (combine m)) (comm : (m : M) → IsCommutative (combine m))
         (neutral : (m : M) → IsNeutral (combine m) (is_item m) (unit_of m)) (closed : (m : M) → IsClosed (combine m) (is_item m)) (unit_is : (m : M) → is_item m (unit_of m)) where
@@ -216,7 +244,7 @@ module _ {K V C D M E I : Type 0} {t : Ghosts C K V Bool} {f : Ghosts D K V V} {
           (λ j. combine w (says p asks.2 j) (was j)) ∙ sym (fold_with R o k v (combine w) (is_item w) (unit_of w) (assoc w) (comm w) (neutral w) (closed w) (unit_is w) p m apart) ∙ (λ i. sym same i (items_of p (with_pair R m k v)))
       fold_one w s i a m says y apart z asks = absurd asks
 
-      pub fold_added : (q : Query K V C D M E I t f g) (w : M) (s : Stored K V I E g) (i j r : I) (a : Part K V I) → q ≡ Fold w s → Says k v s i → a ≡ parts.Item j → r ≡ combine w i j
+      pub fold_added : (q : Query K V C D M E P I t f g h) (w : M) (s : Stored K V I E g) (i j r : I) (a : Part K V I) → q ≡ Fold w s → Says k v s i → a ≡ parts.Item j → r ≡ combine w i j
           → Added q a (parts.Item r)
       fold_added q w s i j r a is says second e m y apart =
           let was : Answered (Fold w s) m (parts.Item j) = subst (λ a. Answered (Fold w s) m a) second (subst (λ q. Answered q m a) is y) in

@@ -4,23 +4,26 @@ use Rattle.std.specs.Prelude.{option_map, max}
 use Rattle.std.specs.declared.cmp.Ordering.{Ordering}
 use Rattle.std.specs.Cmp.{IsTotalOrder}
 use Rattle.std.specs.FinMap.{is_sorted}
-use Rattle.versions.specs.Map.{Map, union}
+use Rattle.versions.specs.Map.{Map, IsAntisymmetric, IsMap, union}
 use Rattle.std.specs.Option.{option_or}
 use Rattle.versions.specs.Contents.{Contents}
+use Rattle.versions.specs.declared.version.TheConstants.{MOST_PAIRS}
 use Rattle.combiner.specs.Unions.{AreApart}
 use Rattle.combiner.specs.Bulks.{IsJoined}
 use Rattle.combiner.specs.Monoids.{IsAssociative, IsCommutative, IsNeutral, IsClosed, folded}
-use Rattle.bulk_ops.specs.Answers.{Question, count, exists, for_all, find, filtered, mapped, fold, Answer, answers, items_of}
+use Rattle.bulk_ops.specs.Answers.{Question, count, exists, for_all, find, filtered, mapped, paired, fold, Answer, answers, IsImage, items_of}
 use Rattle.bulk_ops.specs.Parts.{pair_of}
 use Rattle.bulk_ops.specs.Queries.{Asks, PartAnswers}
 use Rattle.bulk_ops.specs.declared.closure.PairFn.{Ghosts}
+use Rattle.bulk_ops.specs.declared.closure.ImageFn.{Ghosts as ImageGhosts}
 use Rattle.bulk_ops.specs.declared.query.Query.{Query}
-use Rattle.bulk_ops.specs.declared.query.Query.TheVariants.{Count, Exists, ForAll, Find, Filter, MapValues, Fold}
+use Rattle.bulk_ops.specs.declared.query.Query.TheVariants.{Count, Exists, ForAll, Find, Filter, MapValues, MapPairs, Fold}
 use Rattle.bulk_ops.specs.declared.part.Part.{Part}
 use Rattle.bulk_ops.specs.declared.part.Part.TheVariants as parts
 use Rattle.bulk_ops.proofs.Unions.{truth_of}
 use Rattle.bulk_ops.proofs.Totals.{count_union, any_union, all_union, fold_union}
 use Rattle.bulk_ops.proofs.Made.{passing_union, values_union, in_left, in_right}
+use Rattle.bulk_ops.proofs.Images.{image_union}
 
 module _ {K V : Type 0} (R : K → K → Ordering) where
   left_sorted : (m n : Map K V) → AreApart R m n → T (is_sorted R m)
@@ -36,17 +39,17 @@ module _ {K V : Type 0} (R : K → K → Ordering) where
     found_both p None (Some b) m n apart x y = (in_right R o m n b (left_sorted m n apart) apart.apart y.0, y.1)
     found_both p (Some a) b m n apart x y = (in_left R o m n a (left_sorted m n apart) apart.apart x.0, x.1)
 
-module _ {K V C D M E I : Type 0} {t : Ghosts C K V Bool} {f : Ghosts D K V V} {g : Ghosts E K V I} (combine : M → I → I → I) (unit_of : M → I) where
-  abbrev Answered : Query K V C D M E I t f g → Map K V → Part K V I → Type 0
+module _ {K V C D M E P I : Type 0} {t : Ghosts C K V Bool} {f : Ghosts D K V V} {g : Ghosts E K V I} {h : ImageGhosts P K V} (combine : M → I → I → I) (unit_of : M → I) where
+  abbrev Answered : Query K V C D M E P I t f g h → Map K V → Part K V I → Type 0
   Answered q m part = PartAnswers combine unit_of q m part
 
   -- the query asks the question
-  abbrev Asked : Query K V C D M E I t f g → Question K V I → Type 0
+  abbrev Asked : Query K V C D M E P I t f g h → Question K V I → Type 0
   Asked q z = Asks combine unit_of q z
 
   module _ (R : K → K → Ordering) (o : IsTotalOrder R) where
     -- what is joined of parts of a query
-    abbrev Joined : Query K V C D M E I t f g → Part K V I → Part K V I → Part K V I → Type 0
+    abbrev Joined : Query K V C D M E P I t f g h → Part K V I → Part K V I → Part K V I → Type 0
     Joined q a b c = IsJoined R (Answered q) a b c
 
     count_answer : (s : _) (i j : ℕ) (m n : Map K V) → Answered (Count s) m (parts.Number i) → Answered (Count s) n (parts.Number j) → AreApart R m n
@@ -87,32 +90,41 @@ module _ {K V C D M E I : Type 0} {t : Ghosts C K V Bool} {f : Ghosts D K V V} {
         ∙ sym (values_union R o p m n (left_sorted R m n apart) apart.apart)
     values_answer s to a b m n x y apart z asks = absurd asks
 
-    at : (q r : Query K V C D M E I t f g) (a b c d e : Part K V I) → q ≡ r → a ≡ c → b ≡ d → Joined r c d e → Joined q a b e
+    pairs_answer : (exact : IsAntisymmetric R) (s : _) (to : ℕ) (a b : Contents K V) (y' z' : Map K V) (m n : Map K V) → IsMap R (union R a.entries b.entries)
+        → Answered (MapPairs s to) m (parts.Images a y') → Answered (MapPairs s to) n (parts.Images b z') → AreApart R m n
+        → (z : Question K V I) → Asked (MapPairs s to) z → answers z (union R m n) (Answer.images (union R a.entries b.entries))
+    pairs_answer exact s to a b y' z' m n sorted x y apart (paired p n') asks =
+        let left : IsImage p m a.entries = subst (λ l. IsImage p m l) (sym x.kind.2) (x.answer (paired p n') asks) in
+        let right : IsImage p n b.entries = subst (λ l. IsImage p n l) (sym y.kind.2) (y.answer (paired p n') asks) in
+        image_union R exact o p m n a.entries b.entries apart (truth_of _ sorted) left right
+    pairs_answer exact s to a b y' z' m n sorted x y apart z asks = absurd asks
+
+    at : (q r : Query K V C D M E P I t f g h) (a b c d e : Part K V I) → q ≡ r → a ≡ c → b ≡ d → Joined r c d e → Joined q a b e
     at q r a b c d e is first second j =
         subst (λ x. Joined x a b e) (sym is) (subst (λ x. Joined r x b e) (sym first) (subst (λ x. Joined r c x e) (sym second) j))
 
-    pub count_joined : (q : Query K V C D M E I t f g) (s : _) (a b : Part K V I) (i j : ℕ) → q ≡ Count s → a ≡ parts.Number i → b ≡ parts.Number j → Joined q a b (parts.Number (i + j))
+    pub count_joined : (q : Query K V C D M E P I t f g h) (s : _) (a b : Part K V I) (i j : ℕ) → q ≡ Count s → a ≡ parts.Number i → b ≡ parts.Number j → Joined q a b (parts.Number (i + j))
     count_joined q s a b i j is first second =
         at q (Count s) a b (parts.Number i) (parts.Number j) (parts.Number (i + j)) is first second
         (λ m n x y apart. record { kind = tt; answer = count_answer s i j m n x y apart })
 
-    pub exists_joined : (q : Query K V C D M E I t f g) (s : _) (a b : Part K V I) (i j k : Bool) → q ≡ Exists s → a ≡ parts.Truth i → b ≡ parts.Truth j → k ≡ (i || j) → Joined q a b (parts.Truth k)
+    pub exists_joined : (q : Query K V C D M E P I t f g h) (s : _) (a b : Part K V I) (i j k : Bool) → q ≡ Exists s → a ≡ parts.Truth i → b ≡ parts.Truth j → k ≡ (i || j) → Joined q a b (parts.Truth k)
     exists_joined q s a b i j k is first second e =
         at q (Exists s) a b (parts.Truth i) (parts.Truth j) (parts.Truth k) is first second
         (λ m n x y apart. record { kind = tt; answer = λ z asks. subst (λ k. answers z (union R m n) (Answer.truth k)) (sym e) (exists_answer s i j m n x y apart z asks) })
 
-    pub for_all_joined : (q : Query K V C D M E I t f g) (s : _) (a b : Part K V I) (i j k : Bool) → q ≡ ForAll s → a ≡ parts.Truth i → b ≡ parts.Truth j → k ≡ (i && j) → Joined q a b (parts.Truth k)
+    pub for_all_joined : (q : Query K V C D M E P I t f g h) (s : _) (a b : Part K V I) (i j k : Bool) → q ≡ ForAll s → a ≡ parts.Truth i → b ≡ parts.Truth j → k ≡ (i && j) → Joined q a b (parts.Truth k)
     for_all_joined q s a b i j k is first second e =
         at q (ForAll s) a b (parts.Truth i) (parts.Truth j) (parts.Truth k) is first second
         (λ m n x y apart. record { kind = tt; answer = λ z asks. subst (λ k. answers z (union R m n) (Answer.truth k)) (sym e) (for_all_answer s i j m n x y apart z asks) })
 
-    pub find_joined : (q : Query K V C D M E I t f g) (s : _) (a b : Part K V I) (i j k : Option _) → q ≡ Find s → a ≡ parts.Found i → b ≡ parts.Found j
+    pub find_joined : (q : Query K V C D M E P I t f g h) (s : _) (a b : Part K V I) (i j k : Option _) → q ≡ Find s → a ≡ parts.Found i → b ≡ parts.Found j
         → option_map pair_of k ≡ option_or (option_map pair_of i) (option_map pair_of j) → Joined q a b (parts.Found k)
     find_joined q s a b i j k is first second e =
         at q (Find s) a b (parts.Found i) (parts.Found j) (parts.Found k) is first second
         (λ m n x y apart. record { kind = tt; answer = λ z asks. subst (λ k. answers z (union R m n) (Answer.found k)) (sym e) (find_answer s i j m n x y apart z asks) })
 
-    pub filter_joined : (q : Query K V C D M E I t f g) (s : _) (to : ℕ) (a b : Part K V I) (i j k : Contents K V) → q ≡ Filter s to → a ≡ parts.Made i → b ≡ parts.Made j
+    pub filter_joined : (q : Query K V C D M E P I t f g h) (s : _) (to : ℕ) (a b : Part K V I) (i j k : Contents K V) → q ≡ Filter s to → a ≡ parts.Made i → b ≡ parts.Made j
         → k.entries ≡ union R i.entries j.entries → k.limit ≡ i.limit → k.stamp ≡ max i.stamp j.stamp → Joined q a b (parts.Made k)
     filter_joined q s to a b i j k is first second entries limit stamp =
         at q (Filter s to) a b (parts.Made i) (parts.Made j) (parts.Made k) is first second
@@ -121,13 +133,22 @@ module _ {K V C D M E I : Type 0} {t : Ghosts C K V Bool} {f : Ghosts D K V V} {
           answer = λ z asks. subst (λ es. answers z (union R m n) (Answer.made es)) (sym entries) (filter_answer s to i j m n x y apart z asks);
         })
 
-    pub values_joined : (q : Query K V C D M E I t f g) (s : _) (to : ℕ) (a b : Part K V I) (i j k : Contents K V) → q ≡ MapValues s to → a ≡ parts.Made i → b ≡ parts.Made j
+    pub values_joined : (q : Query K V C D M E P I t f g h) (s : _) (to : ℕ) (a b : Part K V I) (i j k : Contents K V) → q ≡ MapValues s to → a ≡ parts.Made i → b ≡ parts.Made j
         → k.entries ≡ union R i.entries j.entries → k.limit ≡ i.limit → k.stamp ≡ max i.stamp j.stamp → Joined q a b (parts.Made k)
     values_joined q s to a b i j k is first second entries limit stamp =
         at q (MapValues s to) a b (parts.Made i) (parts.Made j) (parts.Made k) is first second
         (λ m n x y apart. record {
           kind = (limit ∙ x.kind.0, stamp ∙ (λ i. max (x.kind.1 i) (y.kind.1 i)));
           answer = λ z asks. subst (λ es. answers z (union R m n) (Answer.made es)) (sym entries) (values_answer s to i j m n x y apart z asks);
+        })
+
+    pub pairs_joined : (exact : IsAntisymmetric R) (q : Query K V C D M E P I t f g h) (s : _) (to : ℕ) (a b : Part K V I) (i j k : Contents K V) (y' z' w : Map K V) → q ≡ MapPairs s to → a ≡ parts.Images i y' → b ≡ parts.Images j z'
+        → IsMap R w → w ≡ union R i.entries j.entries → k.limit ≡ MOST_PAIRS → k.stamp ≡ 0 → k.entries ≡ w → Joined q a b (parts.Images k w)
+    pairs_joined exact q s to a b i j k y' z' w is first second sorted entries limit stamp same =
+        at q (MapPairs s to) a b (parts.Images i y') (parts.Images j z') (parts.Images k w) is first second
+        (λ m n x y apart. record {
+          kind = (limit, stamp, same);
+          answer = λ z asks. subst (λ es. answers z (union R m n) (Answer.images es)) (sym entries) (pairs_answer exact s to i j y' z' m n (subst (IsMap R) entries sorted) x y apart z asks);
         })
 
     module _ (is_item : M → I → Type 0) (assoc : (m : M) → IsAssociative (combine m)) (comm : (m : M) → IsCommutative (combine m))
@@ -143,7 +164,7 @@ module _ {K V C D M E I : Type 0} {t : Ghosts C K V Bool} {f : Ghosts D K V V} {
           ∙ (λ i. sym same i (items_of p (union R m n)))
       fold_answer w s a b m n x y apart z asks = absurd asks
 
-      pub fold_joined : (q : Query K V C D M E I t f g) (w : M) (s : _) (a b : Part K V I) (i j k : I) → q ≡ Fold w s → a ≡ parts.Item i → b ≡ parts.Item j
+      pub fold_joined : (q : Query K V C D M E P I t f g h) (w : M) (s : _) (a b : Part K V I) (i j k : I) → q ≡ Fold w s → a ≡ parts.Item i → b ≡ parts.Item j
           → k ≡ combine w i j → Joined q a b (parts.Item k)
       fold_joined q w s a b i j k is first second e =
           at q (Fold w s) a b (parts.Item i) (parts.Item j) (parts.Item k) is first second

@@ -13,6 +13,7 @@ use Rattle.bulk_ops.specs.Queries.{PartAnswers, answer_of}
 use Rattle.bulk_ops.specs.Told.{told_of}
 use Rattle.bulk_ops.specs.declared.asks.Answer.TheVariants as tells
 use Rattle.bulk_ops.specs.declared.closure.PairFn.{Ghosts}
+use Rattle.bulk_ops.specs.declared.closure.ImageFn.{Ghosts as ImageGhosts}
 use Rattle.bulk_ops.specs.declared.stored.Stored.{Stored}
 use Rattle.bulk_ops.specs.declared.query.Query.{Query}
 use Rattle.bulk_ops.specs.declared.query.Query.TheVariants.{Fold}
@@ -25,14 +26,14 @@ pub pair_told : {K V I : Type 0} (part : Part K V I) (x y : Option (Arc K Global
     → told_of {I = I} (tells.Found x) ≡ told (answer_of part)
 pair_told part x y is same = (λ i. plain.Told.found (same i)) ∙ ap (λ p. told (answer_of p)) (sym is)
 
-module _ {K V C D M E I : Type 0} {t : Ghosts C K V Bool} {f : Ghosts D K V V} {g : Ghosts E K V I} (combine : M → I → I → I) (unit_of : M → I) where
-  abbrev Known : Query K V C D M E I t f g → Part K V I → Type 0
+module _ {K V C D M E P I : Type 0} {t : Ghosts C K V Bool} {f : Ghosts D K V V} {g : Ghosts E K V I} {h : ImageGhosts P K V} (combine : M → I → I → I) (unit_of : M → I) where
+  abbrev Known : Query K V C D M E P I t f g h → Part K V I → Type 0
   Known q part = ∥ ((m : Map K V) × PartAnswers combine unit_of q m part) ∥₁
 
   module _ (is_item : M → I → Type 0) (assoc : (m : M) → IsAssociative (combine m)) (comm : (m : M) → IsCommutative (combine m))
       (neutral : (m : M) → IsNeutral (combine m) (is_item m) (unit_of m)) (closed : (m : M) → IsClosed (combine m) (is_item m)) (unit_is : (m : M) → is_item m (unit_of m)) (set : IsSet I) where
     -- the item of a part that answers some map, combined with the unit, tells the same
-    pub item_told : (q : Query K V C D M E I t f g) (w : M) (s : Stored K V I E g) (part : Part K V I) (a u r : I) → q ≡ Fold w s → part ≡ parts.Item a → u ≡ unit_of w → r ≡ combine w a u
+    pub item_told : (q : Query K V C D M E P I t f g h) (w : M) (s : Stored K V I E g) (part : Part K V I) (a u r : I) → q ≡ Fold w s → part ≡ parts.Item a → u ≡ unit_of w → r ≡ combine w a u
         → Known q part → told_of {K = K} {V = V} (tells.Item r) ≡ told (answer_of part)
     item_told q w s part a u r is second unit made known =
         let there : Known (Fold w s) (parts.Item a) = subst (λ x. Known (Fold w s) x) second (subst (λ x. Known x part) is known) in

@@ -1,6 +1,7 @@
 pub mod Unions
 pub mod Totals
 pub mod Made
+pub mod Images
 pub mod Joins
 pub mod PartKinds
 pub mod Additions
@@ -8,6 +9,7 @@ pub mod Settled
 pub mod Concluded
 pub mod Lent
 pub mod Works
+pub mod Imaged
 pub mod Shaped
 pub mod Permutations
 pub mod Whole

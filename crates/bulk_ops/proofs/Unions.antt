@@ -29,7 +29,7 @@ pub and_of : (a b : Bool) → T a → T b → T (a && b)
 and_of true b h k = k
 and_of false b h k = absurd h
 
-less_of : (o : Ordering) → T (is_lt o) → o ≡ Less
+pub less_of : (o : Ordering) → T (is_lt o) → o ≡ Less
 less_of Less h = refl
 less_of Equal h = absurd h
 less_of Greater h = absurd h

@@ -1,10 +1,10 @@
 -- The answers of bulk operations.
-use Rattle.std.specs.Prelude.{◌≡◌, ℕ, Bool, true, false, List, [], length, map, filter, Option, Some, None, Contains}
+use Rattle.std.specs.Prelude.{◌≡◌, ◌≢◌, ℕ, Bool, true, false, List, [], length, map, filter, Option, Some, None, Contains, AllPairs}
 use Rattle.std.specs.List.{list_any, list_all}
 use Rattle.versions.specs.Map.{Map}
 use Rattle.combiner.specs.Monoids.{folded}
 
--- what is asked of a map: a test, a new value or an item of each pair, and the number of the handle that is to have the map that is made
+-- what is asked of a map: a test, a new value, an image or an item of each pair, and the number of the handle that is to have the map that is made
 pub data Question (K V I : Type 0) : Type 0 where
   count : (K → V → Bool) → Question K V I
   exists : (K → V → Bool) → Question K V I
@@ -12,6 +12,7 @@ pub data Question (K V I : Type 0) : Type 0 where
   find : (K → V → Bool) → Question K V I
   filtered : (K → V → Bool) → ℕ → Question K V I
   mapped : (K → V → V) → ℕ → Question K V I
+  paired : (K → V → K × V) → ℕ → Question K V I
   fold : (I → I → I) → I → (K → V → I) → Question K V I
 
 -- what may be answered
@@ -20,14 +21,16 @@ pub data Answer (K V I : Type 0) : Type 0 where
   truth : Bool → Answer K V I
   found : Option (K × V) → Answer K V I
   made : Map K V → Answer K V I
+  images : Map K V → Answer K V I
   item : I → Answer K V I
 
--- what is told of an answer: of a map that is made its number of pairs
+-- what is told of an answer: of a map that follows from the question its number of pairs, of one of images the map
 pub data Told (K V I : Type 0) : Type 0 where
   number : ℕ → Told K V I
   truth : Bool → Told K V I
   found : Option (K × V) → Told K V I
   made : ℕ → Told K V I
+  images : Map K V → Told K V I
   item : I → Told K V I
 
 module _ {K V : Type 0} where
@@ -43,6 +46,17 @@ module _ {K V : Type 0} where
   abbrev pub with_values : (K → V → V) → Map K V → Map K V
   with_values f m = map (λ x. (x.0, f x.0 x.1)) m
 
+  -- the image of the pair
+  abbrev pub image : (K → V → K × V) → K × V → K × V
+  image f x = f x.0 x.1
+
+  -- n is a map whose keys are exactly those of the images of the pairs of m, and each pair of which is the image of some pair of m
+  pub record IsImage (f : K → V → K × V) (m n : Map K V) : Type 0 where
+    -- no key stands twice
+    pub once : AllPairs (λ x y. x.0 ≢ y.0) n
+    pub from : (y : K × V) → Contains n y → (x : K × V) × Contains m x × (image f x ≡ y)
+    pub keys : (x : K × V) → Contains m x → (v : V) × Contains n ((image f x).0, v)
+
   -- the items of the pairs
   abbrev pub items_of : {I : Type 0} → (K → V → I) → Map K V → List I
   items_of i m = map (λ x. i x.0 x.1) m
@@ -57,6 +71,7 @@ module _ {K V I : Type 0} where
   answers (find p) m (Answer.found (Some x)) = Contains m x × (passes p x ≡ true)
   answers (filtered p to) m (Answer.made n) = n ≡ passing p m
   answers (mapped f to) m (Answer.made n) = n ≡ with_values f m
+  answers (paired f to) m (Answer.images n) = IsImage f m n
   answers (fold op unit i) m (Answer.item a) = a ≡ folded op unit (items_of i m)
   answers q m a = ⊥
 
@@ -71,11 +86,13 @@ module _ {K V I : Type 0} where
   abbrev pub target : Question K V I → Option ℕ
   target (filtered p to) = Some to
   target (mapped f to) = Some to
+  target (paired f to) = Some to
   target q = None
 
   -- the map that an answer makes
   abbrev pub map_of : Answer K V I → Map K V
   map_of (Answer.made m) = m
+  map_of (Answer.images m) = m
   map_of a = []
 
   -- what is told of an answer
@@ -84,4 +101,5 @@ module _ {K V I : Type 0} where
   told (Answer.truth b) = Told.truth b
   told (Answer.found x) = Told.found x
   told (Answer.made m) = Told.made (length m)
+  told (Answer.images m) = Told.images m
   told (Answer.item a) = Told.item a

@@ -1,12 +1,13 @@
 -- What kind of part a part is.
 use Rattle.std.specs.Prelude.{◌≡◌, ◌<◌, length}
 use Rattle.std.specs.declared.cmp.Ordering.{Ordering}
-use Rattle.versions.specs.Map.{with_pair}
+use Rattle.versions.specs.Map.{IsMap, with_pair}
+use Rattle.versions.specs.declared.version.TheConstants.{MOST_PAIRS}
 use Rattle.std.specs.Arc.{arc_value}
 use Rattle.std.specs.declared.sync.Arc.{Arc}
 use Rattle.std.specs.declared.alloc.Global.{Global}
 use Rattle.bulk_ops.specs.declared.part.Part.{Part}
-use Rattle.bulk_ops.specs.declared.part.Part.TheVariants.{Number, Truth, Found, Made, Item}
+use Rattle.bulk_ops.specs.declared.part.Part.TheVariants.{Number, Truth, Found, Made, Images, Item}
 
 -- the pair of two shared pointers, wherever they lie
 abbrev pub pair_of : {K V : Type 0} → Arc K Global × Arc V Global → K × V
@@ -42,3 +43,17 @@ module _ {K V I : Type 0} where
   abbrev pub IsPut : (K → K → Ordering) → Part K V I → K → V → Part K V I → Type 0
   IsPut R (Made v) k x (Made w) = (w.entries ≡ with_pair R v.entries k x) × (w.limit ≡ v.limit) × (w.stamp ≡ v.stamp)
   IsPut R old k x new = ⊥
+
+  abbrev pub HasImages : Part K V I → Type 0
+  HasImages (Images v w) = Unit {0}
+  HasImages part = ⊥
+
+  -- the part is a map of images, of fewer pairs than one may have and of no generation's stamp
+  abbrev pub HasImageRoom : Part K V I → Type 0
+  HasImageRoom (Images v w) = (length v.entries < MOST_PAIRS) × (v.stamp ≡ 0)
+  HasImageRoom part = ⊥
+
+  -- the new part's map of images is the old one's with the pair, and its keys rise strictly
+  abbrev pub IsImagePut : (K → K → Ordering) → Part K V I → K → V → Part K V I → Type 0
+  IsImagePut R (Images v w) k x (Images y z) = (z ≡ with_pair R v.entries k x) × IsMap R z × (y.limit ≡ MOST_PAIRS) × (y.stamp ≡ 0) × (y.entries ≡ z)
+  IsImagePut R old k x new = ⊥

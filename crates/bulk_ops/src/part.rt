@@ -1,13 +1,14 @@
 //! What is known of some of the pairs of a map.
 ghost use Rattle.std.specs.Prelude.{◌≡◌, [], IfOk, OnErr, OnOk};
-ghost use Rattle.bulk_ops.specs.Parts.{HasItem, HasMap, HasNumber, HasPair, HasRoom, HasTruth, IsPut};
+ghost use Rattle.bulk_ops.specs.Parts.{HasImageRoom, HasImages, HasItem, HasMap, HasNumber, HasPair, HasRoom, HasTruth, IsImagePut, IsPut};
 ghost use Rattle.versions.specs.declared.version.TheConstants.{MOST_PAIRS};
 
+use crate::imaging::with_image;
 use hash_path::PathKey;
 use std::alloc::Global;
 use std::sync::Arc;
 use trie_node::{NoMemory, Stamp};
-use versions::{MOST_PAIRS, Refusal, Version};
+use versions::{MOST_PAIRS, Refusal, Version, View};
 
 /// A pair of a map.
 pub type Pair<K, V> = (Arc<K>, Arc<V>);
@@ -23,6 +24,8 @@ pub enum Part<K: PathKey, V, I> {
     Found(Option<Pair<K, V>>),
     /// The map that is made of them.
     Made(Version<K, V>),
+    /// The map of their images, and a view of it.
+    Images(Version<K, V>, View<K, V>),
     /// Their items combined.
     Item(I),
 }
@@ -72,6 +75,17 @@ impl<K: PathKey + Drop, V: Drop, I> Part<K, V, I> {
         }
     }
 
+    /// The map of a part of images, and the view of it.
+    pub fn images(&self) -> (&Version<K, V>, &View<K, V>)
+        requires { HasImages self.now }
+        ensures { self.now ≡ Part.Images result.0.now result.1.now }
+    {
+        match self {
+            Part::Images(map, view) => (map, view),
+            _ => unreachable!(),
+        }
+    }
+
     /// The item of a part that has one.
     pub fn item(&self) -> &I
         requires { HasItem self.now }
@@ -95,6 +109,28 @@ impl<K: PathKey + Drop, V: Drop, I> Part<K, V, I> {
                 Err(Refusal::NoMemory) => Err(NoMemory),
                 Err(_) => unreachable!(),
             },
+            _ => unreachable!(),
+        }
+    }
+
+    /// Puts an image into the map of a part of images. After `NoMemory` the part is as before.
+    pub(crate) fn put_image(
+        &mut self,
+        alloc: Global,
+        key: Arc<K>,
+        value: Arc<V>,
+    ) -> Result<(), NoMemory>
+        requires { HasImageRoom self.old }
+        ensures put { OnOk result (IsImagePut K.cmp self.old key.value value.value self.new) }
+        ensures err { OnErr result (self.new ≡ self.old) }
+    {
+        match self {
+            Part::Images(map, view) => {
+                let more = with_image(alloc, map, key, value)?;
+                *map = more.0;
+                *view = more.1;
+                Ok(())
+            }
             _ => unreachable!(),
         }
     }

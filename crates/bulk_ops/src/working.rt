@@ -4,7 +4,8 @@ ghost use Rattle.std.specs.Option.{option_or};
 ghost use Rattle.bulk_ops.specs.Parts.{pair_of};
 ghost use Rattle.bulk_ops.specs.Queries.{is_settled};
 
-use crate::closure::PairFn;
+use crate::closure::{ImageFn, PairFn};
+use crate::imaging::{images_of, joined_images, no_images};
 use crate::part::{Pair, Part, no_pairs};
 use crate::query::Query;
 use crate::shaping::{changed, passed};
@@ -21,7 +22,8 @@ impl<
     F: PairFn<K, V, V>,
     M: Monoid,
     G: PairFn<K, V, M::Item>,
-> Bulk<K, V> for Query<K, V, T, F, M, G> {
+    P: ImageFn<K, V>,
+> Bulk<K, V> for Query<K, V, T, F, M, G, P> {
     type Part = Part<K, V, M::Item>;
 
     ghost use Rattle.bulk_ops.specs.Queries.{DecidesQuery, IsReady, PartAnswers};
@@ -40,6 +42,10 @@ impl<
             Query::Find(_) => Part::Found(None),
             Query::Filter(_, _) => Part::Made(no_pairs(alloc)?),
             Query::MapValues(_, _) => Part::Made(no_pairs(alloc)?),
+            Query::MapPairs(_, _) => {
+                let (map, view) = no_images(alloc)?;
+                Part::Images(map, view)
+            }
             Query::Fold(monoid, _) => Part::Item(monoid.unit()),
         })
     }
@@ -77,6 +83,11 @@ impl<
             Query::Find(_) => Ok(Part::Found(first_of(a.found(), b.found())?)),
             Query::Filter(_, _) => Ok(Part::Made(merge(alloc, a.map(), b.map())?)),
             Query::MapValues(_, _) => Ok(Part::Made(merge(alloc, a.map(), b.map())?)),
+            Query::MapPairs(_, _) => {
+                let (left, right) = (a.images(), b.images());
+                let (map, view) = joined_images(alloc, left.0, right.0)?;
+                Ok(Part::Images(map, view))
+            }
             Query::Fold(monoid, _) => Ok(Part::Item(monoid.op(a.item(), b.item()))),
         }
     }
@@ -123,6 +134,11 @@ impl<
                 part.put(alloc, Arc::try_clone(key)?, made)?;
                 Ok(())
             }
+            Query::MapPairs(change, _) => {
+                let (image, made) = change.shared_at(alloc, key, value)?;
+                part.put_image(alloc, image, made)?;
+                Ok(())
+            }
             Query::Fold(monoid, item) => {
                 let folded = monoid.op(&item.at(key, value), part.item());
                 *part = Part::Item(folded);
@@ -132,7 +148,10 @@ impl<
     }
 
     fn by_shape(&self) -> bool {
-        matches!(self, Query::Filter(_, _) | Query::MapValues(_, _))
+        matches!(
+            self,
+            Query::Filter(_, _) | Query::MapValues(_, _) | Query::MapPairs(_, _)
+        )
     }
 
     fn of_root(
@@ -143,6 +162,11 @@ impl<
         match self {
             Query::Filter(test, _) => Ok(Some(Part::Made(passed(alloc, root, test)?))),
             Query::MapValues(change, _) => Ok(Some(Part::Made(changed(alloc, root, change)?))),
+            // Not by its shape, but with one view behind all puts, where `add` takes one behind each.
+            Query::MapPairs(change, _) => {
+                let (map, view) = images_of(alloc, root, change)?;
+                Ok(Some(Part::Images(map, view)))
+            }
             _ => Ok(None),
         }
     }
@@ -156,7 +180,8 @@ fn is_settled<
     F: PairFn<K, V, V>,
     M: Monoid,
     G: PairFn<K, V, M::Item>,
->(query: &Query<K, V, T, F, M, G>, part: &Part<K, V, M::Item>) -> bool
+    P: ImageFn<K, V>,
+>(query: &Query<K, V, T, F, M, G, P>, part: &Part<K, V, M::Item>) -> bool
     ensures { result ≡ is_settled query.now part.now }
 {
     match (query, part) {

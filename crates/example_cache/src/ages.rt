@@ -5,7 +5,7 @@ ghost use Rattle.trie_map.specs.Queries.{IsReady};
 use crate::entry::Entry;
 use crate::lookups::Cache;
 use std::sync::Wait;
-use trie_map::{NoMemory, PairFn, Query, Stored, StoredTest, Sum};
+use trie_map::{NoImages, NoMemory, PairFn, Query, Stored, StoredTest, Sum};
 
 /// Whether an entry was made in this second or later.
 #[derive(Drop)]
@@ -52,7 +52,7 @@ impl PairFn<u64, Entry, i128> for Unasked {
 }
 
 /// The question of this program.
-pub type Question = Query<u64, Entry, Since, Unasked, Sum, Unasked>;
+pub type Question = Query<u64, Entry, Since, Unasked, Sum, Unasked, NoImages>;
 
 /// The map of the entries that were made in this second or later.
 pub fn made_since(second: u64) -> Question

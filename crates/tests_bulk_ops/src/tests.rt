@@ -1,13 +1,15 @@
 //! What a small map answers, by hand. Its keys have chosen path words; its values are at the ends of `i64`.
 
 mod combining;
+mod images;
 mod laws;
 mod memory;
 mod stopping;
 mod sums;
 
 use bulk_ops::{
-    Answer, Pair, PairFn, Part, Query, Stored, StoredItem, StoredMap, StoredTest, ask, work,
+    Answer, NoImages, Pair, PairFn, Part, Query, Stored, StoredItem, StoredMap, StoredTest, ask,
+    work,
 };
 use combiner::{Both, Bulk, Greatest, Least, Sum};
 use hash_path::PathKey;
@@ -74,7 +76,7 @@ impl PairFn<ChosenKey, i64, ThreeItems> for EachValue {
     }
 }
 
-type Asked = Query<ChosenKey, i64, IdsBelow, OneValue, Three, EachValue>;
+type Asked = Query<ChosenKey, i64, IdsBelow, OneValue, Three, EachValue, NoImages>;
 
 fn below(id: u32) -> StoredTest<ChosenKey, i64, IdsBelow> {
     Stored::new(IdsBelow(id))

@@ -5,7 +5,7 @@ use Rattle.versions.specs.Map.{Map}
 use Rattle.bulk_ops.specs.Answers.{Answer, Told, answers, count, passes, told}
 use Rattle.bulk_ops.specs.Told.{told_of}
 use Rattle.bulk_ops.specs.declared.asks.Answer as code
-use Rattle.bulk_ops.specs.declared.asks.Answer.TheVariants.{Count, Truth, Found, Made, Item}
+use Rattle.bulk_ops.specs.declared.asks.Answer.TheVariants.{Count, Truth, Found, Made, Images, Item}
 use Rattle.handles.specs.Machine.{State, Job}
 use Rattle.tests_core_steps.specs.Clients.{AsksSize, IsOnlyJob, IsToldOf, TellsCount}
 
@@ -22,6 +22,7 @@ size_answer {K = K} {V = V} {I = I} m (Answer.number n) e =
 size_answer m (Answer.truth b) e = absurd e
 size_answer m (Answer.found x) e = absurd e
 size_answer m (Answer.made n) e = absurd e
+size_answer m (Answer.images n) e = absurd e
 size_answer m (Answer.item i) e = absurd e
 
 -- where a number is told, it is a count's
@@ -30,6 +31,7 @@ tells_count (Count k) n e = tt
 tells_count (Truth b) n e = cc
 tells_count (Found x) n e = cc
 tells_count (Made k) n e = cc
+tells_count (Images k) n e = cc
 tells_count (Item i) n e = cc
 
 abbrev number_in : {K V I : Type 0} → Told K V I → ℕ
@@ -37,6 +39,7 @@ number_in (Told.number n) = n
 number_in (Told.truth b) = 0
 number_in (Told.found x) = 0
 number_in (Told.made n) = 0
+number_in (Told.images m) = 0
 number_in (Told.item i) = 0
 
 pub count_is : {K V I : Type 0} (a : code.Answer K V I) (k n : ℕ) → a ≡ Count k → told_of a ≡ Told.number n → k ≡ n

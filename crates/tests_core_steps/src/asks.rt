@@ -3,7 +3,7 @@
 ghost use Rattle.bulk_ops.specs.Queries.{IsReady};
 
 use crate::maps::{Row, push_row};
-use bulk_ops::{PairFn, Query, Stored, StoredTest};
+use bulk_ops::{NoImages, PairFn, Query, Stored, StoredTest};
 use combiner::Sum;
 use std::alloc::Global;
 use std::process::Abort;
@@ -43,7 +43,7 @@ impl PairFn<ChosenKey, u64, bool> for Within {
 }
 
 /// A query of the tests.
-pub type Asked = Query<ChosenKey, u64, Within, Zero, Sum, Values>;
+pub type Asked = Query<ChosenKey, u64, Within, Zero, Sum, Values, NoImages>;
 
 /// A question as a plain value.
 #[derive(Clone, Copy)]

@@ -134,7 +134,7 @@ fn finished<K: PathKey + Drop, V: Eq + Drop, Q: Asks<K, V> + Drop>(
 }
 
 // The number that a count is answered.
-fn count_in<K: Drop, V: Drop, I: Drop>(answer: Answer<K, V, I>) -> u64
+fn count_in<K: PathKey + Drop, V: Drop, I: Drop>(answer: Answer<K, V, I>) -> u64
     requires { TellsCount answer }
     ensures { answer ≡ answers.Count result }
 {

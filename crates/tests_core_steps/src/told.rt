@@ -71,6 +71,7 @@ fn answer_told(answer: &Answer<ChosenKey, u64, i128>) -> Told {
         Answer::Truth(truth) => Told::Truth(*truth),
         Answer::Found(found) => Told::Found(found.is_some()),
         Answer::Made(size) => Told::Made(*size),
+        Answer::Images(map) => Told::Made(map.len()),
         Answer::Item(item) => Told::Total(*item),
     }
 }
@@ -82,6 +83,7 @@ pub fn part_told(part: &TestPart) -> Told {
         Part::Truth(truth) => Told::Truth(*truth),
         Part::Found(found) => Told::Found(found.is_some()),
         Part::Made(map) => Told::Made(map.len()),
+        Part::Images(_, view) => Told::Made(view.len()),
         Part::Item(item) => Told::Total(*item),
     }
 }

@@ -1,6 +1,6 @@
 //! A table of maps from chosen keys to numbers that is asked queries.
 
-use bulk_ops::{PairFn, Query, Stored};
+use bulk_ops::{NoImages, PairFn, Query, Stored};
 use combiner::{Both, Greatest, Least, Sum};
 use handles::Table;
 use test_keys::ChosenKey;
@@ -59,7 +59,7 @@ impl PairFn<ChosenKey, i64, ThreeItems> for EachValue {
 }
 
 /// A query of the tests.
-pub type Asked = Query<ChosenKey, i64, Within, NewValue, Three, EachValue>;
+pub type Asked = Query<ChosenKey, i64, Within, NewValue, Three, EachValue, NoImages>;
 
 /// A table of the tests.
 pub type Asking = Table<ChosenKey, i64, Asked>;

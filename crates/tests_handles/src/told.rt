@@ -92,6 +92,7 @@ fn answer_told(answer: &Answer<ChosenKey, i64, ThreeItems>) -> Told {
         Answer::Truth(truth) => Told::Truth(*truth),
         Answer::Found(found) => Told::Found(found_told(found)),
         Answer::Made(count) => Told::Made(*count),
+        Answer::Images(map) => Told::Made(map.len()),
         Answer::Item((sum, (least, greatest))) => Told::Item(*sum, *least, *greatest),
     }
 }

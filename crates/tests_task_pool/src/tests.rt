@@ -4,7 +4,7 @@ mod many;
 mod memory;
 mod rows;
 
-use bulk_ops::{PairFn, Part, Query, Stored, StoredTest};
+use bulk_ops::{NoImages, PairFn, Part, Query, Stored, StoredTest};
 use combiner::Sum;
 use iter::Interval;
 use std::alloc::Global;
@@ -24,7 +24,7 @@ type Map = Version<ChosenKey, u64>;
 type Seen = View<ChosenKey, u64>;
 
 // What is asked of it.
-type Asked = Query<ChosenKey, u64, IsValue, Zero, Sum, Values>;
+type Asked = Query<ChosenKey, u64, IsValue, Zero, Sum, Values, NoImages>;
 
 // Pairs of one value pass, or where there is none, all pairs.
 #[derive(Drop)]

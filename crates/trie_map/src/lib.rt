@@ -15,7 +15,8 @@ mod trie_map;
 mod view;
 
 pub use bulk_ops::{
-    Answer, Asks, Pair, PairFn, Part, Query, Stored, StoredItem, StoredMap, StoredTest,
+    Answer, Asks, ImageFn, NoImages, Pair, PairFn, Part, Query, Stored, StoredItem, StoredMap,
+    StoredPairs, StoredTest,
 };
 pub use columns::{Keys, Values};
 pub use combiner::{Both, Greatest, Least, Monoid, Sum};

@@ -18,11 +18,11 @@ type Map = Version<ChosenKey, i64>;
 // child, and of a value.
 const SIZES: [usize; 5] = [128, 64, 48, 32, 16];
 
-// How many blocks are given back at most.
-const MOST_GIVEN: usize = 60;
+/// How many blocks are given back at most.
+pub(super) const MOST_GIVEN: usize = 60;
 
-// Blocks of each size in turn. Each that is dropped is room for one request of its size.
-fn spare(alloc: Global) -> Result<Vec<Vec<u8>>, AllocError> {
+/// Blocks of each size in turn. Each that is dropped is room for one request of its size.
+pub(super) fn spare(alloc: Global) -> Result<Vec<Vec<u8>>, AllocError> {
     let mut blocks = Vec::with_capacity(alloc, MOST_GIVEN)?;
     for number in 0..MOST_GIVEN {
         blocks.push(Vec::with_capacity(alloc, SIZES[number % 5])?)?;
@@ -30,8 +30,8 @@ fn spare(alloc: Global) -> Result<Vec<Vec<u8>>, AllocError> {
     Ok(blocks)
 }
 
-// Drops so many blocks.
-fn give(blocks: &mut Vec<Vec<u8>>, count: usize) {
+/// Drops so many blocks.
+pub(super) fn give(blocks: &mut Vec<Vec<u8>>, count: usize) {
     for _ in 0..count {
         let _ = blocks.pop();
     }

@@ -6,7 +6,7 @@ ghost use Rattle.tests_core_steps.specs.Clients.{AsksSize};
 
 use super::{LARGEST, assert_is};
 use crate::client::size_and_count;
-use bulk_ops::{Asks, PairFn, Query, Stored};
+use bulk_ops::{Asks, NoImages, PairFn, Query, Stored};
 use combiner::Sum;
 use core_steps::{Core, Step};
 use handles::{Call, Command};
@@ -34,7 +34,7 @@ impl PairFn<ChosenKey, u64, bool> for Every {
 }
 
 /// A query of this client.
-type Sizes = Query<ChosenKey, u64, Every, Zero, Sum, Values>;
+type Sizes = Query<ChosenKey, u64, Every, Zero, Sum, Values, NoImages>;
 
 // The query that counts all pairs.
 fn count_of_all() -> Sizes

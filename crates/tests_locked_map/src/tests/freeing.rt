@@ -4,7 +4,7 @@ ghost use Rattle.std.specs.Prelude.{⊤};
 use super::requests::shared_key;
 use super::waiting::wait_for;
 use super::{A, LARGEST, assert_is};
-use bulk_ops::{PairFn, Query, Stored};
+use bulk_ops::{NoImages, PairFn, Query, Stored};
 use combiner::Sum;
 use handles::{Call, Command};
 use locked_map::{Client, Crew, Free, MOST_SEATS, Room, Seat, SharedMap, with_clients};
@@ -131,7 +131,7 @@ impl PairFn<ChosenKey, Waiting, i128> for NoItem {
     }
 }
 
-type Signing = Query<ChosenKey, Waiting, NoTest, Signed, Sum, NoItem>;
+type Signing = Query<ChosenKey, Waiting, NoTest, Signed, Sum, NoItem, NoImages>;
 
 type WaitingMap<J> = SharedMap<ChosenKey, Waiting, Signing, J>;
 

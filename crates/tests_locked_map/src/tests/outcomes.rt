@@ -116,6 +116,7 @@ pub fn told_of_answer(answer: &Answer<ChosenKey, u64, i128>) -> Outcome {
         Answer::Found(Some((key, value))) => Outcome::Found(Some((key.path, **value))),
         Answer::Found(None) => Outcome::Found(None),
         Answer::Made(count) => Outcome::Made(*count),
+        Answer::Images(map) => Outcome::Made(map.len()),
         Answer::Item(total) => Outcome::Total(*total),
     }
 }

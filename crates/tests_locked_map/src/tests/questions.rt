@@ -1,7 +1,7 @@
 //! What the tests ask of whole maps: each question as a plain value, and as a query over closures.
 ghost use Rattle.std.specs.Prelude.{IfOk};
 
-use bulk_ops::{PairFn, Part, Stored, StoredTest, work};
+use bulk_ops::{NoImages, PairFn, Part, Stored, StoredTest, work};
 use combiner::{Bulk, Sum};
 use iter::parts_follow_intervals;
 use splitter::whole;
@@ -42,7 +42,7 @@ impl PairFn<ChosenKey, u64, bool> for Passing {
 }
 
 /// A query of the tests.
-pub type Query = bulk_ops::Query<ChosenKey, u64, Passing, Zero, Sum, Values>;
+pub type Query = bulk_ops::Query<ChosenKey, u64, Passing, Zero, Sum, Values, NoImages>;
 
 /// A question as a plain value.
 #[derive(Clone, Copy, Debug, PartialEq, Eq)]
@@ -89,7 +89,8 @@ pub fn question_of(query: &Query) -> Question {
         Query::ForAll(test) => Question::ForAll(test_of(test)),
         Query::Find(test) => Question::Find(test_of(test)),
         Query::Filter(test, to) => Question::Filter(test_of(test), *to),
-        Query::MapValues(_, to) => Question::Zeros(*to),
+        // No question asks for images.
+        Query::MapValues(_, to) | Query::MapPairs(_, to) => Question::Zeros(*to),
         Query::Fold(_, _) => Question::Total,
     }
 }

@@ -7,7 +7,7 @@ use std::alloc::Global;
 use std::process::Abort;
 use std::sync::Wait;
 use test_keys::ChosenKey;
-use trie_map::{Answer, ByteText, NoMemory, PairFn, PutError, Query, Stored, TrieMap};
+use trie_map::{Answer, ByteText, NoImages, NoMemory, PairFn, PutError, Query, Stored, TrieMap};
 
 // What writes of one key answer, from no pairs on.
 fn written<R: Wait>(rt: &R, map: &Map) -> Result<[Option<u64>; 6], PutError> {
@@ -262,7 +262,7 @@ impl PairFn<ChosenKey, u64, i128> for Value {
     }
 }
 
-type Question = Query<ChosenKey, u64, IsEven, Value, Sum, Value>;
+type Question = Query<ChosenKey, u64, IsEven, Value, Sum, Value, NoImages>;
 
 // How many values are even.
 fn even_values() -> Question

@@ -6,7 +6,7 @@ use std::process::Abort;
 use std::sync::Wait;
 use test_keys::ChosenKey;
 use test_queries::{Values, Zero};
-use trie_map::{Answer, Crew, PairFn, Query, Stored, StoredTest};
+use trie_map::{Answer, Crew, NoImages, PairFn, Query, Stored, StoredTest};
 
 // Pairs of one value pass.
 #[derive(Drop)]
@@ -24,7 +24,7 @@ impl PairFn<ChosenKey, u64, bool> for Is {
     }
 }
 
-type Question = Query<ChosenKey, u64, Is, Zero, Sum, Values>;
+type Question = Query<ChosenKey, u64, Is, Zero, Sum, Values, NoImages>;
 
 fn equal_to(value: u64) -> StoredTest<ChosenKey, u64, Is> {
     Stored::new(Is(value))

@@ -22,6 +22,9 @@ map-requires g c = kinds.filter_map g.M.Monoid.combine g.M.Monoid.unit_of c.args
 pub map-requires-in-MapValues : goal.map-requires-in-MapValues
 map-requires-in-MapValues g c = kinds.values_map g.M.Monoid.combine g.M.Monoid.unit_of c.args.self.now c.in-MapValues.field-0 c.in-MapValues.field-1 c.args.part.now c.in-MapValues.is c.requires
 
+pub images-requires : goal.images-requires
+images-requires g c = kinds.pairs_map g.M.Monoid.combine g.M.Monoid.unit_of c.args.self.now c.in-MapPairs.field-0 c.in-MapPairs.field-1 c.args.part.now c.in-MapPairs.is c.requires
+
 pub item-requires : goal.item-requires
 item-requires g c = kinds.item_of g.M.Monoid.combine g.M.Monoid.unit_of c.args.self.now c.in-Fold.monoid c.in-Fold.field-1 c.args.part.now c.in-Fold.is c.requires
 

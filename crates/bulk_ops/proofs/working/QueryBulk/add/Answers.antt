@@ -25,6 +25,9 @@ put_shared-requires g c = kinds.filter_room g.M.Monoid.combine g.M.Monoid.unit_o
 pub put-requires : goal.put-requires
 put-requires g c = kinds.values_room g.M.Monoid.combine g.M.Monoid.unit_of g.K.Ord.cmp c.args.key.now.value c.args.value.now.value c.args.self.now c.in-MapValues.change c.in-MapValues.field-1 c.args.part.now c.in-MapValues.is c.requires.apart
 
+pub put_image-requires : goal.put_image-requires
+put_image-requires g c = kinds.pairs_room g.M.Monoid.combine g.M.Monoid.unit_of g.K.Ord.cmp c.args.key.now.value c.args.value.now.value c.args.self.now c.in-MapPairs.change c.in-MapPairs.field-1 c.args.part.now c.in-MapPairs.is c.requires.apart
+
 pub item-requires : goal.item-requires
 item-requires g c = kinds.item_of g.M.Monoid.combine g.M.Monoid.unit_of c.args.self.now c.in-Fold.monoid c.in-Fold.item c.args.part.now c.in-Fold.is (kinds.added_known g.M.Monoid.combine g.M.Monoid.unit_of g.K.Ord.cmp c.args.key.now.value c.args.value.now.value c.args.self.now c.args.part.now c.requires.apart)
 
@@ -72,6 +75,12 @@ returns-in_ok-put-in-MapValues-clause-added g c =
     adds.values_added g.M.Monoid.combine g.M.Monoid.unit_of g.K.Ord.cmp g.met.K.Ord.total c.args.key.now.value c.args.value.now.value c.args.self.now c.in-MapValues.change c.in-MapValues.field-1 c.at-in-MapValues.result c.args.part.now c.put.new.self c.in-MapValues.is
     (λ p means. c.at-in-MapValues.ensures p means ∙ (λ i. p (c.deref-in-MapValues.ensures i) (c.deref-in-MapValues-2.ensures i)))
     (adds.put_at g.K.Ord.cmp c.args.part.now c.put.new.self key.field-0.value c.args.key.now.value made.made.value c.at-in-MapValues.result c.in_ok-put-in-MapValues.ensures.put key.ensures made.ensures.ok)
+
+pub returns-in_ok-put_image-in-MapPairs-clause-added : goal.returns-in_ok-put_image-in-MapPairs-clause-added
+returns-in_ok-put_image-in-MapPairs-clause-added g c =
+    adds.pairs_added g.M.Monoid.combine g.M.Monoid.unit_of g.K.Ord.cmp g.met.K.Ord.total c.args.key.now.value c.args.value.now.value g.met.K.PathKey.exact c.args.self.now c.in-MapPairs.change c.in-MapPairs.field-1 (c.in_ok-image-in-MapPairs.image.value, c.in_ok-image-in-MapPairs.made.value) c.args.part.now c.put_image.new.self c.in-MapPairs.is
+    (λ p means. c.in_ok-image-in-MapPairs.ensures p means ∙ (λ i. p (c.deref-in-MapPairs.ensures i) (c.deref-in-MapPairs-2.ensures i)))
+    c.in_ok-put_image-in-MapPairs.ensures.put
 
 pub returns-in-Fold-clause-added : goal.returns-in-Fold-clause-added
 returns-in-Fold-clause-added g c =

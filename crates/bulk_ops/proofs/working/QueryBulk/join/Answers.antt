@@ -66,6 +66,21 @@ merge-requires-in-MapValues-clause-room g c =
     let few = kinds.values_few g.M.Monoid.combine g.M.Monoid.unit_of g.K.Ord.cmp c.args.self.now c.in-MapValues.field-0 c.in-MapValues.field-1 c.args.a.now c.args.b.now c.map-in-MapValues.result.now c.map-in-MapValues-2.result.now c.in-MapValues.is c.map-in-MapValues.ensures c.map-in-MapValues-2.ensures c.requires in
     omega (arith, few, limits.0)
 
+pub images-left-requires : goal.images-left-requires
+images-left-requires g c = kinds.pairs_map g.M.Monoid.combine g.M.Monoid.unit_of c.args.self.now c.in-MapPairs.field-0 c.in-MapPairs.field-1 c.args.a.now c.in-MapPairs.is (kinds.first_known g.M.Monoid.combine g.M.Monoid.unit_of g.K.Ord.cmp c.args.self.now c.args.a.now c.args.b.now c.requires)
+
+pub images-right-requires : goal.images-right-requires
+images-right-requires g c = kinds.pairs_map g.M.Monoid.combine g.M.Monoid.unit_of c.args.self.now c.in-MapPairs.field-0 c.in-MapPairs.field-1 c.args.b.now c.in-MapPairs.is (kinds.second_known g.M.Monoid.combine g.M.Monoid.unit_of g.K.Ord.cmp c.args.self.now c.args.a.now c.args.b.now c.requires)
+
+pub joined_images-requires-clause-room : goal.joined_images-requires-clause-room
+joined_images-requires-clause-room g c = kinds.pairs_few g.M.Monoid.combine g.M.Monoid.unit_of g.K.Ord.cmp c.args.self.now c.in-MapPairs.field-0 c.in-MapPairs.field-1 c.args.a.now c.args.b.now c.images-left.result.0.now c.images-right.result.0.now c.images-left.result.1.now c.images-right.result.1.now c.in-MapPairs.is c.images-left.ensures c.images-right.ensures c.requires
+
+pub joined_images-requires-clause-limits : goal.joined_images-requires-clause-limits
+joined_images-requires-clause-limits g c = kinds.pairs_limits g.M.Monoid.combine g.M.Monoid.unit_of g.K.Ord.cmp c.args.self.now c.in-MapPairs.field-0 c.in-MapPairs.field-1 c.args.a.now c.args.b.now c.images-left.result.0.now c.images-right.result.0.now c.images-left.result.1.now c.images-right.result.1.now c.in-MapPairs.is c.images-left.ensures c.images-right.ensures c.requires
+
+pub joined_images-requires-clause-stamps : goal.joined_images-requires-clause-stamps
+joined_images-requires-clause-stamps g c = kinds.pairs_stamps g.M.Monoid.combine g.M.Monoid.unit_of g.K.Ord.cmp c.args.self.now c.in-MapPairs.field-0 c.in-MapPairs.field-1 c.args.a.now c.args.b.now c.images-left.result.0.now c.images-right.result.0.now c.images-left.result.1.now c.images-right.result.1.now c.in-MapPairs.is c.images-left.ensures c.images-right.ensures c.requires
+
 pub item-requires : goal.item-requires
 item-requires g c = kinds.item_of g.M.Monoid.combine g.M.Monoid.unit_of c.args.self.now c.in-Fold.monoid c.in-Fold.field-1 c.args.a.now c.in-Fold.is (kinds.first_known g.M.Monoid.combine g.M.Monoid.unit_of g.K.Ord.cmp c.args.self.now c.args.a.now c.args.b.now c.requires)
 
@@ -93,6 +108,11 @@ returns-in_ok-merge-in-Filter g c = joins.filter_joined g.M.Monoid.combine g.M.M
 
 pub returns-in_ok-merge-in-MapValues : goal.returns-in_ok-merge-in-MapValues
 returns-in_ok-merge-in-MapValues g c = joins.values_joined g.M.Monoid.combine g.M.Monoid.unit_of g.K.Ord.cmp g.met.K.Ord.total c.args.self.now c.in-MapValues.field-0 c.in-MapValues.field-1 c.args.a.now c.args.b.now c.map-in-MapValues.result.now c.map-in-MapValues-2.result.now c.in_ok-merge-in-MapValues.field-0 c.in-MapValues.is c.map-in-MapValues.ensures c.map-in-MapValues-2.ensures c.in_ok-merge-in-MapValues.ensures.entries c.in_ok-merge-in-MapValues.ensures.limit c.in_ok-merge-in-MapValues.ensures.stamp
+
+pub returns-in_ok-map-in-MapPairs : goal.returns-in_ok-map-in-MapPairs
+returns-in_ok-map-in-MapPairs g c =
+    let made = c.in_ok-map-in-MapPairs in
+    joins.pairs_joined g.M.Monoid.combine g.M.Monoid.unit_of g.K.Ord.cmp g.met.K.Ord.total g.met.K.PathKey.exact c.args.self.now c.in-MapPairs.field-0 c.in-MapPairs.field-1 c.args.a.now c.args.b.now c.images-left.result.0.now c.images-right.result.0.now made.map c.images-left.result.1.now c.images-right.result.1.now made.view c.in-MapPairs.is c.images-left.ensures c.images-right.ensures made.ensures.sorted made.ensures.view made.ensures.limit made.ensures.stamp made.ensures.entries
 
 pub returns-in-Fold : goal.returns-in-Fold
 returns-in-Fold g c =

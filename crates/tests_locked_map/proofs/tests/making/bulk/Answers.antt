@@ -3,4 +3,4 @@ use Rattle.tests_locked_map.proofs.tests.making.bulk.Goals as goal
 
 -- the closures of the tests may be called on every pair
 pub bulk-requires-clause-ready : goal.bulk-requires-clause-ready
-bulk-requires-clause-ready g c = λ lifetimes lives. always_ready (λ x. tt) (λ x. tt) (λ x. tt) c.args.query.value
+bulk-requires-clause-ready g c = λ lifetimes lives. always_ready (λ x. tt) (λ x. tt) (λ x. tt) (λ x. tt) c.args.query.value
