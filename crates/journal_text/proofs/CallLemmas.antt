@@ -10,10 +10,10 @@ use Rattle.versions.specs.Commands.{Command, get, put, put_if_absent, replace, r
 use Rattle.handles.specs.Machine.{open_handle, snapshot, drop_handle, on, view, freeze, finish, abandon, worker_step}
 use Rattle.script.specs.Grammar.{verb_named}
 use Rattle.script.specs.declared.statement.Statement.{Statement}
-use Rattle.script.specs.declared.statement.Statement.TheVariants.{Open, Snap, Drop, Get, Put, PutIfAbsent, Replace, ReplaceIf, Remove, RemoveIf, GetOrElse, Size, Clear, Pairs, Count, Exists, ForAll, Find, Filter, MapValues, Fold}
+use Rattle.script.specs.declared.statement.Statement.TheVariants.{Open, Snap, Drop, Get, Put, PutIfAbsent, Replace, ReplaceIf, Remove, RemoveIf, GetOrElse, Size, Clear, Pairs, Count, Exists, ForAll, Find, Filter, MapValues, MapPairs, Fold}
 use Rattle.script.specs.Statements.{words_of, phrase_of, IsLawful}
 use Rattle.script.proofs.WordLemmas.{same_statement}
-use Rattle.questions.specs.Queries.{ScriptQuestion, count, exists, for_all, find, filtered, mapped, fold}
+use Rattle.questions.specs.Queries.{ScriptQuestion, count, exists, for_all, find, filtered, mapped, paired, fold}
 use Rattle.questions.specs.Program.{ProgramRequest, command_statement, question_statement, request_for}
 use Rattle.journal_text.specs.Calls.{call_text, call_words, IsLawfulRequest}
 use Rattle.journal_text.proofs.WordLemmas.{AreWords, IsWord, argument_words, decimal_word, literal_word, name_word, split_words}
@@ -111,6 +111,7 @@ heard_question h (for_all test) = refl
 heard_question h (find test) = refl
 heard_question h (filtered test to) = refl
 heard_question h (mapped mapping to) = refl
+heard_question h (paired mapping to) = refl
 heard_question h (fold folding) = refl
 
 pub heard_said : (r : ProgramRequest) → heard (said r) ≡ r

@@ -8,14 +8,16 @@ use Rattle.std.proofs.lemmas.Bool.Decides.{nat_tests}
 use Rattle.std.proofs.lemmas.Fmt.{decimal_nonempty}
 use Rattle.script.specs.Keys.{IsKey}
 use Rattle.script.specs.Lines.{fields_of}
-use Rattle.script.specs.Questions.{IsTest, IsMapping, test_text, mapping_text, folding_text}
+use Rattle.script.specs.Questions.{IsTest, IsMapping, IsPairMapping, test_text, mapping_text, pair_mapping_text, folding_text}
 use Rattle.script.specs.declared.passing.Test.{Test}
 use Rattle.script.specs.declared.passing.Test.TheVariants.{All, Even, Odd, Below, AtLeast, Equal, Prefix}
 use Rattle.script.specs.declared.mapping.Mapping.{Mapping}
 use Rattle.script.specs.declared.mapping.Mapping.TheVariants.{Set, Add, KeyLength}
+use Rattle.script.specs.declared.pair_mapping.PairMapping.{PairMapping}
+use Rattle.script.specs.declared.pair_mapping.PairMapping.TheVariants.{To, Initial, ByValue}
 use Rattle.script.specs.declared.folding.Folding.{Folding}
 use Rattle.script.specs.declared.folding.Folding.TheVariants.{Sum, Least, Greatest}
-use Rattle.script.specs.Statements.{Argument, handle_argument, key_argument, value_argument, test_argument, map_argument, fold_argument, spelling_of, IsInRange, AreInRange, phrase_of, words_of, IsLawful}
+use Rattle.script.specs.Statements.{Argument, handle_argument, key_argument, value_argument, test_argument, map_argument, pair_map_argument, fold_argument, spelling_of, IsInRange, AreInRange, phrase_of, words_of, IsLawful}
 use Rattle.script.specs.declared.statement.Statement.{Statement}
 use Rattle.script.specs.declared.statement.Statement.TheVariants.{Open}
 use Rattle.questions.specs.Program.{ProgramRequest}
@@ -53,6 +55,11 @@ full_mapping (Set v) is = omega arith
 full_mapping (Add v) is = omega arith
 full_mapping KeyLength is = omega arith
 
+full_pair_mapping : (m : PairMapping) → IsPairMapping m → 0 < length (pair_mapping_text m)
+full_pair_mapping (To k) is = omega arith
+full_pair_mapping Initial is = omega arith
+full_pair_mapping ByValue is = omega arith
+
 full_folding : (f : Folding) → 0 < length (folding_text f)
 full_folding Sum = omega arith
 full_folding Least = omega arith
@@ -64,6 +71,7 @@ full_argument (key_argument k) is = is.0
 full_argument (value_argument z) is = full_signed z is
 full_argument (test_argument t) is = full_test t is
 full_argument (map_argument m) is = full_mapping m is
+full_argument (pair_map_argument m) is = full_pair_mapping m is
 full_argument (fold_argument f) is = full_folding f
 
 full_arguments : (xs : List Argument) → AreInRange xs → AreFull (map spelling_of xs)

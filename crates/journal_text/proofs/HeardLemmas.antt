@@ -15,7 +15,7 @@ use Rattle.handles.specs.declared.call.Call.TheVariants as calls
 use Rattle.script.specs.Lines.{fields_of}
 use Rattle.script.specs.Statements.{words_of, phrase_of, IsLawful}
 use Rattle.script.specs.declared.statement.Statement.{Statement}
-use Rattle.script.specs.declared.statement.Statement.TheVariants.{Open, Snap, Drop, Get, Put, PutIfAbsent, Replace, ReplaceIf, Remove, RemoveIf, GetOrElse, Size, Clear, Pairs, Count, Exists, ForAll, Find, Filter, MapValues, Fold}
+use Rattle.script.specs.declared.statement.Statement.TheVariants.{Open, Snap, Drop, Get, Put, PutIfAbsent, Replace, ReplaceIf, Remove, RemoveIf, GetOrElse, Size, Clear, Pairs, Count, Exists, ForAll, Find, Filter, MapValues, MapPairs, Fold}
 use Rattle.script.proofs.WordLemmas.{same_statement}
 use Rattle.questions.specs.declared.ask.Ask.{Ask}
 use Rattle.questions.specs.declared.ask.Ask.TheVariants as asks

@@ -9,14 +9,16 @@ use Rattle.std.proofs.lemmas.Bool.Decides.{nat_tests}
 use Rattle.std.proofs.lemmas.Fmt.{decimal_is_IsNumeral}
 use Rattle.std.proofs.lemmas.Str.Parse.{digit_at}
 use Rattle.script.specs.Keys.{IsKey}
-use Rattle.script.specs.Questions.{IsTest, IsMapping, test_text, mapping_text, folding_text}
+use Rattle.script.specs.Questions.{IsTest, IsMapping, IsPairMapping, test_text, mapping_text, pair_mapping_text, folding_text}
 use Rattle.script.specs.declared.passing.Test.{Test}
 use Rattle.script.specs.declared.passing.Test.TheVariants.{All, Even, Odd, Below, AtLeast, Equal, Prefix}
 use Rattle.script.specs.declared.mapping.Mapping.{Mapping}
 use Rattle.script.specs.declared.mapping.Mapping.TheVariants.{Set, Add, KeyLength}
+use Rattle.script.specs.declared.pair_mapping.PairMapping.{PairMapping}
+use Rattle.script.specs.declared.pair_mapping.PairMapping.TheVariants.{To, Initial, ByValue}
 use Rattle.script.specs.declared.folding.Folding.{Folding}
 use Rattle.script.specs.declared.folding.Folding.TheVariants.{Sum, Least, Greatest}
-use Rattle.script.specs.Statements.{Argument, handle_argument, key_argument, value_argument, test_argument, map_argument, fold_argument, spelling_of, IsInRange, AreInRange, phrase_of, words_of, IsLawful}
+use Rattle.script.specs.Statements.{Argument, handle_argument, key_argument, value_argument, test_argument, map_argument, pair_map_argument, fold_argument, spelling_of, IsInRange, AreInRange, phrase_of, words_of, IsLawful}
 use Rattle.script.specs.declared.statement.Statement.{Statement}
 use Rattle.script.specs.declared.statement.Statement.TheVariants.{Open}
 
@@ -80,6 +82,11 @@ mapping_word (Set v) is = prefixed (codes "set:") (signed_decimal v) refl (signe
 mapping_word (Add v) is = prefixed (codes "add:") (signed_decimal v) refl (signed_word v is)
 mapping_word KeyLength is = literal_word (codes "keylen") refl
 
+pair_mapping_word : (m : PairMapping) → IsPairMapping m → IsWord (pair_mapping_text m)
+pair_mapping_word (To k) is = prefixed (codes "to:") k refl (key_word k is)
+pair_mapping_word Initial is = literal_word (codes "initial") refl
+pair_mapping_word ByValue is = literal_word (codes "byvalue") refl
+
 folding_word : (f : Folding) → IsWord (folding_text f)
 folding_word Sum = literal_word (codes "sum") refl
 folding_word Least = literal_word (codes "least") refl
@@ -91,6 +98,7 @@ argument_word (key_argument k) is = key_word k is
 argument_word (value_argument z) is = signed_word z is
 argument_word (test_argument t) is = test_word t is
 argument_word (map_argument m) is = mapping_word m is
+argument_word (pair_map_argument m) is = pair_mapping_word m is
 argument_word (fold_argument f) is = folding_word f
 
 -- each of them is a word

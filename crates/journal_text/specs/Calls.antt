@@ -2,8 +2,10 @@
 use Rattle.std.specs.Prelude.{◌≡◌, ℕ, ℤ, ◌<◌, ◌^◌, ◌++◌, List, [], ◌∷◌, Option, Some, None, codes}
 use Rattle.std.specs.List.{join_with_byte}
 use Rattle.std.specs.Fmt.{decimal}
-use Rattle.handles.specs.Machine.{open_handle, snapshot, drop_handle, on, view, freeze, finish, abandon, worker_step, frozen}
+use Rattle.handles.specs.Machine.{open_handle, snapshot, drop_handle, on, view, freeze, finish, abandon, worker_step, finished, frozen}
+use Rattle.bulk_ops.specs.Answers as plain
 use Rattle.script.specs.declared.reply.LineReply.{LineReply}
+use Rattle.script.specs.declared.reply.LineReply.TheVariants as replies
 use Rattle.script.specs.declared.statement.Statement.TheVariants.{Open, Snap, Drop}
 use Rattle.script.specs.Statements.{words_of, IsLawful}
 use Rattle.script.specs.Replies.{text_of}
@@ -42,7 +44,8 @@ abbrev pub reply_text : Option LineReply → List ℕ
 reply_text None = []
 reply_text (Some reply) = text_of reply
 
--- the text of what is told: of a job that was opened its number, and else that of a script's reply
+-- the text of what is told: of a job that was opened its number, of one that made a map of images that map, and else that of a script's reply
 abbrev pub outcome_text : ProgramOutcome → List ℕ
 outcome_text (frozen j m) = codes "job " ++ decimal j
+outcome_text (finished (plain.Told.images m)) = text_of (replies.Pairs m)
 outcome_text o = reply_text (reply_to o)

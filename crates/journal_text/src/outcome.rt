@@ -2,7 +2,8 @@
 
 ghost use Rattle.std.specs.Prelude.{◌≡◌, ◌++◌, IfOk, OnOk};
 ghost use Rattle.bulk_ops.specs.Told.{told_of};
-ghost use Rattle.questions.specs.Program.{told_reply};
+ghost use Rattle.handles.specs.Machine.{finished};
+ghost use Rattle.script.specs.Replies.{text_of};
 ghost use Rattle.journal.specs.Answers.{outcome_told};
 ghost use Rattle.journal_text.specs.Calls.{outcome_text};
 
@@ -27,7 +28,7 @@ pub fn push_told(alloc: Global, out: &mut Vec<u8>, told: &ProgramTold) -> Result
         Told::Frozen(job, _) => write!(out, "job {job}"),
         Told::Reply(reply) => push_reply(out, &reply_shown(reply)),
         Told::View(view) => push_reply(out, &LineReply::Pairs(listing_of(alloc, view)?)),
-        Told::Answer(answer) => push_reply(out, &answer_shown(answer)?),
+        Told::Answer(answer) => push_reply(out, &answer_shown(alloc, answer)?),
         Told::Abandoned => push_reply(out, &LineReply::Done),
         Told::Refused(refusal) => push_reply(out, &LineReply::Refused(*refusal)),
     };
@@ -37,9 +38,12 @@ pub fn push_told(alloc: Global, out: &mut Vec<u8>, told: &ProgramTold) -> Result
     }
 }
 
-/// The reply that tells the answer.
-fn answer_shown(answer: &Answer<ByteText, i64, Option<i128>>) -> Result<LineReply, NoMemory>
-    ensures { IfOk result (λ reply. reply ≡ told_reply (told_of answer.now)) }
+/// The reply that tells the answer, or lists the map that was made of images.
+fn answer_shown(
+    alloc: Global,
+    answer: &Answer<ByteText, i64, Option<i128>>,
+) -> Result<LineReply, NoMemory>
+    ensures { IfOk result (λ reply. text_of reply ≡ outcome_text (finished (told_of answer.now))) }
 {
     Ok(match answer {
         Answer::Count(number) => LineReply::Count(*number),
@@ -49,6 +53,7 @@ fn answer_shown(answer: &Answer<ByteText, i64, Option<i128>>) -> Result<LineRepl
         }
         Answer::Found(None) => LineReply::Absent,
         Answer::Made(pairs) => LineReply::Count(*pairs),
+        Answer::Images(map) => LineReply::Pairs(listing_of(alloc, map)?),
         Answer::Item(Some(number)) => LineReply::Item(*number),
         Answer::Item(None) => LineReply::Absent,
     })

@@ -1,4 +1,4 @@
--- A request has one outcome in a state, but for a finish, which may have several where some pair is asked for; and what it leaves is one state.
+-- A request has one outcome in a state, but for a finish, which may have several where some pair is asked for, or a map of images; and what it leaves, where it is told the same, is one state.
 use Rattle.std.proofs.Common.{◌≡◌, ◌≢◌, Bool, true, false, ℕ, ◌+◌, ◌∙◌, ◌⊎◌, List, [], ◌∷◌, length, Some, None, inl, inr, refl, sym, ap, subst}
 use Rattle.std.specs.Prelude.{ℤ, if◌then◌else◌}
 use Rattle.versions.specs.declared.refusal.Refusal.{Refusal}
@@ -10,10 +10,11 @@ use Rattle.handles.specs.Machine.{Step, Granted, Finishes, Job, job_at, live_aft
 use Rattle.bulk_ops.specs.Answers as plain
 use Rattle.combiner.specs.Monoids.{folded}
 use Rattle.script.specs.Questions.{new_value, passes}
+use Rattle.script.specs.declared.pair_mapping.PairMapping.{PairMapping}
 use Rattle.questions.specs.Folds.{Item, combined, item_of, item_of_none}
-use Rattle.questions.specs.Queries.{ScriptQuestion, count, exists, for_all, find, filtered, mapped, fold, answers, target_of}
+use Rattle.questions.specs.Queries.{ScriptQuestion, count, exists, for_all, find, filtered, mapped, paired, fold, answers, target_of}
 use Rattle.questions.specs.Laws.{is_settled_at_once, FinishesLeaveOne, FinishesTellOne, HaveOneOutcome}
-use Rattle.questions.specs.Program.{asks_pair, program, ProgramAnswer, ProgramTold, ProgramState, ProgramRequest, ProgramOutcome}
+use Rattle.questions.specs.Program.{asks_choice, program, ProgramAnswer, ProgramTold, ProgramState, ProgramRequest, ProgramOutcome}
 
 -- the state behind a refusal
 abbrev pub refused_in : ProgramState → Refusal → ProgramState
@@ -158,7 +159,7 @@ one_settled r s t u o p one (inr (none, g)) (inr (other, k)) = one g k
 pub one_step : (r : ProgramRequest) → OneGrant r → (s t u : ProgramState) (o p : ProgramOutcome) → Step program s r o t → Step program s r p u → (o ≡ p) × (t ≡ u)
 one_step r one s t u o p a b = one_settled r s t u o p (one s t u o p) (settled s r o t a) (settled s r p u b)
 
--- the one answer of any other question
+-- the one answer of a question that has one
 abbrev pub the_answer : ScriptQuestion → Map (List ℕ) ℤ → ProgramAnswer
 the_answer (count test) m = plain.Answer.number (length (plain.passing (passes test) m))
 the_answer (exists test) m = plain.Answer.truth (list_any (plain.passes (passes test)) m)
@@ -166,15 +167,17 @@ the_answer (for_all test) m = plain.Answer.truth (list_all (plain.passes (passes
 the_answer (find test) m = plain.Answer.number 0
 the_answer (filtered test to) m = plain.Answer.made (plain.passing (passes test) m)
 the_answer (mapped mapping to) m = plain.Answer.made (plain.with_values (new_value mapping) m)
+the_answer (paired mapping to) m = plain.Answer.number 0
 the_answer (fold folding) m = plain.Answer.item (folded (combined folding) (item_of_none folding) (plain.items_of item_of m))
 
-pub is_the_answer : (q : ScriptQuestion) (m : Map (List ℕ) ℤ) (a : ProgramAnswer) → asks_pair q ≡ false → answers q m a → a ≡ the_answer q m
+pub is_the_answer : (q : ScriptQuestion) (m : Map (List ℕ) ℤ) (a : ProgramAnswer) → asks_choice q ≡ false → answers q m a → a ≡ the_answer q m
 is_the_answer (count test) m (plain.Answer.number n) never is = ap (λ (n : ℕ). plain.Answer.number n) is
 is_the_answer (exists test) m (plain.Answer.truth b) never is = ap (λ (b : Bool). plain.Answer.truth b) is
 is_the_answer (for_all test) m (plain.Answer.truth b) never is = ap (λ (b : Bool). plain.Answer.truth b) is
 is_the_answer (find test) m a never is = cc
 is_the_answer (filtered test to) m (plain.Answer.made n) never is = ap (λ (n : Map (List ℕ) ℤ). plain.Answer.made n) is
 is_the_answer (mapped mapping to) m (plain.Answer.made n) never is = ap (λ (n : Map (List ℕ) ℤ). plain.Answer.made n) is
+is_the_answer (paired mapping to) m a never is = cc
 is_the_answer (fold folding) m (plain.Answer.item x) never is = ap (λ (x : Item). plain.Answer.item x) is
 is_the_answer q m a never is = absurd is
 
@@ -185,32 +188,45 @@ ScriptJob = Job (List ℕ) ℤ ScriptQuestion
 abbrev finished_in : ProgramState → ℕ → ScriptJob → ProgramAnswer → ProgramState
 finished_in s j job answer = record s { live = live_after program s (target_of job.query) answer; jobs = without nat_cmp s.jobs j; entries = s.entries + 1 }
 
--- an open job that asks for no pair is finished in one way
-one_finished : (s t u : ProgramState) (j : ℕ) (job : ScriptJob) (b c : ProgramTold) → job_at s j ≡ Some job → asks_pair job.query ≡ false → Finishes program s j b t → Finishes program s j c u → (b ≡ c) × (t ≡ u)
+-- an open job that has one answer is finished in one way
+one_finished : (s t u : ProgramState) (j : ℕ) (job : ScriptJob) (b c : ProgramTold) → job_at s j ≡ Some job → asks_choice job.query ≡ false → Finishes program s j b t → Finishes program s j c u → (b ≡ c) × (t ≡ u)
 one_finished s t u j job b c is_open never f k =
     let first_named : Some f.job ≡ Some job = sym f.named ∙ is_open in
     let second_named : Some k.job ≡ Some job = sym k.named ∙ is_open in
     let first : f.job ≡ job = cc in
     let second : k.job ≡ job = cc in
-    let one : f.answer ≡ the_answer job.query job.frozen = is_the_answer job.query job.frozen f.answer never (subst (λ (x : ScriptJob). answers x.query x.frozen f.answer) first f.is_answer) in
-    let other : k.answer ≡ the_answer job.query job.frozen = is_the_answer job.query job.frozen k.answer never (subst (λ (x : ScriptJob). answers x.query x.frozen k.answer) second k.is_answer) in
+    let one : f.answer ≡ the_answer job.query job.frozen = is_the_answer job.query job.frozen f.answer never (subst (λ (x : ScriptJob). answers x.query x.frozen f.answer) first f.is_answer.0) in
+    let other : k.answer ≡ the_answer job.query job.frozen = is_the_answer job.query job.frozen k.answer never (subst (λ (x : ScriptJob). answers x.query x.frozen k.answer) second k.is_answer.0) in
     let same : f.answer ≡ k.answer = one ∙ sym other in
     let jobs : f.job ≡ k.job = first ∙ sym second in
     (f.told ∙ ap (λ (a : ProgramAnswer). plain.told a) same ∙ sym k.told, f.left ∙ (λ i. finished_in s j (jobs i) (same i)) ∙ sym k.left)
 
--- what a finish leaves is one, whatever the question's answer is
-leaves_one : (s : ProgramState) (j : ℕ) (q : ScriptQuestion) (m : Map (List ℕ) ℤ) (a b : ProgramAnswer) → answers q m a → answers q m b
-    → finished_in s j (record { query = q; frozen = m }) a ≡ finished_in s j (record { query = q; frozen = m }) b
-leaves_one s j (find test) m a b x y = refl
-leaves_one s j q m a b x y = let one = is_the_answer q m a refl x in let other = is_the_answer q m b refl y in ap (finished_in s j (record { query = q; frozen = m })) (one ∙ sym other)
+-- maps of images of which the same is told are one
+same_images : (mapping : PairMapping) (to : ℕ) (m : Map (List ℕ) ℤ) (a b : ProgramAnswer) → answers (paired mapping to) m a → answers (paired mapping to) m b → plain.told a ≡ plain.told b → a ≡ b
+same_images mapping to m (plain.Answer.images n) (plain.Answer.images k) x y told = let same : n ≡ k = cc in ap (λ (l : Map (List ℕ) ℤ). plain.Answer.images l) same
+same_images mapping to m (plain.Answer.images n) b x y told = absurd y
+same_images mapping to m a b x y told = absurd x
 
--- an open job is finished in one state
-pub finishes_leave_one : (s t u : ProgramState) (j : ℕ) (b c : ProgramTold) → Finishes program s j b t → Finishes program s j c u → t ≡ u
-finishes_leave_one s t u j b c f k =
+-- what a finish that is told the same leaves is one: a pair that is found makes no map
+leaves_one : (s : ProgramState) (j : ℕ) (q : ScriptQuestion) (m : Map (List ℕ) ℤ) (a b : ProgramAnswer) → answers q m a → answers q m b → plain.told a ≡ plain.told b
+    → finished_in s j (record { query = q; frozen = m }) a ≡ finished_in s j (record { query = q; frozen = m }) b
+leaves_one s j (find test) m a b x y told = refl
+leaves_one s j (paired mapping to) m a b x y told = ap (finished_in s j (record { query = paired mapping to; frozen = m })) (same_images mapping to m a b x y told)
+leaves_one s j q m a b x y told = let one = is_the_answer q m a refl x in let other = is_the_answer q m b refl y in ap (finished_in s j (record { query = q; frozen = m })) (one ∙ sym other)
+
+-- an open job that is told the same is finished in one state
+pub finishes_leave_one : (s t u : ProgramState) (j : ℕ) (b : ProgramTold) → Finishes program s j b t → Finishes program s j b u → t ≡ u
+finishes_leave_one s t u j b f k =
     let named : Some f.job ≡ Some k.job = sym f.named ∙ k.named in
     let same : f.job ≡ k.job = cc in
-    let answered : answers f.job.query f.job.frozen k.answer = subst (λ (x : ScriptJob). answers x.query x.frozen k.answer) (sym same) k.is_answer in
-    f.left ∙ leaves_one s j f.job.query f.job.frozen f.answer k.answer f.is_answer answered ∙ ap (λ (x : ScriptJob). finished_in s j x k.answer) same ∙ sym k.left
+    let answered : answers f.job.query f.job.frozen k.answer = subst (λ (x : ScriptJob). answers x.query x.frozen k.answer) (sym same) k.is_answer.0 in
+    f.left ∙ leaves_one s j f.job.query f.job.frozen f.answer k.answer f.is_answer.0 answered (sym f.told ∙ k.told) ∙ ap (λ (x : ScriptJob). finished_in s j x k.answer) same ∙ sym k.left
+
+-- a finish that is granted and is told the same leaves one state
+granted_leave_one : (s t u : ProgramState) (j : ℕ) (o : ProgramOutcome) → Granted program s (finish j) o t → Granted program s (finish j) o u → t ≡ u
+granted_leave_one s t u j (finished b) g k = finishes_leave_one s t u j b g k
+granted_leave_one s t u j unfinished g k = g ∙ sym k
+granted_leave_one s t u j o g k = absurd g
 
 -- a finish that is made
 abbrev Told : ProgramState → ℕ → ProgramOutcome → ProgramState → Type 0
@@ -240,13 +256,7 @@ pub one_outcome : HaveOneOutcome
 one_outcome r s t u o p at_once step trod = one_step r (granted_once r at_once) s t u o p step trod
 
 pub leave_one : FinishesLeaveOne
-leave_one j s t u o p is_made too step trod =
-    one_left (finish j) s t u o p
-    (λ g k.
-    let f = finish_told s j o t is_made g in
-    let h = finish_told s j p u too k in
-    finishes_leave_one s t u j f.0 h.0 f.2 h.2)
-    (settled s (finish j) o t step) (settled s (finish j) p u trod)
+leave_one j s t u o step trod = one_left (finish j) s t u o o (granted_leave_one s t u j o) (settled s (finish j) o t step) (settled s (finish j) o u trod)
 
 pub tell_one : FinishesTellOne
 tell_one j job s t u o p is_open never is_made too step trod =

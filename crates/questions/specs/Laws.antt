@@ -1,7 +1,7 @@
 -- Which outcomes a request of the program's machine has.
 use Rattle.std.specs.Prelude.{◌≡◌, ◌≢◌, ℕ, ℤ, Bool, true, false, List, Some}
 use Rattle.handles.specs.Machine.{Job, Step, finish, job_at, unfinished, worker_step}
-use Rattle.questions.specs.Program.{asks_pair, program, ProgramOutcome, ProgramRequest, ProgramState}
+use Rattle.questions.specs.Program.{asks_choice, program, ProgramOutcome, ProgramRequest, ProgramState}
 use Rattle.questions.specs.Queries.{ScriptQuestion}
 
 -- whether the request is neither a finish nor a worker's step
@@ -14,10 +14,10 @@ is_settled_at_once request = true
 abbrev pub HaveOneOutcome : Type 0
 HaveOneOutcome = (r : ProgramRequest) (s t u : ProgramState) (o p : ProgramOutcome) → is_settled_at_once r ≡ true → Step program s r o t → Step program s r p u → (o ≡ p) × (t ≡ u)
 
--- a finish that is made leaves one state, whatever is told
+-- a finish that is told the same leaves one state
 abbrev pub FinishesLeaveOne : Type 0
-FinishesLeaveOne = (j : ℕ) (s t u : ProgramState) (o p : ProgramOutcome) → o ≢ unfinished → p ≢ unfinished → Step program s (finish j) o t → Step program s (finish j) p u → t ≡ u
+FinishesLeaveOne = (j : ℕ) (s t u : ProgramState) (o : ProgramOutcome) → Step program s (finish j) o t → Step program s (finish j) o u → t ≡ u
 
--- where the open job asks for no pair, one thing is told besides
+-- where the open job has one answer, one thing is told
 abbrev pub FinishesTellOne : Type 0
-FinishesTellOne = (j : ℕ) (job : Job (List ℕ) ℤ ScriptQuestion) (s t u : ProgramState) (o p : ProgramOutcome) → job_at s j ≡ Some job → asks_pair job.query ≡ false → o ≢ unfinished → p ≢ unfinished → Step program s (finish j) o t → Step program s (finish j) p u → (o ≡ p) × (t ≡ u)
+FinishesTellOne = (j : ℕ) (job : Job (List ℕ) ℤ ScriptQuestion) (s t u : ProgramState) (o p : ProgramOutcome) → job_at s j ≡ Some job → asks_choice job.query ≡ false → o ≢ unfinished → p ≢ unfinished → Step program s (finish j) o t → Step program s (finish j) p u → (o ≡ p) × (t ≡ u)

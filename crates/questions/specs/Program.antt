@@ -1,5 +1,5 @@
 -- The machine of a program of scripts, and the replies that show its outcomes.
-use Rattle.std.specs.Prelude.{ℕ, ℤ, Bool, true, false, List, Option, Some, None}
+use Rattle.std.specs.Prelude.{ℕ, ℤ, Bool, true, false, List, length, Option, Some, None}
 use Rattle.std.specs.Ordering.{int_eq}
 use Rattle.std.specs.Arc.{arc_value}
 use Rattle.versions.specs.Commands.{Command, get, put, put_if_absent, replace, replace_if, remove, remove_if, size, clear, old, done, cleared}
@@ -10,13 +10,13 @@ use Rattle.handles.specs.Views.{machine, request_of}
 use Rattle.bulk_ops.specs.Answers as plain
 use Rattle.keys.specs.Order.{bytes_cmp}
 use Rattle.script.specs.declared.statement.Statement.{Statement}
-use Rattle.script.specs.declared.statement.Statement.TheVariants.{Open, Snap, Drop, Get, Put, PutIfAbsent, Replace, ReplaceIf, Remove, RemoveIf, GetOrElse, Size, Clear, Pairs, Count, Exists, ForAll, Find, Filter, MapValues, Fold}
+use Rattle.script.specs.declared.statement.Statement.TheVariants.{Open, Snap, Drop, Get, Put, PutIfAbsent, Replace, ReplaceIf, Remove, RemoveIf, GetOrElse, Size, Clear, Pairs, Count, Exists, ForAll, Find, Filter, MapValues, MapPairs, Fold}
 use Rattle.script.specs.declared.reply.LineReply.{LineReply}
 use Rattle.script.specs.declared.reply.LineReply.TheVariants as replies
 use Rattle.questions.specs.Folds.{Item}
 use Rattle.questions.specs.declared.ask.Ask.{Ask}
 use Rattle.questions.specs.declared.ask.Ask.TheVariants as asks
-use Rattle.questions.specs.Queries.{ScriptQuestion, count, exists, for_all, find, filtered, mapped, fold, answers, target_of}
+use Rattle.questions.specs.Queries.{ScriptQuestion, count, exists, for_all, find, filtered, mapped, paired, fold, answers_in_order, target_of}
 
 -- what a question is answered
 abbrev pub ProgramAnswer : Type 0
@@ -28,7 +28,7 @@ ProgramTold = plain.Told (List ℕ) ℤ Item
 
 -- the machine of the program: its keys are in the order of their bytes, its values are numbers, and a question has its answers
 abbrev pub program : Kind (List ℕ) ℤ ScriptQuestion ProgramAnswer ProgramTold
-program = machine bytes_cmp int_eq target_of answers
+program = machine bytes_cmp int_eq target_of answers_in_order
 
 -- a state of that machine
 abbrev pub ProgramState : Type 0
@@ -46,13 +46,14 @@ ProgramOutcome = Outcome (List ℕ) ℤ ProgramTold
 abbrev pub largest : Limits
 largest = record { pairs = 16777216; entries = 1048576 }
 
--- the reply that tells an answer
+-- the reply that tells an answer: of a map that was made its number of pairs
 abbrev pub told_reply : ProgramTold → LineReply
 told_reply (plain.Told.number n) = replies.Count n
 told_reply (plain.Told.truth b) = replies.Truth b
 told_reply (plain.Told.found None) = replies.Absent
 told_reply (plain.Told.found (Some pair)) = replies.Pair pair.0 pair.1
 told_reply (plain.Told.made pairs) = replies.Count pairs
+told_reply (plain.Told.images m) = replies.Count (length m)
 told_reply (plain.Told.item None) = replies.Absent
 told_reply (plain.Told.item (Some n)) = replies.Item n
 
@@ -91,6 +92,7 @@ request_for (ForAll handle test) = freeze handle (for_all test)
 request_for (Find handle test) = freeze handle (find test)
 request_for (Filter handle test target) = freeze handle (filtered test target)
 request_for (MapValues handle mapping target) = freeze handle (mapped mapping target)
+request_for (MapPairs handle mapping target) = freeze handle (paired mapping target)
 request_for (Fold handle folding) = freeze handle (fold folding)
 
 -- the statement of a script that makes the command
@@ -113,6 +115,7 @@ question_statement h (for_all test) = ForAll h test
 question_statement h (find test) = Find h test
 question_statement h (filtered test to) = Filter h test to
 question_statement h (mapped mapping to) = MapValues h mapping to
+question_statement h (paired mapping to) = MapPairs h mapping to
 question_statement h (fold folding) = Fold h folding
 
 -- the request that something asked of the map is, or the first of two
@@ -135,3 +138,14 @@ or_else_asked ask = None
 abbrev pub asks_pair : ScriptQuestion → Bool
 asks_pair (find test) = true
 asks_pair q = false
+
+-- whether the question asks for the map of images, of which there may be several
+abbrev pub asks_images : ScriptQuestion → Bool
+asks_images (paired mapping to) = true
+asks_images q = false
+
+-- whether the question may have several answers
+abbrev pub asks_choice : ScriptQuestion → Bool
+asks_choice (find test) = true
+asks_choice (paired mapping to) = true
+asks_choice q = false

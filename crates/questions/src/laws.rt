@@ -7,12 +7,12 @@ pub fn requests_have_one_outcome()
     ensures { HaveOneOutcome }
 {}
 
-/// A finish that is made leaves one state, whatever pair is told where one is asked for.
+/// A finish that is told the same leaves one state.
 pub fn finishes_leave_one_state()
     ensures { FinishesLeaveOne }
 {}
 
-/// Of a job that asks for no pair, a finish tells one answer and leaves one state.
+/// Of a job that has one answer, a finish tells that one and leaves one state.
 pub fn finishes_tell_one_answer()
     ensures { FinishesTellOne }
 {}

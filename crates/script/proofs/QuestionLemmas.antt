@@ -1,14 +1,16 @@
--- A text spells one test, one map and one fold at most.
+-- A text spells one test, one map, one pair map and one fold at most.
 use Rattle.std.proofs.Common.{◌≡◌, ℕ, List, slice_index, refl, ap, arith}
 use Rattle.std.specs.Prelude.{ℤ, FitsSigned}
 use Rattle.std.specs.Int.{w64}
 use Rattle.std.specs.Fmt.{signed_decimal}
 use Rattle.std.proofs.lemmas.Fmt.{signed_decimal_injective}
-use Rattle.script.specs.Questions.{IsMapping, IsTest, folding_text, mapping_text, test_text}
+use Rattle.script.specs.Questions.{IsMapping, IsPairMapping, IsTest, folding_text, mapping_text, pair_mapping_text, test_text}
 use Rattle.script.specs.declared.passing.Test.{Test}
 use Rattle.script.specs.declared.passing.Test.TheVariants.{All, Even, Odd, Below, AtLeast, Equal, Prefix}
 use Rattle.script.specs.declared.mapping.Mapping.{Mapping}
 use Rattle.script.specs.declared.mapping.Mapping.TheVariants.{Set, Add, KeyLength}
+use Rattle.script.specs.declared.pair_mapping.PairMapping.{PairMapping}
+use Rattle.script.specs.declared.pair_mapping.PairMapping.TheVariants.{To, Initial, ByValue}
 use Rattle.script.specs.declared.folding.Folding.{Folding}
 use Rattle.script.specs.declared.folding.Folding.TheVariants.{Sum, Least, Greatest}
 
@@ -34,6 +36,12 @@ same_mapping (Set m) (Set n) rs rt e = let rest : signed_decimal m ≡ signed_de
 same_mapping (Add m) (Add n) rs rt e = let rest : signed_decimal m ≡ signed_decimal n = cc in ap Add (one_value m n rs rt rest)
 same_mapping KeyLength KeyLength rs rt e = refl
 same_mapping s t rs rt e = absurd (omega (arith, at_byte 0 _ _ e))
+
+pub same_pair_mapping : (s t : PairMapping) → IsPairMapping s → IsPairMapping t → pair_mapping_text s ≡ pair_mapping_text t → s ≡ t
+same_pair_mapping (To m) (To n) rs rt e = let rest : m ≡ n = cc in ap To rest
+same_pair_mapping Initial Initial rs rt e = refl
+same_pair_mapping ByValue ByValue rs rt e = refl
+same_pair_mapping s t rs rt e = absurd (omega (arith, at_byte 0 _ _ e))
 
 pub same_folding : (s t : Folding) → folding_text s ≡ folding_text t → s ≡ t
 same_folding Sum Sum e = refl

@@ -6,14 +6,14 @@ use Rattle.std.proofs.lemmas.Slice.Eq.{bytes_eq-Decides}
 use Rattle.keys.specs.Order.{bytes_eq}
 use Rattle.std.proofs.lemmas.Fmt.{decimal_injective, signed_decimal_injective}
 use Rattle.script.specs.Grammar.{Place, Verb, verb_named}
-use Rattle.script.specs.Statements.{Argument, handle_argument, key_argument, value_argument, test_argument, map_argument, fold_argument, place_of, spelling_of, IsInRange, AreInRange, Phrase, phrase_of, words_of, IsLawful}
+use Rattle.script.specs.Statements.{Argument, handle_argument, key_argument, value_argument, test_argument, map_argument, pair_map_argument, fold_argument, place_of, spelling_of, IsInRange, AreInRange, Phrase, phrase_of, words_of, IsLawful}
 use Rattle.script.specs.Faults.{Faulty, StatementFault, CommandFault}
 use Rattle.script.specs.declared.statement.Statement.{Statement}
 use Rattle.script.specs.declared.statement.Statement.TheVariants.{Open}
 use Rattle.script.specs.declared.fault.Reason.{Reason}
 use Rattle.script.specs.declared.fault.Reason.TheVariants.{UnknownVerb}
 use Rattle.script.proofs.FaultLemmas.{suited}
-use Rattle.script.proofs.QuestionLemmas.{same_test, same_mapping, same_folding}
+use Rattle.script.proofs.QuestionLemmas.{same_test, same_mapping, same_pair_mapping, same_folding}
 
 -- a phrase's name, with the places of its arguments
 abbrev form_of : Phrase → Verb
@@ -37,6 +37,7 @@ same_argument (key_argument m) (key_argument n) p ra rb e = ap key_argument e
 same_argument (value_argument m) (value_argument n) p ra rb e = ap value_argument (signed_decimal_injective m n ra.sfits rb.sfits e)
 same_argument (test_argument s) (test_argument t) p ra rb e = ap test_argument (same_test s t ra rb e)
 same_argument (map_argument s) (map_argument t) p ra rb e = ap map_argument (same_mapping s t ra rb e)
+same_argument (pair_map_argument s) (pair_map_argument t) p ra rb e = ap pair_map_argument (same_pair_mapping s t ra rb e)
 same_argument (fold_argument s) (fold_argument t) p ra rb e = ap fold_argument (same_folding s t e)
 same_argument a b p ra rb e = cc
 

@@ -3,7 +3,7 @@ use Rattle.std.specs.Prelude.{◌≡◌, ℕ, ◌<◌, ◌⊎◌, List, [], ◌�
 use Rattle.std.specs.List.{list_any}
 use Rattle.std.specs.Fmt.{decimal}
 use Rattle.script.specs.Lines.{fields_of, is_skipped, is_bad_byte}
-use Rattle.script.specs.Grammar.{Place, handle_place, key_place, value_place, test_place, map_place, fold_place, verb_named}
+use Rattle.script.specs.Grammar.{Place, handle_place, key_place, value_place, test_place, map_place, pair_map_place, fold_place, verb_named}
 use Rattle.script.specs.Statements.{Argument, place_of, spelling_of, IsInRange}
 use Rattle.script.specs.declared.fault.Reason.{Reason}
 use Rattle.script.specs.declared.fault.Reason.TheVariants.{TooManyLines, LineTooLong, BadByte, MissingField, BadClient, UnknownVerb, BadHandle, BadKey, BadValue, BadTest, BadMap, BadFold, ExtraField}
@@ -24,6 +24,7 @@ reason_at key_place = BadKey
 reason_at value_place = BadValue
 reason_at test_place = BadTest
 reason_at map_place = BadMap
+reason_at pair_map_place = BadMap
 reason_at fold_place = BadFold
 
 -- the first fault of fields that should stand in these places

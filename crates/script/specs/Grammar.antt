@@ -9,6 +9,7 @@ pub data Place : Type 0 where
   value_place : Place
   test_place : Place
   map_place : Place
+  pair_map_place : Place
   fold_place : Place
 
 -- a verb's name, and the places of its arguments from left to right
@@ -39,6 +40,7 @@ verbs =
     ∷ record { name = codes "find"; places = handle_place ∷ test_place ∷ [] }
     ∷ record { name = codes "filter"; places = handle_place ∷ test_place ∷ handle_place ∷ [] }
     ∷ record { name = codes "mapvalues"; places = handle_place ∷ map_place ∷ handle_place ∷ [] }
+    ∷ record { name = codes "mappairs"; places = handle_place ∷ pair_map_place ∷ handle_place ∷ [] }
     ∷ record { name = codes "fold"; places = handle_place ∷ fold_place ∷ [] }
     ∷ []
 

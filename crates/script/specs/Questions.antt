@@ -1,4 +1,4 @@
--- What tests, maps and folds say of a pair, and how they are spelled.
+-- What tests, maps, pair maps and folds say of a pair, and how they are spelled.
 use Rattle.std.specs.Prelude.{ℕ, ℤ, pos, ◌+ℤ◌, Bool, true, not, ◌==◌, ◌%◌, ◌++◌, List, length, take, codes, FitsSigned, int_le, int_lt, unsigned_abs}
 use Rattle.std.specs.Ordering.{int_eq}
 use Rattle.std.specs.Int.{int_wrap, w64}
@@ -9,6 +9,8 @@ use Rattle.script.specs.declared.passing.Test.{Test}
 use Rattle.script.specs.declared.passing.Test.TheVariants.{All, Even, Odd, Below, AtLeast, Equal, Prefix}
 use Rattle.script.specs.declared.mapping.Mapping.{Mapping}
 use Rattle.script.specs.declared.mapping.Mapping.TheVariants.{Set, Add, KeyLength}
+use Rattle.script.specs.declared.pair_mapping.PairMapping.{PairMapping}
+use Rattle.script.specs.declared.pair_mapping.PairMapping.TheVariants.{To, Initial, ByValue}
 use Rattle.script.specs.declared.folding.Folding.{Folding}
 use Rattle.script.specs.declared.folding.Folding.TheVariants.{Sum, Least, Greatest}
 
@@ -32,6 +34,12 @@ new_value (Set new) key value = new
 new_value (Add more) key value = int_wrap w64 (value +ℤ more)
 new_value KeyLength key value = pos (length key)
 
+-- the image of the pair: its new key, and its new value
+abbrev pub image_of : PairMapping → List ℕ → ℤ → List ℕ × ℤ
+image_of (To target) key value = (target, value)
+image_of Initial key value = (take 1 key, value)
+image_of ByValue key value = (signed_decimal value, pos (length key))
+
 -- a test's one spelling
 abbrev pub test_text : Test → List ℕ
 test_text All = codes "all"
@@ -47,6 +55,12 @@ abbrev pub mapping_text : Mapping → List ℕ
 mapping_text (Set new) = codes "set:" ++ signed_decimal new
 mapping_text (Add more) = codes "add:" ++ signed_decimal more
 mapping_text KeyLength = codes "keylen"
+
+-- a pair map's
+abbrev pub pair_mapping_text : PairMapping → List ℕ
+pair_mapping_text (To target) = codes "to:" ++ target
+pair_mapping_text Initial = codes "initial"
+pair_mapping_text ByValue = codes "byvalue"
 
 -- a fold's
 abbrev pub folding_text : Folding → List ℕ
@@ -67,3 +81,8 @@ abbrev pub IsMapping : Mapping → Type 0
 IsMapping (Set new) = FitsSigned w64 new
 IsMapping (Add more) = FitsSigned w64 more
 IsMapping KeyLength = Unit {0}
+
+-- the key of a pair map is one
+abbrev pub IsPairMapping : PairMapping → Type 0
+IsPairMapping (To target) = IsKey target
+IsPairMapping mapping = Unit {0}

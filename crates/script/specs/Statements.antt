@@ -3,13 +3,14 @@ use Rattle.std.specs.Prelude.{ℕ, ℤ, List, [], ◌∷◌, ◌<◌, ◌^◌, F
 use Rattle.std.specs.Int.{w64}
 use Rattle.std.specs.Fmt.{decimal, signed_decimal}
 use Rattle.script.specs.Keys.{IsKey}
-use Rattle.script.specs.Questions.{IsMapping, IsTest, folding_text, mapping_text, test_text}
-use Rattle.script.specs.Grammar.{Place, handle_place, key_place, value_place, test_place, map_place, fold_place}
+use Rattle.script.specs.Questions.{IsMapping, IsPairMapping, IsTest, folding_text, mapping_text, pair_mapping_text, test_text}
+use Rattle.script.specs.Grammar.{Place, handle_place, key_place, value_place, test_place, map_place, pair_map_place, fold_place}
 use Rattle.script.specs.declared.passing.Test.{Test}
 use Rattle.script.specs.declared.mapping.Mapping.{Mapping}
+use Rattle.script.specs.declared.pair_mapping.PairMapping.{PairMapping}
 use Rattle.script.specs.declared.folding.Folding.{Folding}
 use Rattle.script.specs.declared.statement.Statement.{Statement}
-use Rattle.script.specs.declared.statement.Statement.TheVariants.{Open, Snap, Drop, Get, Put, PutIfAbsent, Replace, ReplaceIf, Remove, RemoveIf, GetOrElse, Size, Clear, Pairs, Count, Exists, ForAll, Find, Filter, MapValues, Fold}
+use Rattle.script.specs.declared.statement.Statement.TheVariants.{Open, Snap, Drop, Get, Put, PutIfAbsent, Replace, ReplaceIf, Remove, RemoveIf, GetOrElse, Size, Clear, Pairs, Count, Exists, ForAll, Find, Filter, MapValues, MapPairs, Fold}
 use Rattle.script.specs.declared.statement.CommandLine.{CommandLine}
 
 -- what stands behind a verb
@@ -19,6 +20,7 @@ pub data Argument : Type 0 where
   value_argument : ℤ → Argument
   test_argument : Test → Argument
   map_argument : Mapping → Argument
+  pair_map_argument : PairMapping → Argument
   fold_argument : Folding → Argument
 
 -- where it may stand
@@ -28,6 +30,7 @@ place_of (key_argument bytes) = key_place
 place_of (value_argument number) = value_place
 place_of (test_argument test) = test_place
 place_of (map_argument mapping) = map_place
+place_of (pair_map_argument mapping) = pair_map_place
 place_of (fold_argument folding) = fold_place
 
 -- its one spelling: a number has no leading zero and no sign but the minus of a value below 0
@@ -37,6 +40,7 @@ spelling_of (key_argument bytes) = bytes
 spelling_of (value_argument number) = signed_decimal number
 spelling_of (test_argument test) = test_text test
 spelling_of (map_argument mapping) = mapping_text mapping
+spelling_of (pair_map_argument mapping) = pair_mapping_text mapping
 spelling_of (fold_argument folding) = folding_text folding
 
 -- it is in its range: a handle in that of u32, a value, of a test or a map too, in that of i64
@@ -46,6 +50,7 @@ IsInRange (key_argument bytes) = IsKey bytes
 IsInRange (value_argument number) = FitsSigned w64 number
 IsInRange (test_argument test) = IsTest test
 IsInRange (map_argument mapping) = IsMapping mapping
+IsInRange (pair_map_argument mapping) = IsPairMapping mapping
 IsInRange (fold_argument folding) = Unit {0}
 
 -- each of them is in its range
@@ -80,6 +85,7 @@ phrase_of (ForAll handle test) = record { name = codes "forall"; arguments = han
 phrase_of (Find handle test) = record { name = codes "find"; arguments = handle_argument handle ∷ test_argument test ∷ [] }
 phrase_of (Filter handle test target) = record { name = codes "filter"; arguments = handle_argument handle ∷ test_argument test ∷ handle_argument target ∷ [] }
 phrase_of (MapValues handle mapping target) = record { name = codes "mapvalues"; arguments = handle_argument handle ∷ map_argument mapping ∷ handle_argument target ∷ [] }
+phrase_of (MapPairs handle mapping target) = record { name = codes "mappairs"; arguments = handle_argument handle ∷ pair_map_argument mapping ∷ handle_argument target ∷ [] }
 phrase_of (Fold handle folding) = record { name = codes "fold"; arguments = handle_argument handle ∷ fold_argument folding ∷ [] }
 
 -- what a statement spells: its verb's name and its arguments, a field each

@@ -114,6 +114,7 @@ fn question_of(alloc: Global, verb: &str, fields: Fields<'_>) -> Result<Statemen
         "find" => statement!(alloc, fields, Find(handle, test)),
         "filter" => statement!(alloc, fields, Filter(handle, test, to)),
         "mapvalues" => statement!(alloc, fields, MapValues(handle, map, to)),
+        "mappairs" => statement!(alloc, fields, MapPairs(handle, map, to)),
         "fold" => statement!(alloc, fields, Fold(handle, folding)),
         _ => Err(Stop::Fault(Reason::UnknownVerb)),
     }

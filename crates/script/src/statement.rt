@@ -3,6 +3,7 @@
 use crate::folding::Folding;
 use crate::key::Key;
 use crate::mapping::Mapping;
+use crate::pair_mapping::PairMapping;
 use crate::passing::Test;
 
 /// What a client asks of the table. Handles are numbers, whether a table has them or not.
@@ -110,6 +111,12 @@ pub enum Statement {
     MapValues {
         handle: u32,
         map: Mapping,
+        to: u32,
+    },
+    /// Makes the handle `to` live with the images of the pairs.
+    MapPairs {
+        handle: u32,
+        map: PairMapping,
         to: u32,
     },
     /// Asks what the fold makes of all values.

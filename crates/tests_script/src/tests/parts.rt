@@ -1,7 +1,7 @@
 //! Scripts, keys and laws, each called once.
 use script::{
-    Key, Statement, parse_script, spelled_text_has_no_fault, statement_in, text_has_one_fault,
-    text_has_one_script,
+    CommandLine, Key, Statement, parse_script, spelled_text_has_no_fault, statement_in,
+    text_has_one_fault, text_has_one_script,
 };
 use std::alloc::Global;
 use std::sync::Arc;
@@ -49,6 +49,45 @@ fn a_fault_has_its_line_and_its_text(rt: HostRuntime) -> Result<(), Fail> {
 }
 
 #[test]
+fn a_pair_map_is_a_key_or_one_of_two_words(rt: HostRuntime) -> Result<(), Fail> {
+    let alloc = rt.alloc();
+    for text in [
+        b"0 mappairs 1 initial 2".as_slice(),
+        b"0 mappairs 1 to:z 3",
+        b"0 mappairs 4 byvalue 5",
+    ] {
+        let script = parse_script(alloc, text)?;
+        assert!(rt;
+            matches!(
+                script.lines(),
+                [CommandLine {
+                    statement: Statement::MapPairs { .. },
+                    ..
+                }]
+            )
+        );
+    }
+    let mut longer = Vec::from_slice(alloc, b"0 mappairs 1 to:")?;
+    longer.extend_from_slice(&[b'k'; 65])?;
+    longer.extend_from_slice(b" 2")?;
+    for (text, wanted) in [
+        (b"0 mappairs 1 swap 2".as_slice(), "line 1: bad map"),
+        (b"0 mappairs 1 to: 2", "line 1: bad map"),
+        (longer.as_slice(), "line 1: bad map"),
+        (b"0 mappairs 1 to:z", "line 1: missing field"),
+    ] {
+        match parse_script(alloc, text) {
+            Ok(_) => assert!(rt; false, "a script that has a fault"),
+            Err(fault) => {
+                let shown = format!(in alloc; "{fault}")?;
+                assert_eq!(rt; shown.as_str(), wanted);
+            }
+        }
+    }
+    Ok(())
+}
+
+#[test]
 fn a_key_is_a_text_of_some_bytes(rt: HostRuntime) -> Result<(), Fail> {
     let alloc = rt.alloc();
     assert!(rt; Key::new(alloc, b"")?.is_none());
@@ -81,6 +120,11 @@ fn push_question(shown: &mut Vec<u8>, alloc: Global, text: &[u8]) -> Result<(), 
             map,
             to: 8,
         } => map.push_to(shown)?,
+        Statement::MapPairs {
+            handle: 7,
+            map,
+            to: 8,
+        } => map.push_to(shown)?,
         Statement::Fold { handle: 7, folding } => folding.push_to(shown)?,
         _ => return Err("another statement".into()),
     }
@@ -103,6 +147,9 @@ fn a_question_has_one_spelling(rt: HostRuntime) -> Result<(), Fail> {
         b"mapvalues 7 set:-1 8",
         b"mapvalues 7 add:10 8",
         b"mapvalues 7 keylen 8",
+        b"mappairs 7 to:to:~ 8",
+        b"mappairs 7 initial 8",
+        b"mappairs 7 byvalue 8",
         b"fold 7 sum",
         b"fold 7 least",
         b"fold 7 greatest",
@@ -110,7 +157,7 @@ fn a_question_has_one_spelling(rt: HostRuntime) -> Result<(), Fail> {
         push_question(&mut shown, alloc, text)?;
     }
     let wanted = b"all even odd lt:-9223372036854775808 ge:0 eq:9223372036854775807 \
-        prefix:prefix:~ set:-1 add:10 keylen sum least greatest ";
+        prefix:prefix:~ set:-1 add:10 keylen to:to:~ initial byvalue sum least greatest ";
     assert_eq!(rt; shown.as_slice(), wanted.as_slice());
     Ok(())
 }

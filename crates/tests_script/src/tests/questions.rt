@@ -1,5 +1,5 @@
-//! What tests and maps say of pairs.
-use script::{Key, Mapping, Test};
+//! What tests, maps and pair maps say of pairs.
+use script::{Key, Mapping, PairMapping, Test};
 use std::test::Fail;
 
 #[test]
@@ -63,4 +63,48 @@ fn each_map_has_its_new_value(rt: HostRuntime) {
     assert_eq!(rt; Mapping::Add(i64::MIN).new_value(b"a", i64::MIN), 0);
     assert_eq!(rt; Mapping::KeyLength.new_value(&[b'k'; 64], 5), 64);
     assert_eq!(rt; Mapping::KeyLength.new_value(b"abc", -1), 3);
+}
+
+#[test]
+fn each_pair_map_has_its_image(rt: HostRuntime) -> Result<(), Fail> {
+    let alloc = rt.alloc();
+    let target = Key::new(alloc, b"z!")?.ok_or("a key")?;
+    let longest = [b'~'; 64];
+    for (map, key, value, new_key, new_value) in [
+        (
+            PairMapping::To(target.try_clone()?),
+            b"a".as_slice(),
+            5,
+            b"z!".as_slice(),
+            5,
+        ),
+        (PairMapping::To(target), b"", i64::MIN, b"z!", i64::MIN),
+        (PairMapping::Initial, b"abc", -1, b"a", -1),
+        (PairMapping::Initial, b"b", 2, b"b", 2),
+        (PairMapping::Initial, b"", 3, b"", 3),
+        (PairMapping::ByValue, b"abc", 0, b"0", 3),
+        (
+            PairMapping::ByValue,
+            &longest,
+            i64::MIN,
+            b"-9223372036854775808",
+            64,
+        ),
+        (
+            PairMapping::ByValue,
+            b"",
+            i64::MAX,
+            b"9223372036854775807",
+            0,
+        ),
+    ] {
+        let same = map.try_clone()?;
+        let (image, number) = map.image(alloc, key, value)?;
+        assert_eq!(rt; image.as_bytes(), new_key);
+        assert_eq!(rt; number, new_value);
+        let (image, number) = same.image(alloc, key, value)?;
+        assert_eq!(rt; image.as_bytes(), new_key);
+        assert_eq!(rt; number, new_value);
+    }
+    Ok(())
 }
