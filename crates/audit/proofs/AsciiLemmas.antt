@@ -1,6 +1,7 @@
 -- What is asked in its ranges, and what is told of keys that are ASCII, has a text of ASCII.
-use Rattle.std.proofs.Common.{true, false, ℕ, ◌<◌, List, [], ◌∷◌, ◌++◌, Some, None, codes, refl, arith, map}
-use Rattle.std.specs.Prelude.{ℤ}
+use Rattle.std.proofs.Common.{true, false, ℕ, ◌<◌, ◌≤◌, length, List, [], ◌∷◌, ◌++◌, Some, None, codes, refl, arith, map}
+use Rattle.std.specs.Prelude.{ℤ, FitsSigned}
+use Rattle.std.specs.Int.{w64}
 use Rattle.std.specs.List.{join_with_byte, flat_map}
 use Rattle.std.specs.Fmt.{decimal, signed_decimal}
 use Rattle.versions.specs.Map.{Map}
@@ -12,14 +13,16 @@ use Rattle.bulk_ops.specs.Answers as plain
 use Rattle.handles.specs.Machine.{open_handle, snapshot, drop_handle, on, view, freeze, finish, abandon}
 use Rattle.handles.specs.Machine.{worker_step, made, replied, viewed, frozen, finished, unfinished, refused, worked}
 use Rattle.script.specs.Keys.{IsKey}
-use Rattle.script.specs.Questions.{IsTest, test_text, mapping_text, folding_text}
+use Rattle.script.specs.Questions.{IsPairMapping, IsTest, test_text, mapping_text, pair_mapping_text, folding_text}
 use Rattle.script.specs.declared.passing.Test.{Test}
 use Rattle.script.specs.declared.passing.Test.TheVariants.{All, Even, Odd, Below, AtLeast, Equal, Prefix}
 use Rattle.script.specs.declared.mapping.Mapping.{Mapping}
 use Rattle.script.specs.declared.mapping.Mapping.TheVariants.{Set, Add, KeyLength}
+use Rattle.script.specs.declared.pair_mapping.PairMapping.{PairMapping}
+use Rattle.script.specs.declared.pair_mapping.PairMapping.TheVariants.{To, Initial, ByValue}
 use Rattle.script.specs.declared.folding.Folding.{Folding}
 use Rattle.script.specs.declared.folding.Folding.TheVariants.{Sum, Least, Greatest}
-use Rattle.script.specs.Statements.{Argument, handle_argument, key_argument, value_argument, test_argument, map_argument}
+use Rattle.script.specs.Statements.{Argument, handle_argument, key_argument, value_argument, test_argument, map_argument, pair_map_argument}
 use Rattle.script.specs.Statements.{fold_argument, spelling_of, IsInRange, AreInRange, phrase_of, words_of, IsLawful}
 use Rattle.script.specs.Replies.{pair_text, refusal_name}
 use Rattle.script.specs.declared.statement.Statement.{Statement}
@@ -27,7 +30,6 @@ use Rattle.script.specs.declared.statement.Statement.TheVariants.{Open, Snap, Dr
 use Rattle.questions.specs.Program.{ProgramRequest, ProgramOutcome, ProgramTold, command_statement, question_statement}
 use Rattle.journal_text.specs.Calls.{IsLawfulRequest, call_text, outcome_text}
 use Rattle.audit.proofs.MapLemmas.{Each}
-use Rattle.audit.proofs.Room.{Any}
 use Rattle.audit.proofs.ByteLemmas.{IsAscii, AreAscii, ascii_append, ascii_behind, ascii_decimal, ascii_joined, ascii_literal, ascii_places, ascii_signed}
 
 -- ---- what is asked
@@ -49,6 +51,11 @@ ascii_mapping (Set v) = ascii_behind (codes "set:") (signed_decimal v) refl (asc
 ascii_mapping (Add v) = ascii_behind (codes "add:") (signed_decimal v) refl (ascii_signed v)
 ascii_mapping KeyLength = ascii_literal (codes "keylen") refl
 
+ascii_pair_mapping : (m : PairMapping) → IsPairMapping m → IsAscii (pair_mapping_text m)
+ascii_pair_mapping (To k) is = ascii_behind (codes "to:") k refl (ascii_key k is)
+ascii_pair_mapping Initial is = ascii_literal (codes "initial") refl
+ascii_pair_mapping ByValue is = ascii_literal (codes "byvalue") refl
+
 ascii_folding : (f : Folding) → IsAscii (folding_text f)
 ascii_folding Sum = ascii_literal (codes "sum") refl
 ascii_folding Least = ascii_literal (codes "least") refl
@@ -60,6 +67,7 @@ ascii_argument (key_argument k) is = ascii_key k is
 ascii_argument (value_argument z) is = ascii_signed z
 ascii_argument (test_argument t) is = ascii_test t is
 ascii_argument (map_argument m) is = ascii_mapping m
+ascii_argument (pair_map_argument m) is = ascii_pair_mapping m is
 ascii_argument (fold_argument f) is = ascii_folding f
 
 ascii_arguments : (xs : List Argument) → AreInRange xs → AreAscii (map spelling_of xs)
@@ -90,27 +98,36 @@ ascii_call worker_step l = absurd l
 
 -- ---- what is told
 
--- the keys of the map are ASCII
-abbrev pub IsAsciiMap : Map (List ℕ) ℤ → Type 0
-IsAsciiMap m = Each IsAscii Any m
+-- the key is ASCII, of 64 bytes at the most
+abbrev pub IsPlainKey : List ℕ → Type 0
+IsPlainKey k = IsAscii k × (length k ≤ 64)
 
--- so is the key of a pair that is told
+-- the value is in the range of i64
+abbrev pub IsPlainValue : ℤ → Type 0
+IsPlainValue v = FitsSigned w64 v
+
+-- so are all keys and values of the map
+abbrev pub IsPlainMap : Map (List ℕ) ℤ → Type 0
+IsPlainMap m = Each IsPlainKey IsPlainValue m
+
+-- the key of a pair that is told is ASCII, and so are those of a map
 abbrev pub IsAsciiTold : ProgramTold → Type 0
 IsAsciiTold (plain.Told.found (Some x)) = IsAscii x.0
+IsAsciiTold (plain.Told.images m) = IsPlainMap m
 IsAsciiTold b = Unit {0}
 
 -- the keys that the outcome shows are ASCII
 abbrev pub ShowsAscii : ProgramOutcome → Type 0
-ShowsAscii (viewed m) = IsAsciiMap m
+ShowsAscii (viewed m) = IsPlainMap m
 ShowsAscii (finished b) = IsAsciiTold b
 ShowsAscii o = Unit {0}
 
 ascii_pair : (k : List ℕ) (v : ℤ) (b : ℕ) → b < 128 → IsAscii k → IsAscii (k ++ b ∷ signed_decimal v)
 ascii_pair k v b below h = ascii_append k (b ∷ signed_decimal v) h (below, ascii_signed v)
 
-ascii_pairs : (m : Map (List ℕ) ℤ) → IsAsciiMap m → IsAscii (flat_map pair_text m)
+ascii_pairs : (m : Map (List ℕ) ℤ) → IsPlainMap m → IsAscii (flat_map pair_text m)
 ascii_pairs [] all = tt
-ascii_pairs (x ∷ m) all = ascii_append (pair_text x) (flat_map pair_text m) (omega arith, ascii_pair x.0 x.1 61 (omega arith) all.0) (ascii_pairs m all.2)
+ascii_pairs (x ∷ m) all = ascii_append (pair_text x) (flat_map pair_text m) (omega arith, ascii_pair x.0 x.1 61 (omega arith) all.0.0) (ascii_pairs m all.2)
 
 ascii_refusal : (e : Refusal) → IsAscii (refusal_name e)
 ascii_refusal NoHandle = ascii_literal (codes "NoHandle") refl
@@ -124,6 +141,7 @@ ascii_told (plain.Told.found None) h = ascii_literal (codes "none") refl
 ascii_told (plain.Told.found (Some x)) h =
     ascii_append (codes "pair " ++ x.0) _ (ascii_behind (codes "pair ") x.0 refl h) (omega arith, ascii_signed x.1)
 ascii_told (plain.Told.made n) h = ascii_behind (codes "count ") (decimal n) refl (ascii_decimal n)
+ascii_told (plain.Told.images m) h = ascii_behind (codes "pairs") (flat_map pair_text m) refl (ascii_pairs m h)
 ascii_told (plain.Told.item None) h = ascii_literal (codes "none") refl
 ascii_told (plain.Told.item (Some n)) h = ascii_behind (codes "item ") (signed_decimal n) refl (ascii_signed n)
 

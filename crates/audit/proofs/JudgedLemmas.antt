@@ -11,26 +11,54 @@ use Rattle.handles.specs.declared.call_reply.CallReply.{CallReply}
 use Rattle.handles.specs.Views.{IsStep, call_outcome, lacks_memory, outcome_of, request_of}
 use Rattle.journal.specs.Answers as journal_answers
 use Rattle.questions.specs.Queries.{ScriptQuestion}
+use Rattle.handles.specs.Machine.{Granted, open_handle, snapshot, drop_handle, on, view, freeze, finish, abandon, worker_step}
 use Rattle.handles.specs.Machine.{Step, made, replied, viewed, frozen, finished, unfinished, refused, worked}
 use Rattle.journal.specs.Journals.{is_filed}
 use Rattle.script.specs.Replies.{text_of}
 use Rattle.script.specs.declared.reply.LineReply.{LineReply}
-use Rattle.questions.specs.Program.{program, ProgramState, ProgramRequest, ProgramOutcome, reply_to}
+use Rattle.questions.specs.Program.{program, ProgramState, ProgramRequest, ProgramOutcome, ProgramTold, reply_to}
 use Rattle.questions.specs.Laws.{is_settled_at_once}
 use Rattle.questions.proofs.OneStep.{granted_once, one_step}
 use Rattle.journal_text.specs.Calls.{outcome_text, reply_text}
 use Rattle.audit.specs.Answers.{Answers, NoneAnswers, IsReplyTo, IsShownAs, IsTextOf}
 
--- an outcome that a reply shows has its text
-pub text_shown : (o : ProgramOutcome) (reply : LineReply) → reply_to o ≡ Some reply → outcome_text o ≡ text_of reply
-text_shown (frozen j m) reply e = cc
-text_shown made reply e = ap reply_text e
-text_shown (replied y) reply e = ap reply_text e
-text_shown (viewed m) reply e = ap reply_text e
-text_shown (finished b) reply e = ap reply_text e
-text_shown (refused r) reply e = ap reply_text e
-text_shown unfinished reply e = cc
-text_shown worked reply e = cc
+-- the outcome is that of no finish
+abbrev pub IsNoFinish : ProgramOutcome → Type 0
+IsNoFinish (finished b) = ⊥
+IsNoFinish o = Unit {0}
+
+-- a request that is settled at once is answered as no finish is
+not_granted : (r : ProgramRequest) (s t : ProgramState) (b : ProgramTold) → is_settled_at_once r ≡ true → Granted program s r (finished b) t → ⊥
+not_granted (finish j) s t b once g = cc
+not_granted worker_step s t b once g = g
+not_granted (open_handle h) s t b once g = g
+not_granted (snapshot h to) s t b once g = g
+not_granted (drop_handle h) s t b once g = g
+not_granted (on h c) s t b once g = g
+not_granted (view h) s t b once g = g
+not_granted (freeze h q) s t b once g = g
+not_granted (abandon j) s t b once g = g
+
+no_finish : (r : ProgramRequest) (s t : ProgramState) (o : ProgramOutcome) → is_settled_at_once r ≡ true → Step program s r o t → IsNoFinish o
+no_finish r s t (finished b) once step = not_granted r s t b once step.1
+no_finish r s t made once step = tt
+no_finish r s t (replied y) once step = tt
+no_finish r s t (viewed m) once step = tt
+no_finish r s t (frozen j m) once step = tt
+no_finish r s t unfinished once step = tt
+no_finish r s t (refused e) once step = tt
+no_finish r s t worked once step = tt
+
+-- an outcome that a reply shows has its text, but of a finish
+pub text_shown : (o : ProgramOutcome) (reply : LineReply) → IsNoFinish o → reply_to o ≡ Some reply → outcome_text o ≡ text_of reply
+text_shown (frozen j m) reply other e = cc
+text_shown made reply other e = ap reply_text e
+text_shown (replied y) reply other e = ap reply_text e
+text_shown (viewed m) reply other e = ap reply_text e
+text_shown (finished b) reply other e = absurd other
+text_shown (refused r) reply other e = ap reply_text e
+text_shown unfinished reply other e = cc
+text_shown worked reply other e = cc
 
 -- of a request with one outcome no other text is an answer
 pub unanswered : (r : ProgramRequest) (s t : ProgramState) (o : ProgramOutcome) (reply : List ℕ) → is_settled_at_once r ≡ true → Step program s r o t → (is_filed o ≡ true → reply ≡ outcome_text o → ⊥) → NoneAnswers s r reply
@@ -39,12 +67,12 @@ unanswered r s t o reply once step other u a =
     other (ap is_filed same.0 ∙ a.filed) (a.text ∙ ap outcome_text (sym same.0))
 
 -- the outcome is shown by the reply, which has this text
-pub answered : (r : ProgramRequest) (s t : ProgramState) (o : ProgramOutcome) (shown : LineReply) (reply : List ℕ) → Step program s r o t → IsReplyTo o (Some shown) → reply ≡ text_of shown → Answers s r reply t
-answered r s t o shown reply step is text = record { outcome = o; step = step; filed = is.0; text = text ∙ sym (text_shown o shown is.1) }
+pub answered : (r : ProgramRequest) (s t : ProgramState) (o : ProgramOutcome) (shown : LineReply) (reply : List ℕ) → is_settled_at_once r ≡ true → Step program s r o t → IsReplyTo o (Some shown) → reply ≡ text_of shown → Answers s r reply t
+answered r s t o shown reply once step is text = record { outcome = o; step = step; filed = is.0; text = text ∙ sym (text_shown o shown (no_finish r s t o once step) is.1) }
 
 -- it is shown by a reply of another text
 pub otherwise : (r : ProgramRequest) (s t : ProgramState) (o : ProgramOutcome) (shown : LineReply) (reply : List ℕ) → is_settled_at_once r ≡ true → Step program s r o t → IsReplyTo o (Some shown) → (reply ≡ text_of shown → ⊥) → NoneAnswers s r reply
-otherwise r s t o shown reply once step is other = unanswered r s t o reply once step (λ filed text. other (text ∙ text_shown o shown is.1))
+otherwise r s t o shown reply once step is other = unanswered r s t o reply once step (λ filed text. other (text ∙ text_shown o shown (no_finish r s t o once step) is.1))
 
 -- it is no entry's
 pub unfiled : (r : ProgramRequest) (s t : ProgramState) (o : ProgramOutcome) (reply : List ℕ) → is_settled_at_once r ≡ true → Step program s r o t → is_filed o ≡ false → NoneAnswers s r reply
@@ -60,7 +88,7 @@ step_of s t r shown (Err e) some step = step
 
 pub told_so : (r : ProgramRequest) (s t : ProgramState) (o : ProgramOutcome) (shown : Option LineReply) (text : List ℕ) (yes : Bool) → is_settled_at_once r ≡ true → Step program s r o t → IsReplyTo o shown → IsTrue yes ↔ IsShownAs shown text
     → MatchBool yes (Answers s r text t) (NoneAnswers s r text)
-told_so r s t o (Some reply) text true once step is tells = answered r s t o reply text step is (tells.0 refl)
+told_so r s t o (Some reply) text true once step is tells = answered r s t o reply text once step is (tells.0 refl)
 told_so r s t o (Some reply) text false once step is tells = otherwise r s t o reply text once step is (λ e. let bad : false ≡ true = tells.1 e in cc)
 told_so r s t o None text true once step is tells = absurd (tells.0 refl)
 told_so r s t o None text false once step is tells = unfiled r s t o text once step is
@@ -82,16 +110,16 @@ same_outcome (Ok y) = refl
 same_outcome (Err e) = refl
 
 -- the text of a refusal is that of the reply that shows it
-pub shown_text : (o : ProgramOutcome) (shown : Option LineReply) (text : List ℕ) (answer : Bool) → IsReplyTo o shown → IsTrue answer ↔ IsShownAs shown text → IsTrue answer ↔ IsTextOf o text
-shown_text o (Some reply) text answer is tells =
-    let same : outcome_text o ≡ text_of reply = text_shown o reply is.1 in
+pub shown_text : (e : Refusal) (shown : Option LineReply) (text : List ℕ) (answer : Bool) → IsReplyTo (refused e) shown → IsTrue answer ↔ IsShownAs shown text → IsTrue answer ↔ IsTextOf (refused e) text
+shown_text e (Some reply) text answer is tells =
+    let same : outcome_text (refused e) ≡ text_of reply = text_shown (refused e) reply tt is.1 in
     (λ h. (is.0, tells.0 h ∙ sym same), λ h. tells.1 (h.1 ∙ same))
-shown_text o None text answer is tells = (λ h. absurd (tells.0 h), λ h. let bad : true ≡ false = sym h.0 ∙ is in cc)
+shown_text e None text answer is tells = (λ h. absurd (tells.0 h), λ h. let bad : true ≡ false = sym h.0 ∙ is in cc)
 
 -- the same of what is read, if memory was there
-pub shown_so : {E : Type 0} (o : ProgramOutcome) (shown : Option LineReply) (text : List ℕ) (read : Result Bool E) → IsReplyTo o shown → IfOk read (λ answer. IsTrue answer ↔ IsShownAs shown text) → IfOk read (λ answer. IsTrue answer ↔ IsTextOf o text)
-shown_so o shown text (Ok answer) is tells = shown_text o shown text answer is tells
-shown_so o shown text (Err e) is tells = tells
+pub shown_so : {E : Type 0} (e : Refusal) (shown : Option LineReply) (text : List ℕ) (read : Result Bool E) → IsReplyTo (refused e) shown → IfOk read (λ answer. IsTrue answer ↔ IsShownAs shown text) → IfOk read (λ answer. IsTrue answer ↔ IsTextOf (refused e) text)
+shown_so e shown text (Ok answer) is tells = shown_text e shown text answer is tells
+shown_so e shown text (Err f) is tells = tells
 
 -- the text of an opened job
 pub job_so : {E : Type 0} (j : ℕ) (m : Map (List ℕ) ℤ) (text : List ℕ) (read : Result Bool E) → IfOk read (λ answer. IsTrue answer ↔ (text ≡ codes "job " ++ decimal j)) → IfOk read (λ answer. IsTrue answer ↔ IsTextOf (frozen j m) text)

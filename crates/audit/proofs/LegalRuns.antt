@@ -15,7 +15,7 @@ use Rattle.audit.specs.Runs.{MayBeAsked, MayBeMade, RunsAreLegal, StatementsMayB
 use Rattle.audit.proofs.Room.{HasRoom, job_number, no_end_entry, open_job, step_has_room}
 use Rattle.audit.proofs.ByteLemmas.{ascii_text}
 use Rattle.audit.proofs.AsciiLemmas.{ascii_call, ascii_outcome}
-use Rattle.audit.proofs.KeyLemmas.{HasAsciiKeys, step_keys}
+use Rattle.audit.proofs.KeyLemmas.{HasPlainMaps, step_keys}
 use Rattle.audit.proofs.VerdictLemmas.{room_at_first}
 
 -- an end of a job that is filed names an open one, of which there are fewer than entries
@@ -40,7 +40,7 @@ lawful_request s (view h) o t may filed k step = may
 lawful_request s (freeze h q) o t may filed k step = may
 lawful_request s worker_step o t may filed k step = may
 
-lawful_entry : (e : ProgramEntry) (s t : ProgramState) → e.seat < 64 → MayBeAsked e.request → is_filed e.outcome ≡ true → HasRoom s → HasAsciiKeys s
+lawful_entry : (e : ProgramEntry) (s t : ProgramState) → e.seat < 64 → MayBeAsked e.request → is_filed e.outcome ≡ true → HasRoom s → HasPlainMaps s
     → Step program s e.request e.outcome t → IsLawfulEntry e
 lawful_entry e s t seat may filed k keys step =
     let lawful = lawful_request s e.request e.outcome t may filed k step in
@@ -56,7 +56,7 @@ both true b e = (refl, e)
 both false b e = cc
 
 all_lawful : (es : List ProgramEntry) (s t : ProgramState) → MayBeMade es → list_all is_filed_in es ≡ true
-    → Run program s (requests_in es) (outcomes_in es) t → HasRoom s → HasAsciiKeys s → AreLawful es
+    → Run program s (requests_in es) (outcomes_in es) t → HasRoom s → HasPlainMaps s → AreLawful es
 all_lawful [] s t may filed run k keys = tt
 all_lawful (e ∷ es) s t may filed run k keys =
     let p = both (is_filed e.outcome) (list_all is_filed_in es) filed in

@@ -1,4 +1,10 @@
 pub mod OneState
+pub mod InOrder
+pub mod PairLemmas
+pub mod KeyedMaps
+pub mod ValueLemmas
+pub mod ImageLemmas
+pub mod OneText
 pub mod Runs
 pub mod Diverging
 pub mod Read

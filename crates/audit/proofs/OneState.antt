@@ -1,4 +1,4 @@
--- A filed step leaves one state, and one entry more.
+-- A filed step counts one entry more.
 use Rattle.std.proofs.Common.{◌≡◌, Bool, true, false, ℕ, ◌+◌, ◌∙◌, Some, None, inl, inr, refl, sym, ap}
 use Rattle.versions.specs.declared.refusal.Refusal.{Refusal}
 use Rattle.handles.specs.Machine.{Step, Granted, Finishes, is_entry, open_handle, snapshot, drop_handle, on, view, freeze, finish, abandon, worker_step, made, replied, viewed, frozen, finished, unfinished, refused, worked}
@@ -20,24 +20,6 @@ finish_told s j (viewed m) t filed g = absurd g
 finish_told s j (frozen k m) t filed g = absurd g
 finish_told s j (refused e) t filed g = absurd g
 finish_told s j worked t filed g = absurd g
-
-one_finish : (s t u : ProgramState) (j : ℕ) (o p : ProgramOutcome) → is_filed o ≡ true → is_filed p ≡ true → Settled s (finish j) o t → Settled s (finish j) p u → t ≡ u
-one_finish s t u j o p filed too (inl (e, a, b, d)) (inl (f, a', b', d')) =
-    let same : Some e ≡ Some f = sym b ∙ b' in
-    let names : e ≡ f = cc in
-    d ∙ ap (refused_in s) names ∙ sym d'
-one_finish s t u j o p filed too (inl (e, a, b, d)) (inr (none, g)) = let same : Some e ≡ None = sym b ∙ none in cc
-one_finish s t u j o p filed too (inr (none, g)) (inl (e, a, b, d)) = let same : Some e ≡ None = sym b ∙ none in cc
-one_finish s t u j o p filed too (inr (none, g)) (inr (other, k)) =
-    let f = finish_told s j o t filed g in
-    let h = finish_told s j p u too k in
-    finishes_leave_one s t u j f.0 h.0 f.2 h.2
-
--- what a filed step of a lawful request leaves is one state
-pub one_state : (r : ProgramRequest) (s t u : ProgramState) (o p : ProgramOutcome) → IsLawfulRequest r → is_filed o ≡ true → is_filed p ≡ true → Step program s r o t → Step program s r p u → t ≡ u
-one_state (finish j) s t u o p lawful filed too step trod = one_finish s t u j o p filed too (settled s (finish j) o t step) (settled s (finish j) p u trod)
-one_state worker_step s t u o p lawful filed too step trod = absurd lawful
-one_state r s t u o p lawful filed too step trod = (one_step r (granted_once r refl) s t u o p step trod).1
 
 granted_counts : (r : ProgramRequest) (s t : ProgramState) (o : ProgramOutcome) → IsLawfulRequest r → is_filed o ≡ true → Granted program s r o t → t.entries ≡ s.entries + 1
 granted_counts (open_handle h) s t o lawful filed g = ap (λ (x : ProgramState). x.entries) (one_open s h o t g).1

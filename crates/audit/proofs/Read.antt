@@ -113,7 +113,7 @@ NoneGoes s m k more = (u : ProgramState) → Rest s m k more u → ⊥
 spoilt : (text : List ℕ) (s : ProgramState) (i k : ℕ) (more : List (List ℕ)) (es : List ProgramEntry) → IsLegalJournal es s → length es < 2 ^ 32 → i ≡ length es + k → 1 ≤ k → lines_in text ≡ entry_lines 0 es ++ more
     → NoneGoes s (length es) k more → BeginsLegally text i → ⊥
 spoilt text s i k more es journal few is some lines none (fs, u, other, same) =
-    none u (agreed i k 0 (length es) es fs (nothing largest) s u more is (omega arith) some few (from_journal es s journal) (from_journal fs u other) (ap (take i) (sym lines) ∙ same))
+    none u (agreed i k 0 (length es) es fs (nothing largest) s u more is (omega arith) some few (record { live = tt; jobs = tt }) (from_journal es s journal) (from_journal fs u other) (ap (take i) (sym lines) ∙ same))
 
 no_entry : (s : ProgramState) (m : ℕ) (line : List ℕ) (more : List (List ℕ)) → s.entries ≡ m → IsNoneNext s line → (line ≡ ended (end_line m) → ⊥) → (u : ProgramState) (gs : List ProgramEntry) → Goes s gs u → take 1 (line ∷ more) ≡ take 1 (lines_behind m gs) → ⊥
 no_entry s m line more count none other u [] g same = let here : line ≡ ended (end_line m) = cc in other here

@@ -6,7 +6,7 @@ use Rattle.std.specs.Fmt.{decimal, signed_decimal, digit_glyph, digits, digits_o
 use Rattle.audit.proofs.ByteLemmas.{EachByte, each_digit}
 use Rattle.audit.specs.Telling.{IsSpaceless, IsFront, HasNoFront}
 
-space_inside : (xs ys : List ℕ) → IsSpaceless (xs ++ 32 ∷ ys) → ⊥
+pub space_inside : (xs ys : List ℕ) → IsSpaceless (xs ++ 32 ∷ ys) → ⊥
 space_inside [] ys h = h.0 refl
 space_inside (x ∷ xs) ys h = space_inside xs ys h.1
 

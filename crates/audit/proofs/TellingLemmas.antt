@@ -1,7 +1,7 @@
 -- What a job may be told.
 use Prim.Native.Nat.{zero, suc}
 use Rattle.std.proofs.Common.{◌≡◌, Bool, true, false, ◌||◌, ℕ, ◌∙◌, List, [], ◌∷◌, drop, take, Option, Some, None, Result, Ok, Err, IfOk, refl, sym, ap, subst, arith}
-use Rattle.std.specs.Prelude.{ℤ, cond, Contains, MatchOption, ◌&&◌, ◌==◌, codes}
+use Rattle.std.specs.Prelude.{ℤ, cond, Contains, IsTrue, MatchOption, ◌&&◌, ◌==◌, codes}
 use Rattle.std.specs.List.{list_any}
 use Rattle.std.specs.Cmp.{IsTotalOrder, tied_itself}
 use Rattle.std.specs.Cmp.Rules.{comparing}
@@ -12,80 +12,38 @@ use Rattle.std.specs.Fmt.{signed_decimal}
 use Rattle.std.specs.FinMap.Entries.{below_all}
 use Rattle.std.specs.Ordering.{is_eq, is_lt, ordering_reverse}
 use Rattle.std.specs.Cmp.Lexicographic.{pointwise}
+use Rattle.versions.specs.Contents.{Contents}
+use Rattle.versions.specs.declared.version.TheConstants.{MOST_PAIRS}
+use Rattle.bulk_ops.specs.Told.{MakesFor}
 use Rattle.versions.specs.Map.{Map, IsMap, value_at}
 use Rattle.keys.specs.Order.{bytes_cmp}
 use Rattle.bulk_ops.specs.Answers as plain
+use Rattle.bulk_ops.specs.Answers.{IsImage}
+use Rattle.bulk_ops.specs.declared.part.Part.TheVariants as parts
+use Rattle.handles.specs.Machine.{finished}
 use Rattle.bulk_ops.specs.Queries.{answer_of}
 use Rattle.bulk_ops.specs.declared.part.Part.{Part}
-use Rattle.script.specs.Questions.{passes}
+use Rattle.script.specs.Questions.{image_of, passes}
 use Rattle.script.specs.Replies.{text_of}
 use Rattle.script.specs.declared.passing.Test.{Test}
+use Rattle.script.specs.declared.pair_mapping.PairMapping.{PairMapping}
+use Rattle.script.specs.declared.reply.LineReply.TheVariants as replies
 use Rattle.questions.specs.Folds.{Item}
-use Rattle.questions.specs.Queries.{ScriptQuestion, IsPartFor, answers, find}
-use Rattle.questions.specs.Program.{asks_pair, ProgramAnswer, ProgramTold, told_reply}
+use Rattle.questions.specs.Queries.{ScriptQuestion, IsPartFor, answers, find, paired, target_of}
+use Rattle.questions.specs.Program.{asks_choice, asks_images, asks_pair, ProgramAnswer, ProgramTold, told_reply}
 use Rattle.questions.proofs.OneStep.{is_the_answer}
+use Rattle.journal_text.specs.Calls.{outcome_text}
 use Rattle.audit.specs.Answers.{NoneTold}
+use Rattle.audit.specs.Images.{AreValuesTold, HasAllRead}
+use Rattle.audit.proofs.ImageLemmas.{only_images}
 use Rattle.audit.specs.Telling.{IsOnlyTold, IsFront, HasNoFront, TellsNoPair, IsKeyTold, IsPairAt, NonePairAt}
 use Rattle.audit.proofs.SpaceLemmas.{signed_spaceless}
+use Rattle.audit.proofs.PairLemmas.{ScriptMap, contained, value_found}
 
 abbrev ScriptPart : Type 0
 ScriptPart = Part (List ℕ) ℤ Item
 
-abbrev ScriptMap : Type 0
-ScriptMap = Map (List ℕ) ℤ
-
 -- ---- the pair of a key
-
-total : IsTotalOrder bytes_cmp
-total = search comparing
-
-antisymmetric : (x y : List ℕ) → bytes_cmp x y ≡ Equal → x ≡ y
-antisymmetric = slice_cmp-IsAntisymmetric nat_cmp-IsAntisymmetric
-
-both : (a b : Bool) → (a && b) ≡ true → (a ≡ true) × (b ≡ true)
-both true b e = (refl, e)
-both false b e = cc
-
-is_less : (o : Ordering) → is_lt o ≡ true → o ≡ Less
-is_less Less e = refl
-is_less Equal e = cc
-is_less Greater e = cc
-
-below_less : (k : List ℕ) (m : ScriptMap) (x : List ℕ × ℤ) → below_all bytes_cmp k m ≡ true → Contains m x → bytes_cmp k x.0 ≡ Less
-below_less k [] x h (i, lt, is) = absurd (omega arith)
-below_less k (e ∷ m) x h (zero, lt, is) =
-    let p = both (is_lt (bytes_cmp k e.0)) (below_all bytes_cmp k m) h in
-    ap (λ (y : List ℕ × ℤ). bytes_cmp k y.0) (sym is) ∙ is_less (bytes_cmp k e.0) p.0
-below_less k (e ∷ m) x h (suc i, lt, is) =
-    let p = both (is_lt (bytes_cmp k e.0)) (below_all bytes_cmp k m) h in
-    below_less k m x p.1 (i, omega arith, is)
-
--- a pair of a map has the value of its key
-value_found : (m : ScriptMap) (x : List ℕ × ℤ) → IsMap bytes_cmp m → Contains m x → value_at bytes_cmp m x.0 ≡ Some x.1
-value_found [] x h (i, lt, is) = absurd (omega arith)
-value_found (e ∷ m) x h (zero, lt, is) =
-    ap (λ (y : List ℕ × ℤ). value_at bytes_cmp (y ∷ m) x.0) is ∙ ap (λ (o : Ordering). cond (is_eq o) (Some x.1) (value_at bytes_cmp m x.0)) (tied_itself total x.0)
-value_found (e ∷ m) x h (suc i, lt, is) =
-    let p = both (below_all bytes_cmp e.0 m) (is_sorted bytes_cmp m) h in
-    let rest : Contains m x = (i, omega arith, is) in
-    let greater : bytes_cmp x.0 e.0 ≡ Greater = total.antisymm x.0 e.0 ∙ ap ordering_reverse (below_less e.0 m x p.0 rest) in
-    ap (λ (o : Ordering). cond (is_eq o) (Some e.1) (value_at bytes_cmp m x.0)) greater ∙ value_found m x p.1 rest
-
--- a key with a value is in a pair
-contained : (m : ScriptMap) (k : List ℕ) (v : ℤ) → value_at bytes_cmp m k ≡ Some v → Contains m (k, v)
-contained [] k v e = cc
-contained (x ∷ m) k v e = by (bytes_cmp k x.0) refl (λ there. contained m k v there) e
-  where
-    more : Contains m (k, v) → Contains (x ∷ m) (k, v)
-    more (i, lt, is) = (suc i, omega arith, is)
-
-    by : (o : Ordering) → bytes_cmp k x.0 ≡ o → (value_at bytes_cmp m k ≡ Some v → Contains m (k, v)) → cond (is_eq o) (Some x.1) (value_at bytes_cmp m k) ≡ Some v → Contains (x ∷ m) (k, v)
-    by Equal same rest e =
-        let key : x.0 ≡ k = sym (antisymmetric k x.0 same) in
-        let value : x.1 ≡ v = cc in
-        (0, omega arith, λ i. (key i, value i))
-    by Less same rest e = more (rest e)
-    by Greater same rest e = more (rest e)
 
 member_any : (p : List ℕ × ℤ → Bool) (m : ScriptMap) (x : List ℕ × ℤ) → Contains m x → p x ≡ true → list_any p m ≡ true
 member_any p [] x (i, lt, e) is = absurd (omega arith)
@@ -113,30 +71,32 @@ key_parted now reply rest (Some f) starts is h = record {
 
 -- no pair of the key that is told passes
 pub none_at : (test : Test) (m : ScriptMap) (key reply : List ℕ) → IsKeyTold reply key → NonePairAt test m key → NoneTold (find test) m reply
-none_at test m key reply k h (plain.Answer.found None) is e = k.other e
-none_at test m key reply k h (plain.Answer.found (Some x)) is e =
+none_at test m key reply k h (plain.Answer.found None) is ordered e = k.other e
+none_at test m key reply k h (plain.Answer.found (Some x)) is ordered e =
     let same : x.0 ≡ key = k.keyed x.0 x.1 e in
     let there : value_at bytes_cmp m key ≡ Some x.1 = ap (λ (n : List ℕ). value_at bytes_cmp m n) (sym same) ∙ value_found m x h.is_map is.0 in
     let fails : passes test x.0 x.1 ≡ false = ap (λ (n : List ℕ). passes test n x.1) same ∙ h.none x.1 there in
     let bad : true ≡ false = sym is.1 ∙ fails in
     cc
-none_at test m key reply k h (plain.Answer.number n) is e = absurd is
-none_at test m key reply k h (plain.Answer.truth b) is e = absurd is
-none_at test m key reply k h (plain.Answer.made n) is e = absurd is
-none_at test m key reply k h (plain.Answer.item n) is e = absurd is
+none_at test m key reply k h (plain.Answer.number n) is ordered e = absurd is
+none_at test m key reply k h (plain.Answer.truth b) is ordered e = absurd is
+none_at test m key reply k h (plain.Answer.made n) is ordered e = absurd is
+none_at test m key reply k h (plain.Answer.images n) is ordered e = absurd is
+none_at test m key reply k h (plain.Answer.item n) is ordered e = absurd is
 
 only_pair : (test : Test) (m : ScriptMap) (key reply : List ℕ) (part : ScriptPart) → IsKeyTold reply key → IsPairAt test m key part → IsOnlyTold (find test) m reply part
-only_pair test m key reply part k h (plain.Answer.found None) is e = absurd (k.other e)
-only_pair test m key reply part k h (plain.Answer.found (Some x)) is e =
+only_pair test m key reply part k h (plain.Answer.found None) is ordered e = absurd (k.other e)
+only_pair test m key reply part k h (plain.Answer.found (Some x)) is ordered e =
     let same : x.0 ≡ key = k.keyed x.0 x.1 e in
     let there : Some x.1 ≡ Some h.value = sym (value_found m x h.is_map is.0) ∙ ap (λ (n : List ℕ). value_at bytes_cmp m n) same ∙ h.there in
     let value : x.1 ≡ h.value = cc in
     let one : ◌≡◌ {A = ProgramAnswer} (plain.Answer.found (Some x)) (plain.Answer.found (Some (key, h.value))) = λ i. plain.Answer.found (Some (same i, value i)) in
     ap (λ (b : ProgramAnswer). plain.told b) (one ∙ sym h.told)
-only_pair test m key reply part k h (plain.Answer.number n) is e = absurd is
-only_pair test m key reply part k h (plain.Answer.truth b) is e = absurd is
-only_pair test m key reply part k h (plain.Answer.made n) is e = absurd is
-only_pair test m key reply part k h (plain.Answer.item n) is e = absurd is
+only_pair test m key reply part k h (plain.Answer.number n) is ordered e = absurd is
+only_pair test m key reply part k h (plain.Answer.truth b) is ordered e = absurd is
+only_pair test m key reply part k h (plain.Answer.made n) is ordered e = absurd is
+only_pair test m key reply part k h (plain.Answer.images n) is ordered e = absurd is
+only_pair test m key reply part k h (plain.Answer.item n) is ordered e = absurd is
 
 -- the pair of the key that is told passes
 pub pair_for : (test : Test) (m : ScriptMap) (key reply : List ℕ) (part : ScriptPart) → IsKeyTold reply key → IsPairAt test m key part → IsPartFor (find test) m part × IsOnlyTold (find test) m reply part
@@ -158,29 +118,99 @@ none_alike test m (plain.Answer.found (Some x)) none is = let bad : true ≡ fal
 none_alike test m (plain.Answer.number n) none is = absurd is
 none_alike test m (plain.Answer.truth b) none is = absurd is
 none_alike test m (plain.Answer.made n) none is = absurd is
+none_alike test m (plain.Answer.images n) none is = absurd is
 none_alike test m (plain.Answer.item n) none is = absurd is
 
 -- no pair is told
 pub other_for : (test : Test) (m : ScriptMap) (reply : List ℕ) (part : ScriptPart) → TellsNoPair reply → IsPartFor (find test) m part → IsOnlyTold (find test) m reply part
-other_for test m reply part none p (plain.Answer.found None) is e = ap (λ (b : ProgramAnswer). plain.told b) (none_alike test m (answer_of part) is p.answer)
-other_for test m reply part none p (plain.Answer.found (Some x)) is e = absurd (none x.0 x.1 e)
-other_for test m reply part none p (plain.Answer.number n) is e = absurd is
-other_for test m reply part none p (plain.Answer.truth b) is e = absurd is
-other_for test m reply part none p (plain.Answer.made n) is e = absurd is
-other_for test m reply part none p (plain.Answer.item n) is e = absurd is
+other_for test m reply part none p (plain.Answer.found None) is ordered e = ap (λ (b : ProgramAnswer). plain.told b) (none_alike test m (answer_of part) is p.answer)
+other_for test m reply part none p (plain.Answer.found (Some x)) is ordered e = absurd (none x.0 x.1 e)
+other_for test m reply part none p (plain.Answer.number n) is ordered e = absurd is
+other_for test m reply part none p (plain.Answer.truth b) is ordered e = absurd is
+other_for test m reply part none p (plain.Answer.made n) is ordered e = absurd is
+other_for test m reply part none p (plain.Answer.images n) is ordered e = absurd is
+other_for test m reply part none p (plain.Answer.item n) is ordered e = absurd is
 
 -- ---- what any query is told
 
--- a question that asks for no pair has one answer
-pub one_for : (q : ScriptQuestion) (m : ScriptMap) (reply : List ℕ) (part : ScriptPart) → asks_pair q ≡ false → IsPartFor q m part → IsOnlyTold q m reply part
-one_for q m reply part never p a is e = ap (λ (b : ProgramAnswer). plain.told b) (is_the_answer q m a never is ∙ sym (is_the_answer q m (answer_of part) never p.answer))
+no_choice : (q : ScriptQuestion) → asks_pair q ≡ false → asks_images q ≡ false → asks_choice q ≡ false
+no_choice (find test) found made = cc
+no_choice (paired mapping to) found made = cc
+no_choice q found made = refl
+
+-- a question that asks for no pair and no images has one answer
+pub one_for : (q : ScriptQuestion) (m : ScriptMap) (reply : List ℕ) (part : ScriptPart) → asks_pair q ≡ false → asks_images q ≡ false → IsPartFor q m part → IsOnlyTold q m reply part
+one_for q m reply part found made p a is ordered e =
+    let never = no_choice q found made in
+    ap (λ (b : ProgramAnswer). plain.told b) (is_the_answer q m a never is ∙ sym (is_the_answer q m (answer_of part) never p.answer))
+
+-- what a script is told is what the journal shows, but of images
+shown_as : (q : ScriptQuestion) (m : ScriptMap) (a : ProgramAnswer) → asks_images q ≡ false → answers q m a → text_of (told_reply (plain.told a)) ≡ outcome_text (finished (plain.told a))
+shown_as (paired mapping to) m (plain.Answer.images n) never is = cc
+shown_as q m (plain.Answer.images n) never is = absurd is
+shown_as q m (plain.Answer.number n) never is = refl
+shown_as q m (plain.Answer.truth b) never is = refl
+shown_as q m (plain.Answer.found x) never is = refl
+shown_as q m (plain.Answer.made n) never is = refl
+shown_as q m (plain.Answer.item i) never is = refl
 
 -- the only answer that may be told so is told otherwise
-pub told_otherwise : (q : ScriptQuestion) (m : ScriptMap) (reply : List ℕ) (part : ScriptPart) (b : ProgramTold) → IsOnlyTold q m reply part → b ≡ plain.told (answer_of part) → (reply ≡ text_of (told_reply b) → ⊥) → NoneTold q m reply
-told_otherwise q m reply part b only same other a is e = other (e ∙ ap (λ (c : ProgramTold). text_of (told_reply c)) (only a is e ∙ sym same))
+pub told_otherwise : (q : ScriptQuestion) (m : ScriptMap) (reply : List ℕ) (part : ScriptPart) (b : ProgramTold) → asks_images q ≡ false → IsPartFor q m part → IsOnlyTold q m reply part → b ≡ plain.told (answer_of part)
+    → (reply ≡ text_of (told_reply b) → ⊥) → NoneTold q m reply
+told_otherwise q m reply part b never p only same other a is ordered e = other (e ∙ ap (λ (c : ProgramTold). outcome_text (finished c)) (only a is ordered e) ∙ sym (ap (λ (c : ProgramTold). text_of (told_reply c)) same ∙ shown_as q m (answer_of part) never p.answer))
+
+-- it is told so
+pub told_so : (q : ScriptQuestion) (m : ScriptMap) (reply : List ℕ) (part : ScriptPart) (b : ProgramTold) → asks_images q ≡ false → IsPartFor q m part → b ≡ plain.told (answer_of part) → reply ≡ text_of (told_reply b)
+    → reply ≡ outcome_text (finished (plain.told (answer_of part)))
+told_so q m reply part b never p same is = is ∙ ap (λ (c : ProgramTold). text_of (told_reply c)) same ∙ shown_as q m (answer_of part) never p.answer
 
 -- the text that tells the part
 pub told_part : (q : ScriptQuestion) (m : ScriptMap) (reply : List ℕ) (found : Option ScriptPart) (part : ScriptPart) → found ≡ Some part
-    → MatchOption found (NoneTold q m reply) (λ x. IsPartFor q m x × (reply ≡ text_of (told_reply (plain.told (answer_of x))))) → reply ≡ text_of (told_reply (plain.told (answer_of part)))
+    → MatchOption found (NoneTold q m reply) (λ x. IsPartFor q m x × (reply ≡ outcome_text (finished (plain.told (answer_of x))))) → reply ≡ outcome_text (finished (plain.told (answer_of part)))
 told_part q m reply None part e h = cc
-told_part q m reply (Some x) part e h = let same : x ≡ part = cc in subst (λ (y : ScriptPart). reply ≡ text_of (told_reply (plain.told (answer_of y)))) same h.1
+told_part q m reply (Some x) part e h = let same : x ≡ part = cc in subst (λ (y : ScriptPart). reply ≡ outcome_text (finished (plain.told (answer_of y)))) same h.1
+
+-- ---- what a query for images is told
+
+-- the map that was read answers, and is told by the text
+pub images_for : (q : ScriptQuestion) (mapping : PairMapping) (to : ℕ) (m told : ScriptMap) (v : Contents (List ℕ) ℤ) (w : ScriptMap) (reply : List ℕ) → q ≡ paired mapping to → v.limit ≡ MOST_PAIRS → v.stamp ≡ 0 → w ≡ v.entries → HasAllRead (image_of mapping) m told v.entries → reply ≡ text_of (replies.Pairs w)
+    → IsPartFor q m (parts.Images v w) × (reply ≡ outcome_text (finished (plain.told (answer_of {K = List ℕ} {V = ℤ} {I = Item} (parts.Images v w)))))
+images_for q mapping to m told v w reply same limit stamp seen all is =
+    (subst (λ (x : ScriptQuestion). IsPartFor x m (parts.Images v w)) (sym same) (record { loose = (limit, stamp, sym seen); answer = subst (λ (n : ScriptMap). IsImage (image_of mapping) m n) (sym seen) all.image }), is)
+
+-- what is not shown so is not
+pub never_shown : (b : Bool) → b ≡ false → IsTrue b → ⊥
+never_shown b none shown = let bad : true ≡ false = sym shown ∙ none in cc
+
+-- no map but the one that was read is told, and that is told otherwise
+pub images_none : (q : ScriptQuestion) (mapping : PairMapping) (to : ℕ) (m some told w : ScriptMap) (reply : List ℕ) → q ≡ paired mapping to → IsImage (image_of mapping) m some → IsMap bytes_cmp some → AreValuesTold some reply told
+    → HasAllRead (image_of mapping) m told w → (reply ≡ text_of (replies.Pairs w) → ⊥) → NoneTold q m reply
+images_none q mapping to m some told w reply same is sorted values all other = subst (λ (x : ScriptQuestion). NoneTold x m reply) (sym same) none
+  where
+    none : NoneTold (paired mapping to) m reply
+    none (plain.Answer.images n) image ordered e = other (e ∙ ap (λ (x : ScriptMap). text_of (replies.Pairs x)) (only_images (image_of mapping) m some told w n reply is sorted values all image ordered e))
+    none (plain.Answer.number n) image ordered e = absurd image
+    none (plain.Answer.truth b) image ordered e = absurd image
+    none (plain.Answer.found x) image ordered e = absurd image
+    none (plain.Answer.made n) image ordered e = absurd image
+    none (plain.Answer.item i) image ordered e = absurd image
+
+-- the map that a part of images makes
+pub made_images : (mapping : PairMapping) (to : ℕ) (q : ScriptQuestion) (m : ScriptMap) (part : ScriptPart) (n : ScriptMap) → q ≡ paired mapping to → IsPartFor q m part → n ≡ plain.map_of (answer_of part) → IsImage (image_of mapping) m n
+made_images mapping to q m part n same p is = by (answer_of part) (subst (λ (x : ScriptQuestion). answers x m (answer_of part)) same p.answer) is
+  where
+    by : (a : ProgramAnswer) → answers (paired mapping to) m a → n ≡ plain.map_of a → IsImage (image_of mapping) m n
+    by (plain.Answer.images k) image e = subst (IsImage (image_of mapping) m) (sym e) image
+    by (plain.Answer.number k) image e = absurd image
+    by (plain.Answer.truth b) image e = absurd image
+    by (plain.Answer.found x) image e = absurd image
+    by (plain.Answer.made k) image e = absurd image
+    by (plain.Answer.item i) image e = absurd image
+
+-- the version that is made of it has that map
+pub made_of : (mapping : PairMapping) (to : ℕ) (q : ScriptQuestion) (m : ScriptMap) (part : ScriptPart) (made : Option (Contents (List ℕ) ℤ)) (v : Contents (List ℕ) ℤ) → q ≡ paired mapping to → IsPartFor q m part
+    → MakesFor (target_of q) (answer_of part) made → made ≡ Some v → IsImage (image_of mapping) m v.entries
+made_of mapping to q m part made v same p makes is =
+    let there = subst (λ (x : ScriptQuestion). MakesFor (target_of x) (answer_of part) made) same makes in
+    let here = subst (λ (x : Option (Contents (List ℕ) ℤ)). MakesFor (Some to) (answer_of part) x) is there in
+    made_images mapping to q m part v.entries same p here.0

@@ -13,21 +13,11 @@ use Rattle.audit.specs.Verdicts.{AreLawful, IsLegalJournal, IsLegalText, BeginsL
 use Rattle.audit.specs.Runs.{MayBeAsked, HasOneVerdict}
 use Rattle.audit.specs.declared.verdict.Verdict.TheVariants.{Legal, Bad}
 use Rattle.audit.proofs.OneState.{step_counts}
+use Rattle.audit.proofs.OneText.{may_be_asked}
 use Rattle.audit.proofs.Runs.{Goes, goes_first, from_journal}
 use Rattle.audit.proofs.Room.{HasRoom, step_has_room}
 
 -- ---- a legal journal has no more entries than it may
-
-may_be_asked : (r : ProgramRequest) → IsLawfulRequest r → MayBeAsked r
-may_be_asked (finish j) l = tt
-may_be_asked (abandon j) l = tt
-may_be_asked (open_handle h) l = l
-may_be_asked (snapshot h to) l = l
-may_be_asked (drop_handle h) l = l
-may_be_asked (on h c) l = l
-may_be_asked (view h) l = l
-may_be_asked (freeze h q) l = l
-may_be_asked worker_step l = l
 
 -- at first there is room
 pub room_at_first : HasRoom (nothing largest)

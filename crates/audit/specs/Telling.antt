@@ -6,16 +6,18 @@ use Rattle.bulk_ops.specs.Answers as plain
 use Rattle.bulk_ops.specs.Queries.{answer_of}
 use Rattle.bulk_ops.specs.declared.part.Part.{Part}
 use Rattle.script.specs.Questions.{passes}
+use Rattle.handles.specs.Machine.{finished}
 use Rattle.script.specs.Replies.{text_of}
 use Rattle.script.specs.declared.passing.Test.{Test}
 use Rattle.script.specs.declared.reply.LineReply.TheVariants as replies
 use Rattle.questions.specs.Folds.{Item}
-use Rattle.questions.specs.Program.{ProgramAnswer, told_reply}
-use Rattle.questions.specs.Queries.{ScriptQuestion, IsLoose, answers}
+use Rattle.questions.specs.Program.{ProgramAnswer}
+use Rattle.questions.specs.Queries.{ScriptQuestion, IsInOrder, IsLoose, answers}
+use Rattle.journal_text.specs.Calls.{outcome_text}
 
 -- no answer of the question for the map but the part's is told by the text
 abbrev pub IsOnlyTold : ScriptQuestion → Map (List ℕ) ℤ → List ℕ → Part (List ℕ) ℤ Item → Type 0
-IsOnlyTold q m reply part = (a : ProgramAnswer) → answers q m a → reply ≡ text_of (told_reply (plain.told a)) → plain.told a ≡ plain.told (answer_of part)
+IsOnlyTold q m reply part = (a : ProgramAnswer) → answers q m a → IsInOrder a → reply ≡ outcome_text (finished (plain.told a)) → plain.told a ≡ plain.told (answer_of part)
 
 -- no byte is a space
 abbrev pub IsSpaceless : List ℕ → Type 0

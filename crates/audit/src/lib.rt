@@ -6,10 +6,12 @@
 
 mod auditing;
 mod entry;
+mod images;
 mod judging;
 mod laws;
 mod pairs;
 mod telling;
+mod values;
 mod verdict;
 
 pub use auditing::audit;

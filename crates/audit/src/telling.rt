@@ -1,14 +1,16 @@
 //! Whether a job is told so.
 
-ghost use Rattle.std.specs.Prelude.{◌≡◌, IfOk, MatchOption};
+ghost use Rattle.std.specs.Prelude.{◌≡◌, IfOk, MatchOption, false};
 ghost use Rattle.bulk_ops.specs.Answers as plain;
 ghost use Rattle.bulk_ops.specs.Queries.{answer_of};
-ghost use Rattle.script.specs.Replies.{text_of};
-ghost use Rattle.questions.specs.Program.{told_reply};
+ghost use Rattle.handles.specs.Machine.{finished};
+ghost use Rattle.journal_text.specs.Calls.{outcome_text};
+ghost use Rattle.questions.specs.Program.{asks_images};
 ghost use Rattle.questions.specs.Queries.{IsPartFor, find};
 ghost use Rattle.audit.specs.Answers.{NoneTold};
 ghost use Rattle.audit.specs.Telling.{IsOnlyTold};
 
+use crate::images::images_told;
 use crate::judging::is_shown_as;
 use crate::pairs::{key_told, pair_at};
 use bulk_ops::{Asks, work};
@@ -21,14 +23,30 @@ use std::alloc::Global;
 use versions::{NoMemory, View};
 
 /// A part that answers the query for the map and is told by this text, if there is one.
-#[tactic(auto, using(crate::proofs::TellingLemmas::told_otherwise))]
 pub fn part_told(
     alloc: Global,
     query: &ScriptQuery,
     view: &View<ByteText, i64>,
     reply: &[u8],
 ) -> Result<Option<ScriptPart>, NoMemory>
-    ensures { IfOk result (λ found. MatchOption found (NoneTold query.now view.now reply.now) (λ part. IsPartFor query.now view.now part × (reply.now ≡ text_of (told_reply (plain.told (answer_of part)))))) }
+    ensures { IfOk result (λ found. MatchOption found (NoneTold query.now view.now reply.now) (λ part. IsPartFor query.now view.now part × (reply.now ≡ outcome_text (finished (plain.told (answer_of part)))))) }
+{
+    match query.pair_mapping() {
+        Some(mapping) => images_told(alloc, mapping, query, view, reply),
+        None => other_told(alloc, query, view, reply),
+    }
+}
+
+/// The same of a query for no images, whose answer a journal shows as a script's reply does.
+#[tactic(auto, using(crate::proofs::TellingLemmas::told_otherwise, crate::proofs::TellingLemmas::told_so))]
+fn other_told(
+    alloc: Global,
+    query: &ScriptQuery,
+    view: &View<ByteText, i64>,
+    reply: &[u8],
+) -> Result<Option<ScriptPart>, NoMemory>
+    requires { asks_images query.now ≡ false }
+    ensures { IfOk result (λ found. MatchOption found (NoneTold query.now view.now reply.now) (λ part. IsPartFor query.now view.now part × (reply.now ≡ outcome_text (finished (plain.told (answer_of part)))))) }
 {
     let Some(part) = only_part(alloc, query, view, reply)? else {
         return Ok(None);
@@ -49,6 +67,7 @@ fn only_part(
     view: &View<ByteText, i64>,
     reply: &[u8],
 ) -> Result<Option<ScriptPart>, NoMemory>
+    requires { asks_images query.now ≡ false }
     ensures { IfOk result (λ found. MatchOption found (NoneTold query.now view.now reply.now) (λ part. IsPartFor query.now view.now part × IsOnlyTold query.now view.now reply.now part)) }
 {
     if let Some(test) = query.pair_test() {
@@ -78,7 +97,7 @@ fn pair_told(
 }
 
 /// The part of the whole map.
-fn part_of(
+pub fn part_of(
     alloc: Global,
     query: &ScriptQuery,
     view: &View<ByteText, i64>,

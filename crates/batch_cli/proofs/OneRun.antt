@@ -7,17 +7,17 @@ use Rattle.handles.specs.Laws.{FreezesOpenJobs}
 use Rattle.handles.specs.Machine.{Step, Job, job_at, open_handle, on, freeze, finish, replied, frozen, unfinished}
 use Rattle.script.specs.Replies.{line_text}
 use Rattle.questions.specs.Queries.{ScriptQuestion}
-use Rattle.questions.specs.Program.{asks_pair, program, ProgramState, ProgramRequest, ProgramOutcome, request_for, reply_to}
+use Rattle.questions.specs.Program.{asks_choice, program, ProgramState, ProgramRequest, ProgramOutcome, request_for, reply_to}
 use Rattle.questions.specs.Laws.{is_settled_at_once, FinishesTellOne, HaveOneOutcome}
 use Rattle.batch_cli.specs.Events.{Event, reply_with, Ends, Makes, IsRun}
-use Rattle.batch_cli.specs.Runs.{FindsNoPair, LineAnswer, EachMakes, events_of, is_find, replies_in, text_for}
+use Rattle.batch_cli.specs.Runs.{LeavesNoChoice, LineAnswer, EachMakes, events_of, leaves_choice, replies_in, text_for}
 use Rattle.script.specs.declared.statement.Statement.{Statement}
-use Rattle.script.specs.declared.statement.Statement.TheVariants.{Open, Find, GetOrElse}
+use Rattle.script.specs.declared.statement.Statement.TheVariants.{Open, Find, MapPairs, GetOrElse}
 use Rattle.script.specs.declared.statement.CommandLine.{CommandLine}
 use Rattle.script.specs.declared.reply.LineReply.{LineReply}
 use Rattle.batch_cli.proofs.Ends.{missing_or_done}
 
--- an open job that asks for no pair
+-- an open job of a script
 abbrev ScriptJob : Type 0
 ScriptJob = Job (List ℕ) ℤ ScriptQuestion
 
@@ -29,21 +29,22 @@ asks_once : (c : Statement) → is_settled_at_once (request_for c) ≡ true
 asks_once (Open h) = refl
 asks_once c = refl
 
--- whether the request opens a job that asks for a pair
-abbrev freezes_for_pair : ProgramRequest → Bool
-freezes_for_pair (freeze h q) = asks_pair q
-freezes_for_pair r = false
+-- whether the request opens a job that may have several answers
+abbrev freezes_for_choice : ProgramRequest → Bool
+freezes_for_choice (freeze h q) = asks_choice q
+freezes_for_choice r = false
 
-no_pair : (c : Statement) → is_find c ≡ false → freezes_for_pair (request_for c) ≡ false
-no_pair (Find h test) never = never
-no_pair (Open h) never = refl
-no_pair c never = refl
+no_choice : (c : Statement) → leaves_choice c ≡ false → freezes_for_choice (request_for c) ≡ false
+no_choice (Find h test) never = never
+no_choice (MapPairs h mapping to) never = never
+no_choice (Open h) never = refl
+no_choice c never = refl
 
--- the job that is open then, which asks for no pair
+-- the job that is open then, which has one answer
 abbrev HasJob : ProgramState → ℕ → Type 0
-HasJob t j = (job : ScriptJob) × (job_at t j ≡ Some job) × (asks_pair job.query ≡ false)
+HasJob t j = (job : ScriptJob) × (job_at t j ≡ Some job) × (asks_choice job.query ≡ false)
 
-opened_job : FreezesOpenJobs program → (r : ProgramRequest) (s t : ProgramState) (j : ℕ) (m : Map (List ℕ) ℤ) → freezes_for_pair r ≡ false → Step program s r (frozen j m) t → HasJob t j
+opened_job : FreezesOpenJobs program → (r : ProgramRequest) (s t : ProgramState) (j : ℕ) (m : Map (List ℕ) ℤ) → freezes_for_choice r ≡ false → Step program s r (frozen j m) t → HasJob t j
 opened_job law (freeze h q) s t j m never step = (record { query = q; frozen = m }, law s t h q j m step, never)
 opened_job law (open_handle h) s t j m never step = absurd step.1
 opened_job law r s t j m never step = absurd step.1
@@ -85,7 +86,7 @@ abbrev MayAnswer : ProgramState → Statement → LineReply → ProgramState →
 MayAnswer s statement reply t = (events : List Event) × Makes statement events reply × IsRun s events t
 
 -- a statement has one answer in a state, and leaves one state
-one_answer : FreezesOpenJobs program → HaveOneOutcome → FinishesTellOne → (c : Statement) (s t u : ProgramState) (a b : LineReply) → is_find c ≡ false → MayAnswer s c a t → MayAnswer s c b u → (a ≡ b) × (t ≡ u)
+one_answer : FreezesOpenJobs program → HaveOneOutcome → FinishesTellOne → (c : Statement) (s t u : ProgramState) (a b : LineReply) → leaves_choice c ≡ false → MayAnswer s c a t → MayAnswer s c b u → (a ≡ b) × (t ≡ u)
 one_answer law once told c s t u a b never (events, (o, later, are, ends), run) (others, (p, further, were, too), ran) =
     let step : IsRun s ((request_for c, o) ∷ later) t = rw are at run in
     let trod : IsRun s ((request_for c, p) ∷ further) u = rw were at ran in
@@ -93,7 +94,7 @@ one_answer law once told c s t u a b never (events, (o, later, are, ends), run) 
     let ends_alike : Ends c o further b = (let P : ProgramOutcome → Type 0 = λ x. Ends c x further b in subst P (sym same.0) too) in
     let run_alike : IsRun step.0 further u = (let P : ProgramState → Type 0 = λ x. IsRun x further u in subst P (sym same.1) trod.2) in
     let opened : (j : ℕ) (m : Map (List ℕ) ℤ) → o ≡ frozen j m → HasJob step.0 j =
-    λ j m is. opened_job law (request_for c) s step.0 j m (no_pair c never) (let P : ProgramOutcome → Type 0 = λ x. Step program s (request_for c) x step.0 in subst P is step.1) in
+    λ j m is. opened_job law (request_for c) s step.0 j m (no_choice c never) (let P : ProgramOutcome → Type 0 = λ x. Step program s (request_for c) x step.0 in subst P is step.1) in
     one_end once told c o step.0 t u later further a b opened ends ends_alike step.2 run_alike
 
 -- a run of events and further ones goes by a state between
@@ -102,7 +103,7 @@ run_split s t [] fs run = (s, refl, run)
 run_split s t (e ∷ es) fs run = let more = run_split run.0 t es fs run.2 in (more.0, (run.0, run.1, more.1), more.2)
 
 -- runs from one state print one text
-pub one_text : FreezesOpenJobs program → HaveOneOutcome → FinishesTellOne → (lines : List CommandLine) (xs ys : List LineAnswer) (s t u : ProgramState) → FindsNoPair lines → EachMakes lines xs → EachMakes lines ys → IsRun s (events_of xs) t → IsRun s (events_of ys) u → text_for lines (replies_in xs) ≡ text_for lines (replies_in ys)
+pub one_text : FreezesOpenJobs program → HaveOneOutcome → FinishesTellOne → (lines : List CommandLine) (xs ys : List LineAnswer) (s t u : ProgramState) → LeavesNoChoice lines → EachMakes lines xs → EachMakes lines ys → IsRun s (events_of xs) t → IsRun s (events_of ys) u → text_for lines (replies_in xs) ≡ text_for lines (replies_in ys)
 one_text law once told [] xs ys s t u never ma mb run ran = refl
 one_text law once told (line ∷ lines) [] ys s t u never ma mb run ran = absurd ma
 one_text law once told (line ∷ lines) (a ∷ xs) [] s t u never ma mb run ran = absurd mb

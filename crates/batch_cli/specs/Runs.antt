@@ -10,7 +10,7 @@ use Rattle.batch_cli.specs.Events.{Event, Makes}
 use Rattle.questions.specs.Program.{largest, program, ProgramState, ProgramTold}
 use Rattle.questions.specs.Queries.{ScriptQuestion}
 use Rattle.script.specs.declared.statement.Statement.{Statement}
-use Rattle.script.specs.declared.statement.Statement.TheVariants.{Find}
+use Rattle.script.specs.declared.statement.Statement.TheVariants.{Find, MapPairs}
 use Rattle.script.specs.declared.statement.CommandLine.{CommandLine}
 use Rattle.script.specs.declared.reply.LineReply.{LineReply}
 
@@ -101,15 +101,16 @@ IsNext old client reply new = (rest : List LineReply) × (slice_index_or old cli
 abbrev pub HasOneClient : List CommandLine → Type 0
 HasOneClient script = (client : ℕ) × All (λ line. line.client ≡ client) script
 
--- whether the statement asks for some pair that passes, of which there may be several
-abbrev pub is_find : Statement → Bool
-is_find (Find handle test) = true
-is_find statement = false
+-- whether the statement asks for some pair that passes, or for the map of images, of which there may be several
+abbrev pub leaves_choice : Statement → Bool
+leaves_choice (Find handle test) = true
+leaves_choice (MapPairs handle mapping target) = true
+leaves_choice statement = false
 
--- no line asks for some pair
-abbrev pub FindsNoPair : List CommandLine → Type 0
-FindsNoPair [] = Unit {0}
-FindsNoPair (line ∷ lines) = (is_find line.statement ≡ false) × FindsNoPair lines
+-- no line does
+abbrev pub LeavesNoChoice : List CommandLine → Type 0
+LeavesNoChoice [] = Unit {0}
+LeavesNoChoice (line ∷ lines) = (leaves_choice line.statement ≡ false) × LeavesNoChoice lines
 
 -- the text spells a script, a run of it has this journal, and a writer that held the old bytes has its output behind them
 abbrev pub HasRun : List ℕ → List ProgramEntry → Option (List ℕ) → Option (List ℕ) → Type 0

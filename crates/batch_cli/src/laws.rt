@@ -2,7 +2,7 @@
 
 ghost use Rattle.std.specs.Prelude.{◌≡◌, ℕ, List};
 ghost use Rattle.batch_cli.specs.Legality.{RunsHaveLegalTexts};
-ghost use Rattle.batch_cli.specs.Runs.{FindsNoPair, HasOneClient, IsOutputOf};
+ghost use Rattle.batch_cli.specs.Runs.{LeavesNoChoice, HasOneClient, IsOutputOf};
 ghost use Rattle.script.specs.declared.statement.CommandLine.{CommandLine};
 
 use audit::{law_of_runs, law_of_statements};
@@ -11,9 +11,9 @@ use keys::ByteText;
 use questions::{ScriptQuery, finishes_tell_one_answer, requests_have_one_outcome};
 
 /// What is written for a script of one client is a function of the script, if no line of it is a `find`, which may be
-/// answered any pair that passes.
+/// answered any pair that passes, or a `mappairs`, which may keep any of the images of a key.
 pub fn script_has_one_output()
-    ensures { (script : List CommandLine) (one other : List ℕ) → HasOneClient script → FindsNoPair script → IsOutputOf script one → IsOutputOf script other → one ≡ other }
+    ensures { (script : List CommandLine) (one other : List ℕ) → HasOneClient script → LeavesNoChoice script → IsOutputOf script one → IsOutputOf script other → one ≡ other }
 {
     law_of_freezes::<ByteText, i64, ScriptQuery>();
     requests_have_one_outcome();

@@ -230,3 +230,88 @@ fn turned(alloc: Global, text: &[u8], old: &[u8], new: &[u8]) -> Result<Vec<u8>,
     }
     Ok(made)
 }
+
+/// A journal of a map of images of which two pairs have one key, and of what is read of it.
+const IMAGES: &[u8] = b"{\"call\":\"open 1\",\"entry\":1,\"reply\":\"ok\",\"seat\":0}
+{\"call\":\"put 1 a 1\",\"entry\":2,\"reply\":\"none\",\"seat\":0}
+{\"call\":\"put 1 ab 2\",\"entry\":3,\"reply\":\"none\",\"seat\":0}
+{\"call\":\"put 1 b 3\",\"entry\":4,\"reply\":\"none\",\"seat\":0}
+{\"call\":\"freeze mappairs 1 initial 2\",\"entry\":5,\"reply\":\"job 0\",\"seat\":0}
+{\"call\":\"finish 0\",\"entry\":6,\"reply\":\"pairs a=2 b=3\",\"seat\":0}
+{\"call\":\"get 2 a\",\"entry\":7,\"reply\":\"some 2\",\"seat\":0}
+{\"entries\":7}
+";
+
+/// Other images that the finish tells. Where it may tell them, what is read is held to them.
+const TOLD_IMAGES: [Row; 13] = [
+    (b"pairs a=2 b=3", b"pairs a=2 b=3", "legal 7"),
+    (b"pairs a=2 b=3", b"pairs a=1 b=3", "bad 7"),
+    (
+        b"pairs a=2 b=3\",\"seat\":0}\n{\"call\":\"get 2 a\",\"entry\":7,\"reply\":\"some 2",
+        b"pairs a=1 b=3\",\"seat\":0}\n{\"call\":\"get 2 a\",\"entry\":7,\"reply\":\"some 1",
+        "legal 7",
+    ),
+    (b"some 2", b"some 1", "bad 7"),
+    (b"pairs a=2 b=3", b"pairs a=3 b=3", "bad 6"),
+    (b"pairs a=2 b=3", b"pairs a=2 b=2", "bad 6"),
+    (b"pairs a=2 b=3", b"pairs a=2", "bad 6"),
+    (b"pairs a=2 b=3", b"pairs b=3 a=2", "bad 6"),
+    (b"pairs a=2 b=3", b"pairs a=2  b=3", "bad 6"),
+    (b"pairs a=2 b=3", b"pairs a=2 b=3 ", "bad 6"),
+    (b"pairs a=2 b=3", b"pairs a=02 b=3", "bad 6"),
+    (b"pairs a=2 b=3", b"pairs a=2 b=3 c=3", "bad 6"),
+    (b"pairs a=2 b=3", b"count 2", "bad 6"),
+];
+
+/// The same with one key for all images: a good finish leaves no key that the last entry finds.
+const TOLD_OF_ONE_KEY: [Row; 4] = [
+    (
+        b"initial 2\",\"entry\":5,\"reply\":\"job 0\",\"seat\":0}\n{\"call\":\"finish 0\",\"entry\":6,\"reply\":\"pairs a=2 b=3",
+        b"to:z 2\",\"entry\":5,\"reply\":\"job 0\",\"seat\":0}\n{\"call\":\"finish 0\",\"entry\":6,\"reply\":\"pairs z=1",
+        "bad 7",
+    ),
+    (
+        b"initial 2\",\"entry\":5,\"reply\":\"job 0\",\"seat\":0}\n{\"call\":\"finish 0\",\"entry\":6,\"reply\":\"pairs a=2 b=3",
+        b"to:z 2\",\"entry\":5,\"reply\":\"job 0\",\"seat\":0}\n{\"call\":\"finish 0\",\"entry\":6,\"reply\":\"pairs z=2",
+        "bad 7",
+    ),
+    (
+        b"initial 2\",\"entry\":5,\"reply\":\"job 0\",\"seat\":0}\n{\"call\":\"finish 0\",\"entry\":6,\"reply\":\"pairs a=2 b=3",
+        b"to:z 2\",\"entry\":5,\"reply\":\"job 0\",\"seat\":0}\n{\"call\":\"finish 0\",\"entry\":6,\"reply\":\"pairs z=3",
+        "bad 7",
+    ),
+    (
+        b"initial 2\",\"entry\":5,\"reply\":\"job 0\",\"seat\":0}\n{\"call\":\"finish 0\",\"entry\":6,\"reply\":\"pairs a=2 b=3",
+        b"to:z 2\",\"entry\":5,\"reply\":\"job 0\",\"seat\":0}\n{\"call\":\"finish 0\",\"entry\":6,\"reply\":\"pairs z=4",
+        "bad 6",
+    ),
+];
+
+/// A journal of images by their values, and of those of no pairs.
+const BY_VALUE: &[u8] = b"{\"call\":\"open 1\",\"entry\":1,\"reply\":\"ok\",\"seat\":0}
+{\"call\":\"put 1 x 7\",\"entry\":2,\"reply\":\"none\",\"seat\":0}
+{\"call\":\"put 1 yy 7\",\"entry\":3,\"reply\":\"none\",\"seat\":0}
+{\"call\":\"open 3\",\"entry\":4,\"reply\":\"ok\",\"seat\":0}
+{\"call\":\"freeze mappairs 1 byvalue 2\",\"entry\":5,\"reply\":\"job 0\",\"seat\":0}
+{\"call\":\"finish 0\",\"entry\":6,\"reply\":\"pairs 7=2\",\"seat\":0}
+{\"call\":\"freeze mappairs 3 byvalue 4\",\"entry\":7,\"reply\":\"job 1\",\"seat\":0}
+{\"call\":\"finish 1\",\"entry\":8,\"reply\":\"pairs\",\"seat\":0}
+{\"entries\":8}
+";
+
+const TOLD_BY_VALUE: [Row; 7] = [
+    (b"pairs 7=2", b"pairs 7=2", "legal 8"),
+    (b"pairs 7=2", b"pairs 7=1", "legal 8"),
+    (b"pairs 7=2", b"pairs 7=3", "bad 6"),
+    (b"pairs 7=2", b"pairs x=7", "bad 6"),
+    (b"pairs 7=2", b"pairs", "bad 6"),
+    (b"\"pairs\"", b"\"count 0\"", "bad 8"),
+    (b"\"pairs\"", b"\"pairs \"", "bad 8"),
+];
+
+#[test]
+fn maps_of_images_are_those_told(rt: HostRuntime) -> Result<(), Fail> {
+    play(&rt, IMAGES, &TOLD_IMAGES)?;
+    play(&rt, IMAGES, &TOLD_OF_ONE_KEY)?;
+    play(&rt, BY_VALUE, &TOLD_BY_VALUE)
+}

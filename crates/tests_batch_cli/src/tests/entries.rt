@@ -143,6 +143,7 @@ fn push_answer(
 ) -> Result<(), Fail> {
     match answer {
         Answer::Count(pairs) | Answer::Made(pairs) => write!(text, "count {pairs}")?,
+        Answer::Images(map) => write!(text, "count {}", map.len())?,
         Answer::Truth(truth) => write!(text, "{truth}")?,
         Answer::Found(Some((key, value))) => push_write(text, "pair", 0, key, &[**value])?,
         Answer::Found(None) | Answer::Item(None) => text.push_str("none")?,
