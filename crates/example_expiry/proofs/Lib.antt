@@ -1,1 +1,3 @@
 pub mod Outlooks
+mod Sums
+mod Together

@@ -1,2 +1,3 @@
+pub mod Initials
 pub mod Leases
 pub mod Outlooks

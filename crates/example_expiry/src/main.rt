@@ -1,11 +1,15 @@
 //! A registry of leases: those that have expired are counted, and those that have not are filtered into a new map,
 //! while writes to the registry go on. Of a registry that threads share, a crew of four tells how many leases have
-//! expired, will soon, and last longer, while three others write it.
+//! expired, will soon, and last longer, while three others write it. Of one by names it tells how many names begin with
+//! each letter.
 //!
 //! What it prints is stored beside it. It fails, with status 1, where memory or the output does.
 #![tactic(auto)]
 
+mod by_initial;
+mod initials;
 mod lease;
+mod named;
 mod outlook;
 mod queries;
 mod shared;
@@ -27,8 +31,9 @@ fn main(rt: HostRuntime) -> ExitCode {
     }
 }
 
-// One registry after the other.
+// One registry after another.
 fn run<R: Runtime + AllocGlobal + Threads + Wait + Sync>(rt: &R) -> Result<()> {
     tour::tour(rt)?;
-    shared::tour(rt)
+    shared::tour(rt)?;
+    named::tour(rt)
 }

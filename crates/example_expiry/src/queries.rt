@@ -2,7 +2,7 @@
 ghost use Rattle.bulk_ops.specs.Queries.{IsReady};
 
 use crate::lease::Lease;
-use bulk_ops::{PairFn, Query, Stored, StoredItem, StoredTest};
+use bulk_ops::{NoImages, PairFn, Query, Stored, StoredItem, StoredTest};
 use combiner::Sum;
 use keys::ByteText;
 
@@ -69,7 +69,7 @@ impl PairFn<ByteText, Lease, i128> for SecondsLeft {
 }
 
 /// All questions of this program have one type.
-pub type Question = Query<ByteText, Lease, At, Renewed, Sum, SecondsLeft>;
+pub type Question = Query<ByteText, Lease, At, Renewed, Sum, SecondsLeft, NoImages>;
 
 /// How many leases have expired.
 pub fn expired(now: u64) -> Question
