@@ -40,6 +40,12 @@ object Crew {
     show("fold_sum")(par.aggregate(0L)((sum, pair) => sum + pair._2, _ + _))
     show("filter")(par.filter { case (_, v) => v < half })
     show("map_values")(par.map { case (k, _) => (k, 1L) })
+    // ParTrieMap.map to keys that several pairs have in common fails when parts are joined, so one thread makes the map.
+    show("map_pairs") {
+      val made = TrieMap.empty[String, Long]
+      map.foreach { case (k, v) => made.put(k.dropRight(1), v) }
+      made
+    }
     pool.shutdown()
   }
 }

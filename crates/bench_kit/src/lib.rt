@@ -12,7 +12,8 @@ pub use best::Best;
 pub use fault::Fault;
 pub use key_lists::{copied, number_keys, shuffled, text_key, text_keys};
 pub use questions::{
-    Below, Constant, Question, Value, count, exists, filter, fold_sum, map_values,
+    Below, Coarser, Constant, Question, Value, count, exists, filter, fold_sum, map_pairs,
+    map_values,
 };
 pub use times::{Spread, Times};
 pub use words::{MOST_PAIRS_OF_A_BENCHMARK, number, words_of};

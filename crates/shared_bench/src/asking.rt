@@ -1,7 +1,9 @@
 //! The time that a crew takes for each question.
 
 use crate::maps::Map;
-use bench_kit::{Fault, Question, Times, count, exists, filter, fold_sum, map_values};
+use bench_kit::{
+    Coarser, Fault, Question, Times, count, exists, filter, fold_sum, map_pairs, map_values,
+};
 use combiner::Bulk;
 use std::rt::Runtime;
 use std::sync::Wait;
@@ -25,7 +27,8 @@ pub fn ask_all<R: Runtime + AllocGlobal + Threads + Wait + Sync>(
     ask_one(rt, workers, "crew_exists_absent", &view, &exists(0))?;
     ask_one(rt, workers, "crew_fold_sum", &view, &fold_sum())?;
     ask_one(rt, workers, "crew_filter", &view, &filter(half))?;
-    ask_one(rt, workers, "crew_map_values", &view, &map_values(1))
+    ask_one(rt, workers, "crew_map_values", &view, &map_values(1))?;
+    ask_one(rt, workers, "crew_map_pairs", &view, &map_pairs(rt.alloc()))
 }
 
 /// Asks one question of the view. An answer is dropped once its time is counted.
@@ -34,9 +37,9 @@ fn ask_one<R: Runtime + AllocGlobal + Threads + Wait + Sync>(
     workers: u32,
     name: &str,
     view: &View<ByteText, i64>,
-    question: &Question<ByteText>,
+    question: &Question<ByteText, Coarser>,
 ) -> Result<(), Fault>
-    requires { ⟦<Question<ByteText> as Bulk<ByteText, i64>>⟧.ready question.now }
+    requires { ⟦<Question<ByteText, Coarser> as Bulk<ByteText, i64>>⟧.ready question.now }
 {
     let mut times = Times::new(rt.alloc());
     let mut checksum = 0;
@@ -59,10 +62,10 @@ type Reply = (Answer<ByteText, i64, i128>, Option<Version<ByteText, i64>>);
 fn ask<R: Threads + Wait + Sync>(
     rt: &R,
     view: &View<ByteText, i64>,
-    question: &Question<ByteText>,
+    question: &Question<ByteText, Coarser>,
     workers: u32,
 ) -> Result<Reply, Fault>
-    requires { ⟦<Question<ByteText> as Bulk<ByteText, i64>>⟧.ready question.now }
+    requires { ⟦<Question<ByteText, Coarser> as Bulk<ByteText, i64>>⟧.ready question.now }
 {
     if workers == 0 {
         Ok(view.query(question)?)
@@ -78,6 +81,7 @@ fn told(reply: &Reply) -> i128 {
         Answer::Truth(truth) => i128::from(*truth),
         Answer::Found(found) => i128::from(found.is_some()),
         Answer::Made(count) => i128::from(*count),
+        Answer::Images(map) => i128::from(map.len()),
         Answer::Item(item) => *item,
     }
 }

@@ -1,7 +1,7 @@
 //! The time that a put takes, alone and while a crew counts the map.
 
 use crate::maps::Map;
-use bench_kit::{Fault, Spread, Times, count, text_key};
+use bench_kit::{Fault, Question, Spread, Times, count, text_key};
 use rand_core::utils::NextWord;
 use rand_pcg::Pcg32;
 use std::rt::Runtime;
@@ -10,7 +10,7 @@ use std::sync::atomic::{AtomicBool, Ordering};
 use std::thread;
 use std::thread::Threads;
 use std::time::{Clock, Instant};
-use trie_map::Crew;
+use trie_map::{ByteText, Crew, NoImages};
 
 /// How many puts are timed.
 const PUTS: u32 = 500_000;
@@ -99,7 +99,7 @@ fn count_until<R: Threads + Wait + Sync>(
     map: &Map,
     pairs: u32,
 ) -> Result<(), Fault> {
-    let question = count(i64::from(pairs / 2));
+    let question: Question<ByteText, NoImages> = count(i64::from(pairs / 2));
     for _ in rt.forever() {
         if over.load(Ordering::SeqCst) {
             break;

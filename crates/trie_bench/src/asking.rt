@@ -1,7 +1,7 @@
 //! Questions about all pairs, one after another.
 
 use bench_kit::{Best, Fault, Question, count, exists, filter, fold_sum, map_values};
-use bulk_ops::{Part, work};
+use bulk_ops::{NoImages, Part, work};
 use combiner::Bulk;
 use hash_path::PathKey;
 use keys::ByteText;
@@ -31,9 +31,9 @@ pub fn ask_one<K: PathKey + Drop, R: Runtime + AllocGlobal>(
     rounds: u32,
     name: &str,
     view: &View<K, i64>,
-    question: &Question<K>,
+    question: &Question<K, NoImages>,
 ) -> Result<(), Fault>
-    requires { ⟦<Question<K> as Bulk<K, i64>>⟧.ready question.now }
+    requires { ⟦<Question<K, NoImages> as Bulk<K, i64>>⟧.ready question.now }
 {
     let mut best = Best::new();
     let mut checksum = 0;
@@ -50,9 +50,9 @@ pub fn ask_one<K: PathKey + Drop, R: Runtime + AllocGlobal>(
 fn ask<K: PathKey + Drop>(
     alloc: Global,
     view: &View<K, i64>,
-    question: &Question<K>,
+    question: &Question<K, NoImages>,
 ) -> Result<Part<K, i64, i128>, Fault>
-    requires { ⟦<Question<K> as Bulk<K, i64>>⟧.ready question.now }
+    requires { ⟦<Question<K, NoImages> as Bulk<K, i64>>⟧.ready question.now }
 {
     Ok(work(alloc, &whole(alloc, view.try_clone()?), question)?)
 }
@@ -64,6 +64,7 @@ fn told<K: PathKey + Drop>(answer: Part<K, i64, i128>) -> i128 {
         Part::Truth(truth) => i128::from(truth),
         Part::Found(found) => i128::from(found.is_some()),
         Part::Made(map) => i128::from(map.len()),
+        Part::Images(_, view) => i128::from(view.len()),
         Part::Item(item) => item,
     }
 }
