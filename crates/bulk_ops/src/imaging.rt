@@ -5,7 +5,6 @@
 ghost use Rattle.std.specs.Prelude.{◌≡◌, ◌≤◌, ◌<◌, ◌+◌, [], IfOk, OnOk, length};
 ghost use Rattle.bulk_ops.specs.Answers.{IsImage};
 ghost use Rattle.bulk_ops.specs.Meanings.{MeansImages};
-ghost use Rattle.trie_shape.specs.Order.{walked};
 ghost use Rattle.trie_shape.specs.Roots.{IsRoot, map_of};
 ghost use Rattle.trie_shape.specs.View.{tree};
 ghost use Rattle.versions.specs.Map.{IsMap, union, with_pair};
@@ -16,13 +15,10 @@ use crate::part::no_pairs;
 use crate::stored::StoredPairs;
 use combiner::merge;
 use hash_path::PathKey;
-use iter::BunchedPairs;
+use iter::bunches_of_root;
 use std::alloc::Global;
 use std::sync::Arc;
-use trie_node::{
-    Look, NoMemory, Node, Stamp, bitmap_counts_children, branch_is_its_children, look, root_is_map,
-    root_walks_in_order, trie_follows_digits, walk_lists_map,
-};
+use trie_node::{NoMemory, Node, Stamp, root_is_map, walk_lists_map};
 use versions::{MOST_PAIRS, Refusal, Version, View};
 
 /// A map, and a view of it.
@@ -58,7 +54,7 @@ pub(crate) fn images_of<K: PathKey + Drop, V: Drop, P: ImageFn<K, V>>(
     root_is_map::<K, V>();
     walk_lists_map::<K, V>();
     let mut map = no_pairs(alloc)?;
-    for (key, value) in pairs_of_root(alloc, root) {
+    for (key, value) in bunches_of_root(alloc, root) {
         let (image, made) = change.shared_at(alloc, key, value)?;
         put(alloc, &mut map, image, made)?;
     }
@@ -141,20 +137,5 @@ fn put<K: PathKey + Drop, V: Drop>(
         Ok(_) => Ok(()),
         Err(Refusal::NoMemory) => Err(NoMemory),
         Err(_) => unreachable!(),
-    }
-}
-
-// A walk over all pairs of a root.
-fn pairs_of_root<K: PathKey, V>(alloc: Global, root: &Node<K, V>) -> BunchedPairs<'_, K, V>
-    requires { IsRoot K.cmp K.path_of (tree root.now) }
-    ensures { result ≡ walked K.cmp K.path_of (map_of K.cmp (tree root.now)) }
-{
-    bitmap_counts_children::<K, V>();
-    branch_is_its_children::<K, V>();
-    root_walks_in_order::<K, V>();
-    trie_follows_digits::<K, V>();
-    match look(root) {
-        Look::Branch(bitmap) => BunchedPairs::below(alloc, root, 0, 0, bitmap.count_ones()),
-        Look::Pairs(_) => unreachable!(),
     }
 }

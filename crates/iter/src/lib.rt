@@ -15,5 +15,5 @@ mod walk;
 pub use bunched::BunchedPairs;
 pub use interval::Interval;
 pub use laws::{intervals_tile, parts_follow_intervals};
-pub use start::{pairs, pairs_of};
+pub use start::{bunches_of_root, pairs, pairs_of, walk_of_root};
 pub use walk::Pairs;

@@ -7,6 +7,7 @@ ghost use Rattle.trie_shape.specs.Roots.{IsRoot, map_of};
 ghost use Rattle.trie_shape.specs.Tree.{Tree};
 ghost use Rattle.trie_shape.specs.View.{tree};
 
+use crate::bunched::BunchedPairs;
 use crate::walk::Pairs;
 use hash_path::PathKey;
 use std::alloc::Global;
@@ -35,8 +36,8 @@ pub fn pairs_of<K: PathKey + Drop, V: Drop>(
     Ok(walk_of_root(alloc, version.root()))
 }
 
-/// A walk over all pairs of a root, which enters all its nodes.
-fn walk_of_root<K: PathKey, V>(alloc: Global, root: &Node<K, V>) -> Pairs<'_, K, V>
+/// A walk over all pairs of a root, which enters all its nodes. It is never refused.
+pub fn walk_of_root<K: PathKey, V>(alloc: Global, root: &Node<K, V>) -> Pairs<'_, K, V>
     requires root { IsRoot K.cmp K.path_of (tree root.now) }
     ensures rest { result.rest ≡ walked K.cmp K.path_of (map_of K.cmp (tree root.now)) }
     ensures nodes { (t : Tree K V) → IsRoot K.cmp K.path_of t → map_of K.cmp t ≡ map_of K.cmp (tree root.now) → result.nodes ≡ node_count t }
@@ -48,6 +49,21 @@ fn walk_of_root<K: PathKey, V>(alloc: Global, root: &Node<K, V>) -> Pairs<'_, K,
     trie_follows_digits::<K, V>();
     match look(root) {
         Look::Branch(bitmap) => { Pairs::below(alloc, root, 0, 0, bitmap.count_ones(), size(root)) }
+        Look::Pairs(_) => unreachable!(),
+    }
+}
+
+/// The same walk, which takes its pairs from the trie in bunches: for calls that mostly look at all of them.
+pub fn bunches_of_root<K: PathKey, V>(alloc: Global, root: &Node<K, V>) -> BunchedPairs<'_, K, V>
+    requires { IsRoot K.cmp K.path_of (tree root.now) }
+    ensures { result ≡ walked K.cmp K.path_of (map_of K.cmp (tree root.now)) }
+{
+    bitmap_counts_children::<K, V>();
+    branch_is_its_children::<K, V>();
+    root_walks_in_order::<K, V>();
+    trie_follows_digits::<K, V>();
+    match look(root) {
+        Look::Branch(bitmap) => BunchedPairs::below(alloc, root, 0, 0, bitmap.count_ones()),
         Look::Pairs(_) => unreachable!(),
     }
 }

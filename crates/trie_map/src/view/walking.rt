@@ -1,19 +1,12 @@
 //! Walks over a view that are never refused.
 ghost use Rattle.std.specs.Prelude.{◌≡◌, All, IsPermutation};
 ghost use Rattle.trie_shape.specs.Order.{walked};
-ghost use Rattle.trie_shape.specs.Roots.{IsRoot, map_of};
-ghost use Rattle.trie_shape.specs.View.{tree};
 
 use super::View;
 use hash_path::PathKey;
-use iter::{BunchedPairs, Pairs};
-use std::alloc::Global;
+use iter::{BunchedPairs, Pairs, bunches_of_root, walk_of_root};
 use std::sync::Arc;
 use stripes::Keeps;
-use trie_node::{
-    Look, Node, bitmap_counts_children, branch_is_its_children, look, root_walks_in_order, size,
-    trie_follows_digits,
-};
 
 impl<K: PathKey + Drop, V: Drop, P: Keeps<K, V>> View<K, V, P> {
     /// A walk over all pairs, as `pairs` gives it. It is never refused, so `for (key, value) in &view` walks it too.
@@ -49,36 +42,5 @@ impl<'a, K: PathKey + Drop, V: Drop, P: Keeps<K, V>> IntoIterator for &'a View<K
 
     fn into_iter(self) -> Pairs<'a, K, V> {
         self.iter()
-    }
-}
-
-// A walk over all pairs of a root. `iter::pairs` makes the same one, but its answer may be a refusal by its contract,
-// for which an `IntoIterator` has no place.
-fn walk_of_root<K: PathKey, V>(alloc: Global, root: &Node<K, V>) -> Pairs<'_, K, V>
-    requires { IsRoot K.cmp K.path_of (tree root.now) }
-    ensures { result.rest ≡ walked K.cmp K.path_of (map_of K.cmp (tree root.now)) }
-{
-    bitmap_counts_children::<K, V>();
-    branch_is_its_children::<K, V>();
-    root_walks_in_order::<K, V>();
-    trie_follows_digits::<K, V>();
-    match look(root) {
-        Look::Branch(bitmap) => { Pairs::below(alloc, root, 0, 0, bitmap.count_ones(), size(root)) }
-        Look::Pairs(_) => unreachable!(),
-    }
-}
-
-// The same walk in bunches.
-fn bunches_of_root<K: PathKey, V>(alloc: Global, root: &Node<K, V>) -> BunchedPairs<'_, K, V>
-    requires { IsRoot K.cmp K.path_of (tree root.now) }
-    ensures { result ≡ walked K.cmp K.path_of (map_of K.cmp (tree root.now)) }
-{
-    bitmap_counts_children::<K, V>();
-    branch_is_its_children::<K, V>();
-    root_walks_in_order::<K, V>();
-    trie_follows_digits::<K, V>();
-    match look(root) {
-        Look::Branch(bitmap) => BunchedPairs::below(alloc, root, 0, 0, bitmap.count_ones()),
-        Look::Pairs(_) => unreachable!(),
     }
 }
