@@ -1,13 +1,14 @@
 //! Random maps of few path words, each beside its rows.
 
 use crate::plain::{Row, position_of};
-use std::alloc::Global;
+use std::alloc::{AllocError, Global};
 use std::collections::BTreeMap;
+use std::panic::Expect;
+use std::process::Abort;
 use std::sync::Arc;
-use std::test::Fail;
 use test_keys::{ChosenKey, Random};
 use trie_node::Stamp;
-use versions::Version;
+use versions::{Version, View};
 
 /// A map of the tests.
 pub type Map = Version<ChosenKey, i64>;
@@ -35,23 +36,66 @@ const WORDS: [u64; 16] = [
     0xaf63_de4c_8601_eff2,
 ];
 
+// The values of a map by the positions and numbers of its keys.
+type Sorted = BTreeMap<(u128, u32), i64>;
+
 /// A map of up to `MOST_KEYS` keys, and its rows in the order of a walk.
-pub fn random_map(alloc: Global, random: &mut Random) -> Result<(Map, Vec<Row>), Fail> {
-    let mut map = Version::empty(alloc, u64::from(MOST_KEYS), Stamp(1))?;
+pub fn random_map(rt: &impl Abort, alloc: Global, random: &mut Random) -> (Map, Vec<Row>) {
+    let mut map = empty(rt, alloc);
     let mut sorted = BTreeMap::new(alloc);
     let words = random.next(16).saturating_add(1);
     for value in 0..i64::from(random.next(MOST_KEYS + 1)) {
         let path = WORDS[random.next(words) as usize % 16];
         let id = random.next(MOST_KEYS);
-        let key = Arc::new(alloc, ChosenKey { path, id })?;
-        map.put(alloc, key, Arc::new(alloc, value)?)?;
-        sorted.insert((position_of(path), id), value)?;
+        put(rt, alloc, &mut map, ChosenKey { path, id }, value);
+        insert(rt, &mut sorted, (position_of(path), id), value);
     }
-    Ok((map, rows_of(alloc, &sorted)?))
+    (map, listed(rt, alloc, &sorted))
 }
 
-// The rows of a map from positions and numbers of keys.
-fn rows_of(alloc: Global, sorted: &BTreeMap<(u128, u32), i64>) -> Result<Vec<Row>, Fail> {
+/// A map of a key for each of these path words, at most 2,000, and its rows in the order of a walk. Keys are numbered in
+/// their order, from 0, and each has its number as its value.
+pub fn map_of(rt: &impl Abort, alloc: Global, paths: &[u64]) -> (Map, Vec<Row>) {
+    let mut map = empty(rt, alloc);
+    let mut sorted = BTreeMap::new(alloc);
+    for (path, id) in paths.iter().zip(0..u32::MAX) {
+        let value = i64::from(id);
+        put(rt, alloc, &mut map, ChosenKey { path: *path, id }, value);
+        insert(rt, &mut sorted, (position_of(*path), id), value);
+    }
+    (map, listed(rt, alloc, &sorted))
+}
+
+/// The empty map, which has room for 2,000 keys.
+pub fn empty(rt: &impl Abort, alloc: Global) -> Map {
+    Version::empty(alloc, 2_000, Stamp(1)).expect(rt, "no map")
+}
+
+/// Puts the value at the key.
+pub fn put(rt: &impl Abort, alloc: Global, map: &mut Map, key: ChosenKey, value: i64) {
+    let key = Arc::new(alloc, key).expect(rt, "no key");
+    let value = Arc::new(alloc, value).expect(rt, "no value");
+    map.put(alloc, key, value).expect(rt, "not put");
+}
+
+/// A view of the map.
+pub fn view_of(rt: &impl Abort, map: &Map) -> View<ChosenKey, i64> {
+    map.view().expect(rt, "no view")
+}
+
+// Maps the place to the value.
+fn insert(rt: &impl Abort, sorted: &mut Sorted, at: (u128, u32), value: i64) {
+    let put: Result<_, _> = sorted.insert(at, value);
+    put.expect(rt, "no room");
+}
+
+// The rows of a map, where there is memory.
+fn listed(rt: &impl Abort, alloc: Global, sorted: &Sorted) -> Vec<Row> {
+    rows_of(alloc, sorted).expect(rt, "no list")
+}
+
+// The rows of a map.
+fn rows_of(alloc: Global, sorted: &Sorted) -> Result<Vec<Row>, AllocError> {
     let mut rows = Vec::new(alloc);
     for (at, value) in sorted.iter() {
         rows.push(Row {
@@ -61,18 +105,4 @@ fn rows_of(alloc: Global, sorted: &BTreeMap<(u128, u32), i64>) -> Result<Vec<Row
         })?;
     }
     Ok(rows)
-}
-
-/// A map of a key for each of these path words, at most 2,000, numbered in their order, and its rows in the order of a
-/// walk.
-pub fn map_of(alloc: Global, paths: &[u64]) -> Result<(Map, Vec<Row>), Fail> {
-    let mut map = Version::empty(alloc, 2_000, Stamp(1))?;
-    let mut sorted = BTreeMap::new(alloc);
-    for (path, id) in paths.iter().zip(0..u32::MAX) {
-        let value = i64::from(id);
-        let key = Arc::new(alloc, ChosenKey { path: *path, id })?;
-        map.put(alloc, key, Arc::new(alloc, value)?)?;
-        sorted.insert((position_of(*path), id), value)?;
-    }
-    Ok((map, rows_of(alloc, &sorted)?))
 }

@@ -1,6 +1,8 @@
 //! A map as a plain list of rows in the order of a walk, and where such a list is cut.
 
 use std::alloc::{AllocError, Global};
+use std::panic::Expect;
+use std::process::Abort;
 
 /// A pair by the position of its key, the key's number and its value.
 #[derive(Clone, Copy, Debug, PartialEq, Eq)]
@@ -41,12 +43,12 @@ pub fn position_of(word: u64) -> u128 {
 }
 
 /// The rows from one position on and below another.
-pub fn rows_between(
-    alloc: Global,
-    rows: &[Row],
-    lo: u128,
-    hi: u128,
-) -> Result<Vec<Row>, AllocError> {
+pub fn rows_between(rt: &impl Abort, alloc: Global, rows: &[Row], lo: u128, hi: u128) -> Vec<Row> {
+    between(alloc, rows, lo, hi).expect(rt, "no list")
+}
+
+// The same, where there is memory.
+fn between(alloc: Global, rows: &[Row], lo: u128, hi: u128) -> Result<Vec<Row>, AllocError> {
     let mut between = Vec::new(alloc);
     for row in rows {
         if lo <= row.position && row.position < hi {
@@ -58,20 +60,20 @@ pub fn rows_between(
 
 /// Where rows are cut: nowhere if they are no more than `grain` or share one position; else at the middle one of the
 /// first digits that differ, after the digits that all share and with zeros behind.
-pub fn cut_point(alloc: Global, rows: &[Row], grain: u64) -> Result<Option<u128>, AllocError> {
+pub fn cut_point(rt: &impl Abort, alloc: Global, rows: &[Row], grain: u64) -> Option<u128> {
     if rows.len() as u64 <= grain {
-        return Ok(None);
+        return None;
     }
     for width in WIDTHS {
-        let starts = starts_of(alloc, rows, width)?;
+        let starts = starts_of(alloc, rows, width).expect(rt, "no list");
         if starts.len() > 1 {
-            return Ok(starts.as_slice().get(starts.len() / 2).copied());
+            return starts.as_slice().get(starts.len() / 2).copied();
         }
     }
-    Ok(None)
+    None
 }
 
-/// The multiples of a width that have rows before the next multiple, each once, in rising order.
+// The multiples of a width that have rows before the next multiple, each once, in rising order.
 fn starts_of(alloc: Global, rows: &[Row], width: u128) -> Result<Vec<u128>, AllocError> {
     let mut starts = Vec::new(alloc);
     let mut last = None;

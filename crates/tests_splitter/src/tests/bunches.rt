@@ -1,13 +1,13 @@
 //! Walks that take their pairs from the trie in bunches.
 
 use super::row_of;
-use crate::maps::{Map, map_of, random_map};
+use crate::maps::{Map, map_of, random_map, view_of};
 use crate::plain::{Row, rows_between};
 use iter::BunchedPairs;
 use splitter::{Cut, Piece, cut, whole};
 use std::alloc::{AllocError, Global};
+use std::panic::Expect;
 use std::process::Abort;
-use std::test::Fail;
 use test_keys::{ChosenKey, Random, take_all};
 
 // A walk of the tests.
@@ -26,27 +26,25 @@ fn assert_bunched(rt: &impl Abort, walk: &mut Bunched<'_>, rows: &[Row]) {
 }
 
 // The map has these rows, and each half of it has its rows of them.
-fn assert_halves(rt: &impl Abort, alloc: Global, map: &mut Map, rows: &[Row]) -> Result<(), Fail> {
-    let piece = whole(alloc, map.view()?);
+fn assert_halves(rt: &impl Abort, alloc: Global, map: &Map, rows: &[Row]) {
+    let piece = whole(alloc, view_of(rt, map));
     assert_bunched(rt, &mut piece.bunched_pairs(), rows);
     if let Ok(Cut::Two(lower, upper)) = cut(piece, 1) {
         for half in [&lower, &upper] {
-            let own = rows_between(alloc, rows, half.lo(), half.hi())?;
+            let own = rows_between(rt, alloc, rows, half.lo(), half.hi());
             assert_bunched(rt, &mut half.bunched_pairs(), &own);
         }
     }
-    Ok(())
 }
 
 #[test]
-fn bunches_list_random_maps_and_their_halves(rt: HostRuntime) -> Result<(), Fail> {
+fn bunches_list_random_maps_and_their_halves(rt: HostRuntime) {
     let alloc = rt.alloc();
     let mut random = Random(15);
     for _ in 0..MAPS {
-        let (mut map, rows) = random_map(alloc, &mut random)?;
-        assert_halves(&rt, alloc, &mut map, &rows)?;
+        let (map, rows) = random_map(&rt, alloc, &mut random);
+        assert_halves(&rt, alloc, &map, &rows);
     }
-    Ok(())
 }
 
 // This path word, so many times.
@@ -55,6 +53,14 @@ fn same(alloc: Global, word: u64, count: usize) -> Result<Vec<u64>, AllocError> 
     for _ in 0..count {
         words.push(word)?;
     }
+    Ok(words)
+}
+
+// One path word so many times, beside one that has its first digit and one that has not.
+fn beside_bucket(alloc: Global, count: usize) -> Result<Vec<u64>, AllocError> {
+    let mut words = same(alloc, 7, count)?;
+    words.push(39)?;
+    words.push(8)?;
     Ok(words)
 }
 
@@ -69,21 +75,26 @@ fn near(alloc: Global, count: u64) -> Result<Vec<u64>, AllocError> {
 
 // A bunch has 256 pairs at most: a subtrie of one more is entered, and a bucket of more is given in parts.
 #[test]
-fn bunches_end_where_they_are_full(rt: HostRuntime) -> Result<(), Fail> {
+fn bunches_end_where_they_are_full(rt: HostRuntime) {
     let alloc = rt.alloc();
     for count in [255, 256, 257, 1_100] {
-        let (mut map, rows) = map_of(alloc, &near(alloc, count)?)?;
+        let words = near(alloc, count).expect(&rt, "no words");
+        let (map, rows) = map_of(&rt, alloc, &words);
         assert_eq!(rt; rows.len() as u64, count);
-        assert_halves(&rt, alloc, &mut map, &rows)?;
+        assert_halves(&rt, alloc, &map, &rows);
     }
     for count in [255, 256, 257, 512, 513, 1_100] {
-        let mut words = same(alloc, 7, count)?;
-        words.push(39)?;
-        words.push(8)?;
-        let (mut map, rows) = map_of(alloc, &words)?;
-        assert_halves(&rt, alloc, &mut map, &rows)?;
+        let words = beside_bucket(alloc, count).expect(&rt, "no words");
+        let (map, rows) = map_of(&rt, alloc, &words);
+        assert_halves(&rt, alloc, &map, &rows);
     }
-    Ok(())
+}
+
+// So many near path words, and so many that are one.
+fn near_and_same(alloc: Global, count: usize) -> Result<Vec<u64>, AllocError> {
+    let mut words = near(alloc, count as u64)?;
+    words.extend_from_slice(&same(alloc, 7, count)?)?;
+    Ok(words)
 }
 
 // How many pairs the piece's walk gives, and its last.
@@ -98,15 +109,13 @@ fn end_of(piece: &Piece<ChosenKey, i64>) -> (usize, Option<Row>) {
 }
 
 #[test]
-fn bunches_make_no_request(rt: HostRuntime) -> Result<(), Fail> {
+fn bunches_make_no_request(rt: HostRuntime) {
     let alloc = rt.alloc();
-    let mut words = near(alloc, 700)?;
-    words.extend_from_slice(&same(alloc, 7, 700)?)?;
-    let (mut map, rows) = map_of(alloc, &words)?;
-    let piece = whole(alloc, map.view()?);
-    let taken = take_all(alloc)?;
+    let words = near_and_same(alloc, 700).expect(&rt, "no words");
+    let (map, rows) = map_of(&rt, alloc, &words);
+    let piece = whole(alloc, view_of(&rt, &map));
+    let taken = take_all(alloc).expect(&rt, "no list");
     let end = end_of(&piece);
     drop(taken);
     assert_eq!(rt; end, (rows.len(), rows.last().copied()));
-    Ok(())
 }

@@ -1,11 +1,11 @@
 //! Walks and cuts with every request for memory refused.
 
 use super::{Walk, row_of};
-use crate::maps::random_map;
+use crate::maps::{random_map, view_of};
 use crate::plain::{Row, cut_point};
 use iter::{pairs, pairs_of};
 use splitter::{Cut, Piece, cut, whole};
-use std::test::Fail;
+use std::panic::Expect;
 use test_keys::{ChosenKey, Random, take_all};
 use trie_node::NoMemory;
 
@@ -38,12 +38,12 @@ fn meeting(
 }
 
 #[test]
-fn walks_and_cuts_make_no_request(rt: HostRuntime) -> Result<(), Fail> {
+fn walks_and_cuts_make_no_request(rt: HostRuntime) {
     let alloc = rt.alloc();
-    let (map, rows) = random_map(alloc, &mut Random(14))?;
-    let (view, kept) = (map.view()?, map.view()?);
-    let point = cut_point(alloc, &rows, 1)?;
-    let taken = take_all(alloc)?;
+    let (map, rows) = random_map(&rt, alloc, &mut Random(14));
+    let (view, kept) = (view_of(&rt, &map), view_of(&rt, &map));
+    let point = cut_point(&rt, alloc, &rows, 1);
+    let taken = take_all(alloc).expect(&rt, "no list");
     let (of_view, of_map) = (end_of(pairs(alloc, &view)), end_of(pairs_of(alloc, &map)));
     let met = meeting(whole(alloc, kept), 1);
     drop(taken);
@@ -52,10 +52,8 @@ fn walks_and_cuts_make_no_request(rt: HostRuntime) -> Result<(), Fail> {
     assert_eq!(rt; of_view, all);
     assert_eq!(rt; of_map, all);
     let Some((at, Some((_, lower)), Some((last, upper)))) = met else {
-        assert!(rt; false, "a cut or a walk over a piece asks for memory");
-        return Ok(());
+        return assert!(rt; false, "a cut or a walk over a piece asks for memory");
     };
     assert_eq!(rt; (Some(at), last), (point, rows.last().copied()));
     assert_eq!(rt; lower.saturating_add(upper), rows.len() as u64);
-    Ok(())
 }

@@ -6,17 +6,15 @@ ghost use Rattle.trie_shape.specs.Shape.{Fits};
 ghost use Rattle.trie_shape.specs.View.{tree};
 
 use super::row_of;
-use crate::maps::{Map, map_of, random_map};
+use crate::maps::{Map, empty, map_of, put, random_map, view_of};
 use crate::plain::{Row, rows_between};
 use hash_path::WORD_DIGITS;
 use splitter::{Cut, Piece, cut, whole};
 use std::alloc::{AllocError, Global};
+use std::panic::Expect;
 use std::process::Abort;
-use std::sync::Arc;
-use std::test::Fail;
 use test_keys::{ChosenKey, Random, Shortage};
-use trie_node::{Look, NoMemory, Node, Stamp, bitmap_counts_children, child, look, size, stamp};
-use versions::Version;
+use trie_node::{Look, Node, Stamp, bitmap_counts_children, child, look, size, stamp};
 
 type Part = Piece<ChosenKey, i64>;
 
@@ -38,7 +36,7 @@ struct Outline {
 }
 
 // The nodes and pairs of a root.
-fn outline_of(alloc: Global, root: &Node<ChosenKey, i64>) -> Result<Outline, AllocError>
+fn outline_of(rt: &impl Abort, alloc: Global, root: &Node<ChosenKey, i64>) -> Outline
     requires { Fits (tree root.now) }
 {
     let mut seen = Outline {
@@ -46,8 +44,8 @@ fn outline_of(alloc: Global, root: &Node<ChosenKey, i64>) -> Result<Outline, All
         stamps: Vec::new(alloc),
         pairs: Vec::new(alloc),
     };
-    walk(root, 0, &mut seen)?;
-    Ok(seen)
+    walk(root, 0, &mut seen).expect(rt, "no outline");
+    seen
 }
 
 // Adds what stands below a node. No trie has a node at a depth above the number of digits.
@@ -78,12 +76,12 @@ fn walk(node: &Node<ChosenKey, i64>, depth: u32, seen: &mut Outline) -> Result<(
 }
 
 // A map of the pairs of the piece, put one after another.
-fn put_anew(alloc: Global, piece: &Part) -> Result<Map, Fail> {
-    let mut map = Version::empty(alloc, 2_000, Stamp(2))?;
+fn put_anew(rt: &impl Abort, alloc: Global, piece: &Part) -> Map {
+    let mut map = empty(rt, alloc);
     for (key, value) in piece.bunched_pairs() {
-        map.put(alloc, Arc::new(alloc, **key)?, Arc::new(alloc, **value)?)?;
+        put(rt, alloc, &mut map, **key, **value);
     }
-    Ok(map)
+    map
 }
 
 // How many nodes are new: they stand before all others, each below the one before, and none but the last has a second
@@ -106,114 +104,118 @@ fn new_nodes(rt: &impl Abort, seen: &Outline) -> usize {
 }
 
 // The piece's root is, node for node, that of a map into which its pairs were put. It shares all nodes but the first.
-fn assert_root(rt: &impl Abort, alloc: Global, piece: &Part, is_whole: bool) -> Result<(), Fail> {
-    let root = piece.root()?;
-    let seen = outline_of(alloc, &root)?;
-    let wanted = outline_of(alloc, put_anew(alloc, piece)?.root())?;
+fn assert_root(rt: &impl Abort, alloc: Global, piece: &Part, is_whole: bool) {
+    let root = piece.root().expect(rt, "no root");
+    let seen = outline_of(rt, alloc, &root);
+    let wanted = outline_of(rt, alloc, put_anew(rt, alloc, piece).root());
     assert_eq!(rt; size(&root), piece.len());
     assert_eq!(rt; seen.pairs.len() as u64, piece.len());
     assert!(rt; seen.lines.as_slice() == wanted.lines.as_slice());
     assert!(rt; seen.pairs.as_slice() == wanted.pairs.as_slice());
     assert_eq!(rt; new_nodes(rt, &seen) == 0, is_whole);
-    Ok(())
 }
 
 // The two pieces of a cut, if there are two.
-fn two_of(piece: Part, grain: u64) -> Result<Option<(Part, Part)>, NoMemory> {
-    match cut(piece, grain) {
-        Ok(Cut::Two(lower, upper)) => Ok(Some((lower, upper))),
-        Ok(Cut::One(_piece)) => Ok(None),
-        Err(_piece) => Err(NoMemory),
+fn two_of(rt: &impl Abort, piece: Part, grain: u64) -> Option<(Part, Part)> {
+    match cut(piece, grain).ok().expect(rt, "no cut") {
+        Cut::Two(lower, upper) => Some((lower, upper)),
+        Cut::One(_piece) => None,
     }
 }
 
+// Adds the piece.
+fn push(rt: &impl Abort, pieces: &mut Vec<Part>, piece: Part) {
+    pieces.push(piece).expect(rt, "no room");
+}
+
 // Each piece on the way to those that are not cut has its root.
-fn assert_roots(rt: &impl Abort, alloc: Global, map: &Map, grain: u64) -> Result<(), Fail> {
+fn assert_roots(rt: &impl Abort, alloc: Global, map: &Map, grain: u64) {
     let mut pieces = Vec::new(alloc);
-    pieces.push(whole(alloc, map.view()?))?;
+    push(rt, &mut pieces, whole(alloc, view_of(rt, map)));
     let mut is_whole = true;
     for _ in 0..MOST_PIECES {
         let Some(piece) = pieces.pop() else {
             break;
         };
-        assert_root(rt, alloc, &piece, is_whole)?;
+        assert_root(rt, alloc, &piece, is_whole);
         is_whole = false;
-        if let Some((lower, upper)) = two_of(piece, grain)? {
-            pieces.push(upper)?;
-            pieces.push(lower)?;
+        if let Some((lower, upper)) = two_of(rt, piece, grain) {
+            push(rt, &mut pieces, upper);
+            push(rt, &mut pieces, lower);
         }
     }
     assert!(rt; pieces.is_empty());
-    Ok(())
 }
 
 #[test]
-fn pieces_of_random_maps_have_roots(rt: HostRuntime) -> Result<(), Fail> {
+fn pieces_of_random_maps_have_roots(rt: HostRuntime) {
     let alloc = rt.alloc();
     let mut random = Random(16);
     for _ in 0..MAPS {
-        let (map, _) = random_map(alloc, &mut random)?;
+        let (map, _) = random_map(&rt, alloc, &mut random);
         for grain in [1, u64::from(random.next(60))] {
-            assert_roots(&rt, alloc, &map, grain)?;
+            assert_roots(&rt, alloc, &map, grain);
         }
     }
-    Ok(())
+}
+
+// Words that have any digits at each level.
+fn wide(alloc: Global) -> Result<Vec<u64>, AllocError> {
+    let mut words = Vec::new(alloc);
+    for n in 0u64..400 {
+        words.push(n.wrapping_mul(0x9e37_79b9_7f4a_7c15))?;
+    }
+    Ok(words)
+}
+
+// Words that have one of a few digits at each level; some are the same.
+fn deep(alloc: Global) -> Result<Vec<u64>, AllocError> {
+    let mut words = Vec::new(alloc);
+    for n in 0u64..400 {
+        let mixed = n.wrapping_mul(0x9e37_79b9_7f4a_7c15);
+        words.push((mixed >> 58 << 58) | (n % 3 << 20) | 5)?;
+    }
+    Ok(words)
 }
 
 // Words of many digits at all levels, of one digit at many, and of some that are shared.
 #[test]
-fn pieces_of_wide_and_deep_maps_have_roots(rt: HostRuntime) -> Result<(), Fail> {
+fn pieces_of_wide_and_deep_maps_have_roots(rt: HostRuntime) {
     let alloc = rt.alloc();
-    let mut wide = Vec::new(alloc);
-    let mut deep = Vec::new(alloc);
-    for n in 0u64..400 {
-        let mixed = n.wrapping_mul(0x9e37_79b9_7f4a_7c15);
-        wide.push(mixed)?;
-        deep.push((mixed >> 58 << 58) | (n % 3 << 20) | 5)?;
-    }
-    for words in [wide, deep] {
-        let (map, _) = map_of(alloc, &words)?;
+    for words in [wide(alloc), deep(alloc)] {
+        let words = words.expect(&rt, "no words");
+        let (map, _) = map_of(&rt, alloc, &words);
         for grain in [1, 20] {
-            assert_roots(&rt, alloc, &map, grain)?;
+            assert_roots(&rt, alloc, &map, grain);
         }
     }
-    Ok(())
 }
 
 // A map of no pair, and maps of one word, have no piece but the whole.
 #[test]
-fn maps_of_one_word_have_roots(rt: HostRuntime) -> Result<(), Fail> {
+fn maps_of_one_word_have_roots(rt: HostRuntime) {
     let alloc = rt.alloc();
     for words in [[].as_slice(), &[7], &[9, 9, 9]] {
-        let (map, _) = map_of(alloc, words)?;
-        assert_roots(&rt, alloc, &map, 0)?;
+        let (map, _) = map_of(&rt, alloc, words);
+        assert_roots(&rt, alloc, &map, 0);
     }
-    Ok(())
 }
 
 // The two pieces of a map of these words.
-fn halves_of(alloc: Global, words: &[u64]) -> Result<(Part, Part), Fail> {
-    let (map, _) = map_of(alloc, words)?;
-    let Some(halves) = two_of(whole(alloc, map.view()?), 1)? else {
-        return Err(NoMemory)?;
-    };
-    Ok(halves)
+fn halves_of(rt: &impl Abort, alloc: Global, words: &[u64]) -> (Part, Part) {
+    let (map, _) = map_of(rt, alloc, words);
+    two_of(rt, whole(alloc, view_of(rt, &map)), 1).expect(rt, "no two pieces")
 }
 
 // The piece's root has these nodes, with these stamps.
-fn assert_nodes(
-    rt: &impl Abort,
-    alloc: Global,
-    piece: &Part,
-    nodes: &[(Line, Stamp)],
-) -> Result<(), Fail> {
-    let seen = outline_of(alloc, &piece.root()?)?;
+fn assert_nodes(rt: &impl Abort, alloc: Global, piece: &Part, nodes: &[(Line, Stamp)]) {
+    let root = piece.root().expect(rt, "no root");
+    let seen = outline_of(rt, alloc, &root);
     assert_eq!(rt; seen.lines.len(), nodes.len());
     for (at, node) in nodes.iter().enumerate() {
         assert_eq!(rt; seen.lines.as_slice().get(at), Some(&node.0));
         assert_eq!(rt; seen.stamps.as_slice().get(at), Some(&node.1));
     }
-    Ok(())
 }
 
 const NEW: Stamp = Stamp::LOOSE;
@@ -228,11 +230,11 @@ fn third(digit: u64) -> u64 {
 // Of three leaves that stand below two digits, the lower piece has one, which hangs in the root itself. The upper has
 // two, below a branch of their own.
 #[test]
-fn a_lone_leaf_hangs_in_the_root(rt: HostRuntime) -> Result<(), Fail> {
+fn a_lone_leaf_hangs_in_the_root(rt: HostRuntime) {
     let alloc = rt.alloc();
-    let (lower, upper) = halves_of(alloc, &[third(3), third(4), third(31)])?;
+    let (lower, upper) = halves_of(&rt, alloc, &[third(3), third(4), third(31)]);
     let leaf = ((1, None, 1), OLD);
-    assert_nodes(&rt, alloc, &lower, &[((0, Some(1 << 1), 1), NEW), leaf])?;
+    assert_nodes(&rt, alloc, &lower, &[((0, Some(1 << 1), 1), NEW), leaf]);
     let below = ((3, None, 1), OLD);
     let chain = [
         ((0, Some(1 << 1), 2), NEW),
@@ -241,16 +243,15 @@ fn a_lone_leaf_hangs_in_the_root(rt: HostRuntime) -> Result<(), Fail> {
         below,
         below,
     ];
-    assert_nodes(&rt, alloc, &upper, &chain)?;
-    Ok(())
+    assert_nodes(&rt, alloc, &upper, &chain);
 }
 
 // A bucket hangs there too; a branch stays where it is.
 #[test]
-fn a_lone_branch_stays_below_its_digits(rt: HostRuntime) -> Result<(), Fail> {
+fn a_lone_branch_stays_below_its_digits(rt: HostRuntime) {
     let alloc = rt.alloc();
     let deeper = [third(3) | 6 << 15, third(3) | 7 << 15, third(4), third(4)];
-    let (lower, upper) = halves_of(alloc, &deeper)?;
+    let (lower, upper) = halves_of(&rt, alloc, &deeper);
     let below = ((4, None, 1), OLD);
     let chain = [
         ((0, Some(1 << 1), 2), NEW),
@@ -260,55 +261,47 @@ fn a_lone_branch_stays_below_its_digits(rt: HostRuntime) -> Result<(), Fail> {
         below,
         below,
     ];
-    assert_nodes(&rt, alloc, &lower, &chain)?;
+    assert_nodes(&rt, alloc, &lower, &chain);
     let bucket = ((1, None, 2), OLD);
-    assert_nodes(&rt, alloc, &upper, &[((0, Some(1 << 1), 2), NEW), bucket])?;
-    Ok(())
+    assert_nodes(&rt, alloc, &upper, &[((0, Some(1 << 1), 2), NEW), bucket]);
 }
 
 // How often want of memory refuses the piece its root, where each time there are 32 bytes more; none where it never
 // gets one.
-fn refusals(alloc: Global, piece: &Part) -> Result<Option<u32>, Fail> {
-    let mut shortage = Shortage::new(alloc)?;
+fn refusals(rt: &impl Abort, alloc: Global, piece: &Part) -> Option<u32> {
+    let mut shortage = Shortage::new(alloc).expect(rt, "no list");
     for refused in 0..400 {
-        match piece.root() {
-            Ok(root) => {
-                return Ok((size(&root) == piece.len()).then_some(refused));
-            }
-            Err(NoMemory) => {}
+        if let Ok(root) = piece.root() {
+            return (size(&root) == piece.len()).then_some(refused);
         }
-        shortage.give(alloc, 32)?;
+        shortage.give(alloc, 32).expect(rt, "not given");
     }
-    Ok(None)
+    None
 }
 
 // It has the rows of the map from its first position on and before its end.
-fn assert_has(rt: &impl Abort, alloc: Global, piece: &Part, rows: &[Row]) -> Result<(), Fail> {
-    let own = rows_between(alloc, rows, piece.lo(), piece.hi())?;
+fn assert_has(rt: &impl Abort, alloc: Global, piece: &Part, rows: &[Row]) {
+    let own = rows_between(rt, alloc, rows, piece.lo(), piece.hi());
     let mut walk = piece.bunched_pairs();
     assert_eq!(rt; piece.len(), own.len() as u64);
     for row in &own {
         assert_eq!(rt; row_of(walk.next()), Some(*row));
     }
     assert_eq!(rt; row_of(walk.next()), None);
-    Ok(())
 }
 
 // Each new branch asks for memory: one for the lower piece, three for the upper.
 #[test]
-fn want_of_memory_leaves_the_piece(rt: HostRuntime) -> Result<(), Fail> {
+fn want_of_memory_leaves_the_piece(rt: HostRuntime) {
     let alloc = rt.alloc();
-    let (map, rows) = map_of(alloc, &[third(3), third(4), third(31)])?;
-    let all = whole(alloc, map.view()?);
-    assert_eq!(rt; refusals(alloc, &all)?, Some(0));
-    let Some((lower, upper)) = two_of(all, 1)? else {
-        return Err(NoMemory)?;
-    };
+    let (map, rows) = map_of(&rt, alloc, &[third(3), third(4), third(31)]);
+    let all = whole(alloc, view_of(&rt, &map));
+    assert_eq!(rt; refusals(&rt, alloc, &all), Some(0));
+    let (lower, upper) = two_of(&rt, all, 1).expect(&rt, "no two pieces");
     for (piece, branches) in [(&lower, 1), (&upper, 3)] {
-        let refused = refusals(alloc, piece)?;
+        let refused = refusals(&rt, alloc, piece);
         assert!(rt; refused.is_some_and(|times| times >= branches));
-        assert_has(&rt, alloc, piece, &rows)?;
-        assert_root(&rt, alloc, piece, false)?;
+        assert_has(&rt, alloc, piece, &rows);
+        assert_root(&rt, alloc, piece, false);
     }
-    Ok(())
 }

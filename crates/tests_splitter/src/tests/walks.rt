@@ -1,25 +1,26 @@
 //! Walks over random maps.
 
 use super::{MAPS, Walk, assert_gives};
-use crate::maps::random_map;
+use crate::maps::{random_map, view_of};
 use crate::plain::{Row, nodes_between};
 use iter::{pairs, pairs_of};
 use std::alloc::{AllocError, Global};
+use std::panic::Expect;
 use std::process::Abort;
-use std::test::Fail;
 use test_keys::Random;
 
 #[test]
-fn walks_list_random_maps(rt: HostRuntime) -> Result<(), Fail> {
+fn walks_list_random_maps(rt: HostRuntime) {
     let alloc = rt.alloc();
     let mut random = Random(11);
     for _ in 0..MAPS {
-        let (map, rows) = random_map(alloc, &mut random)?;
-        let view = map.view()?;
-        assert_gives(&rt, &mut pairs(alloc, &view)?, &rows);
-        assert_gives(&rt, &mut pairs_of(alloc, &map)?, &rows);
+        let (map, rows) = random_map(&rt, alloc, &mut random);
+        let view = view_of(&rt, &map);
+        let mut of_view = pairs(alloc, &view).expect(&rt, "no walk");
+        assert_gives(&rt, &mut of_view, &rows);
+        let mut of_map = pairs_of(alloc, &map).expect(&rt, "no walk");
+        assert_gives(&rt, &mut of_map, &rows);
     }
-    Ok(())
 }
 
 // The positions of rows, each once, with the number of its rows.
@@ -57,13 +58,13 @@ fn assert_enters(rt: &impl Abort, walk: &mut Walk<'_>, positions: &[(u128, u32)]
 }
 
 #[test]
-fn walks_enter_the_nodes_of_random_maps(rt: HostRuntime) -> Result<(), Fail> {
+fn walks_enter_the_nodes_of_random_maps(rt: HostRuntime) {
     let alloc = rt.alloc();
     let mut random = Random(12);
     for _ in 0..MAPS {
-        let (map, rows) = random_map(alloc, &mut random)?;
-        let positions = positions_of(alloc, &rows)?;
-        assert_enters(&rt, &mut pairs_of(alloc, &map)?, &positions);
+        let (map, rows) = random_map(&rt, alloc, &mut random);
+        let positions = positions_of(alloc, &rows).expect(&rt, "no list");
+        let mut walk = pairs_of(alloc, &map).expect(&rt, "no walk");
+        assert_enters(&rt, &mut walk, &positions);
     }
-    Ok(())
 }
