@@ -12,16 +12,16 @@ use Rattle.versions.specs.declared.refusal.Refusal.TheVariants.{NoHandle}
 use Rattle.bulk_ops.specs.Answers as plain
 use Rattle.handles.specs.Machine.{open_handle, snapshot, drop_handle, on, view, freeze, finish, abandon}
 use Rattle.handles.specs.Machine.{worker_step, made, replied, viewed, frozen, finished, unfinished, refused, worked}
-use Rattle.script.specs.Keys.{IsKey}
-use Rattle.script.specs.Questions.{IsPairMapping, IsTest, test_text, mapping_text, pair_mapping_text, folding_text}
-use Rattle.script.specs.declared.passing.Test.{Test}
-use Rattle.script.specs.declared.passing.Test.TheVariants.{All, Even, Odd, Below, AtLeast, Equal, Prefix}
-use Rattle.script.specs.declared.mapping.Mapping.{Mapping}
-use Rattle.script.specs.declared.mapping.Mapping.TheVariants.{Set, Add, KeyLength}
-use Rattle.script.specs.declared.pair_mapping.PairMapping.{PairMapping}
-use Rattle.script.specs.declared.pair_mapping.PairMapping.TheVariants.{To, Initial, ByValue}
-use Rattle.script.specs.declared.folding.Folding.{Folding}
-use Rattle.script.specs.declared.folding.Folding.TheVariants.{Sum, Least, Greatest}
+use Rattle.arguments.specs.Keys.{IsKey}
+use Rattle.arguments.specs.Questions.{IsPairMapping, IsTest, test_text, mapping_text, pair_mapping_text, folding_text}
+use Rattle.arguments.specs.declared.passing.Test.{Test}
+use Rattle.arguments.specs.declared.passing.Test.TheVariants.{All, Even, Odd, Below, AtLeast, Equal, Prefix}
+use Rattle.arguments.specs.declared.mapping.Mapping.{Mapping}
+use Rattle.arguments.specs.declared.mapping.Mapping.TheVariants.{Set, Add, KeyLength}
+use Rattle.arguments.specs.declared.pair_mapping.PairMapping.{PairMapping}
+use Rattle.arguments.specs.declared.pair_mapping.PairMapping.TheVariants.{To, Initial, ByValue}
+use Rattle.arguments.specs.declared.folding.Folding.{Folding}
+use Rattle.arguments.specs.declared.folding.Folding.TheVariants.{Sum, Least, Greatest}
 use Rattle.script.specs.Statements.{Argument, handle_argument, key_argument, value_argument, test_argument, map_argument, pair_map_argument}
 use Rattle.script.specs.Statements.{fold_argument, spelling_of, IsInRange, AreInRange, phrase_of, words_of, IsLawful}
 use Rattle.script.specs.Replies.{pair_text, refusal_name}

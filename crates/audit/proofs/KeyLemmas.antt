@@ -14,12 +14,12 @@ use Rattle.bulk_ops.specs.Answers.{IsImage, with_values}
 use Rattle.handles.specs.Machine.{Step, Granted, held_by, live_after, open_handle, snapshot, drop_handle}
 use Rattle.handles.specs.Machine.{on, view, freeze, finish, abandon, worker_step, finished, refused}
 use Rattle.journal.specs.Journals.{is_filed}
-use Rattle.script.specs.Keys.{IsKey}
-use Rattle.script.specs.Questions.{IsMapping, IsPairMapping, image_of, new_value, passes}
-use Rattle.script.specs.declared.mapping.Mapping.{Mapping}
-use Rattle.script.specs.declared.mapping.Mapping.TheVariants.{Set, Add, KeyLength}
-use Rattle.script.specs.declared.pair_mapping.PairMapping.{PairMapping}
-use Rattle.script.specs.declared.pair_mapping.PairMapping.TheVariants.{To, Initial, ByValue}
+use Rattle.arguments.specs.Keys.{IsKey}
+use Rattle.arguments.specs.Questions.{IsMapping, IsPairMapping, image_of, new_value, passes}
+use Rattle.arguments.specs.declared.mapping.Mapping.{Mapping}
+use Rattle.arguments.specs.declared.mapping.Mapping.TheVariants.{Set, Add, KeyLength}
+use Rattle.arguments.specs.declared.pair_mapping.PairMapping.{PairMapping}
+use Rattle.arguments.specs.declared.pair_mapping.PairMapping.TheVariants.{To, Initial, ByValue}
 use Rattle.script.specs.Statements.{IsLawful}
 use Rattle.questions.specs.Program.{program, ProgramAnswer, ProgramState, ProgramRequest, ProgramOutcome, command_statement, question_statement}
 use Rattle.questions.specs.Queries.{ScriptQuestion, answers, count, exists, for_all, find, filtered, mapped, paired, fold}

@@ -9,9 +9,9 @@ use Rattle.bulk_ops.specs.Answers as plain
 use Rattle.bulk_ops.specs.Answers.{IsImage}
 use Rattle.handles.specs.Machine.{Step, Finishes, Job, live_after, finish, worker_step, finished, open_handle, snapshot, drop_handle, on, view, freeze, abandon}
 use Rattle.journal.specs.Journals.{is_filed}
-use Rattle.script.specs.Questions.{image_of}
+use Rattle.arguments.specs.Questions.{image_of}
 use Rattle.script.specs.Replies.{pair_text}
-use Rattle.script.specs.declared.pair_mapping.PairMapping.{PairMapping}
+use Rattle.arguments.specs.declared.pair_mapping.PairMapping.{PairMapping}
 use Rattle.questions.specs.Queries.{ScriptQuestion, answers, find, paired, target_of}
 use Rattle.questions.specs.Program.{program, ProgramAnswer, ProgramTold, ProgramState, ProgramRequest, ProgramOutcome}
 use Rattle.questions.proofs.OneStep.{Settled, settled, refused_in, granted_once, is_the_answer, one_step}

@@ -23,10 +23,10 @@ use Rattle.bulk_ops.specs.declared.part.Part.TheVariants as parts
 use Rattle.handles.specs.Machine.{finished}
 use Rattle.bulk_ops.specs.Queries.{answer_of}
 use Rattle.bulk_ops.specs.declared.part.Part.{Part}
-use Rattle.script.specs.Questions.{image_of, passes}
+use Rattle.arguments.specs.Questions.{image_of, passes}
 use Rattle.script.specs.Replies.{text_of}
-use Rattle.script.specs.declared.passing.Test.{Test}
-use Rattle.script.specs.declared.pair_mapping.PairMapping.{PairMapping}
+use Rattle.arguments.specs.declared.passing.Test.{Test}
+use Rattle.arguments.specs.declared.pair_mapping.PairMapping.{PairMapping}
 use Rattle.script.specs.declared.reply.LineReply.TheVariants as replies
 use Rattle.questions.specs.Folds.{Item}
 use Rattle.questions.specs.Queries.{ScriptQuestion, IsPartFor, answers, find, paired, target_of}

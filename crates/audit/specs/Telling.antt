@@ -5,10 +5,10 @@ use Rattle.keys.specs.Order.{bytes_cmp}
 use Rattle.bulk_ops.specs.Answers as plain
 use Rattle.bulk_ops.specs.Queries.{answer_of}
 use Rattle.bulk_ops.specs.declared.part.Part.{Part}
-use Rattle.script.specs.Questions.{passes}
+use Rattle.arguments.specs.Questions.{passes}
 use Rattle.handles.specs.Machine.{finished}
 use Rattle.script.specs.Replies.{text_of}
-use Rattle.script.specs.declared.passing.Test.{Test}
+use Rattle.arguments.specs.declared.passing.Test.{Test}
 use Rattle.script.specs.declared.reply.LineReply.TheVariants as replies
 use Rattle.questions.specs.Folds.{Item}
 use Rattle.questions.specs.Program.{ProgramAnswer}

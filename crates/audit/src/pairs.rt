@@ -3,10 +3,10 @@
 ghost use Rattle.std.specs.Prelude.{IfOk, List, MatchOption, ℕ};
 ghost use Rattle.audit.specs.Telling.{HasNoFront, IsFront, IsKeyTold, IsPairAt, NonePairAt, TellsNoPair};
 
+use arguments::Test;
 use bulk_ops::Part;
 use keys::ByteText;
 use questions::ScriptPart;
-use script::Test;
 use std::alloc::Global;
 use std::sync::Arc;
 use versions::{NoMemory, View};

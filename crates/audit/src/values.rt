@@ -5,9 +5,9 @@ ghost use Rattle.keys.specs.Order.{bytes_cmp};
 ghost use Rattle.versions.specs.Map.{with_pair};
 ghost use Rattle.audit.specs.Images.{AreValuesTold, HasNoValue, IsBehind, IsFromSpace, IsParted, IsReadInto, IsValueOf, LacksBehind};
 
+use arguments::{MapKey, value_of};
 use iter::pairs_of;
 use keys::ByteText;
-use script::{MapKey, value_of};
 use std::alloc::{AllocError, Global};
 use std::collections::BTreeMap;
 use std::sync::Arc;

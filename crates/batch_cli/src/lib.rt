@@ -17,6 +17,7 @@ mod merge;
 mod run;
 mod status;
 
+pub use arguments::{Folding, Key, MapKey, Mapping, Test};
 pub use client::ScriptClient;
 pub use command_line::{ArgFault, Options, options};
 pub use gate::{Free, LineGate};
@@ -26,9 +27,8 @@ pub use laws::{run_has_legal_text, script_has_one_output};
 pub use questions::ScriptQuery;
 pub use run::{Journal, RunFault, run_script};
 pub use script::{
-    CommandLine, Folding, Key, LineReply, Listing, MapKey, Mapping, Reason, Script, ScriptFault,
-    Statement, Test, parse_script, spelled_text_has_no_fault, text_has_one_fault,
-    text_has_one_script,
+    CommandLine, LineReply, Listing, Reason, Script, ScriptFault, Statement, parse_script,
+    spelled_text_has_no_fault, text_has_one_fault, text_has_one_script,
 };
 pub use status::execute;
 pub use task_pool::Crew;

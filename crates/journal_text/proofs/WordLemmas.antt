@@ -8,16 +8,16 @@ use Rattle.std.specs.List.{join_with_byte, list_all, slice_split}
 use Rattle.std.proofs.lemmas.Bool.Decides.{nat_tests}
 use Rattle.std.proofs.lemmas.Fmt.{decimal_is_IsNumeral}
 use Rattle.std.proofs.lemmas.Str.Parse.{digit_at}
-use Rattle.script.specs.Keys.{IsKey}
-use Rattle.script.specs.Questions.{IsTest, IsMapping, IsPairMapping, test_text, mapping_text, pair_mapping_text, folding_text}
-use Rattle.script.specs.declared.passing.Test.{Test}
-use Rattle.script.specs.declared.passing.Test.TheVariants.{All, Even, Odd, Below, AtLeast, Equal, Prefix}
-use Rattle.script.specs.declared.mapping.Mapping.{Mapping}
-use Rattle.script.specs.declared.mapping.Mapping.TheVariants.{Set, Add, KeyLength}
-use Rattle.script.specs.declared.pair_mapping.PairMapping.{PairMapping}
-use Rattle.script.specs.declared.pair_mapping.PairMapping.TheVariants.{To, Initial, ByValue}
-use Rattle.script.specs.declared.folding.Folding.{Folding}
-use Rattle.script.specs.declared.folding.Folding.TheVariants.{Sum, Least, Greatest}
+use Rattle.arguments.specs.Keys.{IsKey}
+use Rattle.arguments.specs.Questions.{IsTest, IsMapping, IsPairMapping, test_text, mapping_text, pair_mapping_text, folding_text}
+use Rattle.arguments.specs.declared.passing.Test.{Test}
+use Rattle.arguments.specs.declared.passing.Test.TheVariants.{All, Even, Odd, Below, AtLeast, Equal, Prefix}
+use Rattle.arguments.specs.declared.mapping.Mapping.{Mapping}
+use Rattle.arguments.specs.declared.mapping.Mapping.TheVariants.{Set, Add, KeyLength}
+use Rattle.arguments.specs.declared.pair_mapping.PairMapping.{PairMapping}
+use Rattle.arguments.specs.declared.pair_mapping.PairMapping.TheVariants.{To, Initial, ByValue}
+use Rattle.arguments.specs.declared.folding.Folding.{Folding}
+use Rattle.arguments.specs.declared.folding.Folding.TheVariants.{Sum, Least, Greatest}
 use Rattle.script.specs.Statements.{Argument, handle_argument, key_argument, value_argument, test_argument, map_argument, pair_map_argument, fold_argument, spelling_of, IsInRange, AreInRange, phrase_of, words_of, IsLawful}
 use Rattle.script.specs.declared.statement.Statement.{Statement}
 use Rattle.script.specs.declared.statement.Statement.TheVariants.{Open}

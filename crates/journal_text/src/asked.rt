@@ -7,9 +7,10 @@ ghost use Rattle.journal_text.specs.Calls.{IsLawfulRequest, call_text};
 ghost use Rattle.journal_text.specs.Hearing.{IsHeard, IsNoCall, IsUnheard, asks_call, asks_job};
 
 use crate::call::{ProgramAsked, push_call};
+use arguments::number_of;
 use journal::Asked;
 use questions::{Ask, ask_of};
-use script::{number_of, statement_in};
+use script::statement_in;
 use std::alloc::{AllocError, Global};
 use std::sync::Arc;
 use versions::NoMemory;

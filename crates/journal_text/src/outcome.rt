@@ -7,11 +7,12 @@ ghost use Rattle.script.specs.Replies.{text_of};
 ghost use Rattle.journal.specs.Answers.{outcome_told};
 ghost use Rattle.journal_text.specs.Calls.{outcome_text};
 
+use arguments::MapKey;
 use bulk_ops::Answer;
 use journal::Told;
 use keys::ByteText;
 use questions::{listing_of, reply_shown};
-use script::{LineReply, MapKey, push_reply};
+use script::{LineReply, push_reply};
 use std::alloc::Global;
 use std::io::Write;
 use std::sync::Arc;

@@ -9,8 +9,8 @@ use Rattle.versions.specs.Commands as commands
 use Rattle.handles.specs.Machine.{Step, Granted, Finishes, Job, job_at, live_after, refusal, is_entry, live_with, held_by, open_handle, snapshot, drop_handle, on, view, freeze, finish, abandon, made, replied, viewed, frozen, finished, unfinished, refused, worked}
 use Rattle.bulk_ops.specs.Answers as plain
 use Rattle.combiner.specs.Monoids.{folded}
-use Rattle.script.specs.Questions.{new_value, passes}
-use Rattle.script.specs.declared.pair_mapping.PairMapping.{PairMapping}
+use Rattle.arguments.specs.Questions.{new_value, passes}
+use Rattle.arguments.specs.declared.pair_mapping.PairMapping.{PairMapping}
 use Rattle.questions.specs.Folds.{Item, combined, item_of, item_of_none}
 use Rattle.questions.specs.Queries.{ScriptQuestion, count, exists, for_all, find, filtered, mapped, paired, fold, answers, target_of}
 use Rattle.questions.specs.Laws.{is_settled_at_once, FinishesLeaveOne, FinishesTellOne, HaveOneOutcome}

@@ -1,10 +1,8 @@
-pub mod NumberLemmas
 pub mod FieldLemmas
 pub mod LineLemmas
 pub mod ListingLemmas
 pub mod FaultLemmas
 pub mod VerbLemmas
-pub mod BehindLemmas
 pub mod QuestionLemmas
 pub mod WordLemmas
 pub mod OneFault

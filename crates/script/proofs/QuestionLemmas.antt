@@ -4,15 +4,15 @@ use Rattle.std.specs.Prelude.{ℤ, FitsSigned}
 use Rattle.std.specs.Int.{w64}
 use Rattle.std.specs.Fmt.{signed_decimal}
 use Rattle.std.proofs.lemmas.Fmt.{signed_decimal_injective}
-use Rattle.script.specs.Questions.{IsMapping, IsPairMapping, IsTest, folding_text, mapping_text, pair_mapping_text, test_text}
-use Rattle.script.specs.declared.passing.Test.{Test}
-use Rattle.script.specs.declared.passing.Test.TheVariants.{All, Even, Odd, Below, AtLeast, Equal, Prefix}
-use Rattle.script.specs.declared.mapping.Mapping.{Mapping}
-use Rattle.script.specs.declared.mapping.Mapping.TheVariants.{Set, Add, KeyLength}
-use Rattle.script.specs.declared.pair_mapping.PairMapping.{PairMapping}
-use Rattle.script.specs.declared.pair_mapping.PairMapping.TheVariants.{To, Initial, ByValue}
-use Rattle.script.specs.declared.folding.Folding.{Folding}
-use Rattle.script.specs.declared.folding.Folding.TheVariants.{Sum, Least, Greatest}
+use Rattle.arguments.specs.Questions.{IsMapping, IsPairMapping, IsTest, folding_text, mapping_text, pair_mapping_text, test_text}
+use Rattle.arguments.specs.declared.passing.Test.{Test}
+use Rattle.arguments.specs.declared.passing.Test.TheVariants.{All, Even, Odd, Below, AtLeast, Equal, Prefix}
+use Rattle.arguments.specs.declared.mapping.Mapping.{Mapping}
+use Rattle.arguments.specs.declared.mapping.Mapping.TheVariants.{Set, Add, KeyLength}
+use Rattle.arguments.specs.declared.pair_mapping.PairMapping.{PairMapping}
+use Rattle.arguments.specs.declared.pair_mapping.PairMapping.TheVariants.{To, Initial, ByValue}
+use Rattle.arguments.specs.declared.folding.Folding.{Folding}
+use Rattle.arguments.specs.declared.folding.Folding.TheVariants.{Sum, Least, Greatest}
 
 one_value : (m n : ℤ) → FitsSigned w64 m → FitsSigned w64 n → signed_decimal m ≡ signed_decimal n → m ≡ n
 one_value m n fm fn e = signed_decimal_injective m n fm.sfits fn.sfits e

@@ -1,7 +1,4 @@
-pub mod Keys
 pub mod Lines
-pub mod Numbers
-pub mod Questions
 pub mod Grammar
 pub mod Statements
 pub mod Faults

@@ -2,13 +2,13 @@
 use Rattle.std.specs.Prelude.{ℕ, ℤ, List, [], ◌∷◌, ◌<◌, ◌^◌, FitsSigned, codes, map}
 use Rattle.std.specs.Int.{w64}
 use Rattle.std.specs.Fmt.{decimal, signed_decimal}
-use Rattle.script.specs.Keys.{IsKey}
-use Rattle.script.specs.Questions.{IsMapping, IsPairMapping, IsTest, folding_text, mapping_text, pair_mapping_text, test_text}
+use Rattle.arguments.specs.Keys.{IsKey}
+use Rattle.arguments.specs.Questions.{IsMapping, IsPairMapping, IsTest, folding_text, mapping_text, pair_mapping_text, test_text}
 use Rattle.script.specs.Grammar.{Place, handle_place, key_place, value_place, test_place, map_place, pair_map_place, fold_place}
-use Rattle.script.specs.declared.passing.Test.{Test}
-use Rattle.script.specs.declared.mapping.Mapping.{Mapping}
-use Rattle.script.specs.declared.pair_mapping.PairMapping.{PairMapping}
-use Rattle.script.specs.declared.folding.Folding.{Folding}
+use Rattle.arguments.specs.declared.passing.Test.{Test}
+use Rattle.arguments.specs.declared.mapping.Mapping.{Mapping}
+use Rattle.arguments.specs.declared.pair_mapping.PairMapping.{PairMapping}
+use Rattle.arguments.specs.declared.folding.Folding.{Folding}
 use Rattle.script.specs.declared.statement.Statement.{Statement}
 use Rattle.script.specs.declared.statement.Statement.TheVariants.{Open, Snap, Drop, Get, Put, PutIfAbsent, Replace, ReplaceIf, Remove, RemoveIf, GetOrElse, Size, Clear, Pairs, Count, Exists, ForAll, Find, Filter, MapValues, MapPairs, Fold}
 use Rattle.script.specs.declared.statement.CommandLine.{CommandLine}

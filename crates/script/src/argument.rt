@@ -9,9 +9,11 @@ ghost use Rattle.script.specs.Faults.{Faulty, StopsBy, Suits, reason_at};
 
 use crate::fault::Reason;
 use crate::fields::Fields;
-use crate::key::Key;
-use crate::number::{number_of, value_of};
 use crate::stop::Stop;
+use arguments::{
+    Folding, Key, Mapping, PairMapping, Test, folding_of, mapping_of, number_of, pair_mapping_of,
+    test_of, value_of,
+};
 use std::alloc::Global;
 
 /// What one field says in its place.
@@ -91,6 +93,70 @@ impl Argument for i64 {
         match value_of(field) {
             Some(value) => Ok(value),
             None => Err(Stop::Fault(Reason::BadValue)),
+        }
+    }
+}
+
+impl Argument for Test {
+    ghost use Rattle.script.specs.Grammar.{test_place};
+    ghost use Rattle.script.specs.Statements.{test_argument};
+
+    ghost place = { test_place };
+
+    ghost argument = { test_argument };
+
+    fn read(alloc: Global, field: &[u8]) -> Result<Test, Stop> {
+        match test_of(alloc, field)? {
+            Some(test) => Ok(test),
+            None => Err(Stop::Fault(Reason::BadTest)),
+        }
+    }
+}
+
+impl Argument for Mapping {
+    ghost use Rattle.script.specs.Grammar.{map_place};
+    ghost use Rattle.script.specs.Statements.{map_argument};
+
+    ghost place = { map_place };
+
+    ghost argument = { map_argument };
+
+    fn read(_alloc: Global, field: &[u8]) -> Result<Mapping, Stop> {
+        match mapping_of(field) {
+            Some(mapping) => Ok(mapping),
+            None => Err(Stop::Fault(Reason::BadMap)),
+        }
+    }
+}
+
+impl Argument for PairMapping {
+    ghost use Rattle.script.specs.Grammar.{pair_map_place};
+    ghost use Rattle.script.specs.Statements.{pair_map_argument};
+
+    ghost place = { pair_map_place };
+
+    ghost argument = { pair_map_argument };
+
+    fn read(alloc: Global, field: &[u8]) -> Result<PairMapping, Stop> {
+        match pair_mapping_of(alloc, field)? {
+            Some(mapping) => Ok(mapping),
+            None => Err(Stop::Fault(Reason::BadMap)),
+        }
+    }
+}
+
+impl Argument for Folding {
+    ghost use Rattle.script.specs.Grammar.{fold_place};
+    ghost use Rattle.script.specs.Statements.{fold_argument};
+
+    ghost place = { fold_place };
+
+    ghost argument = { fold_argument };
+
+    fn read(_alloc: Global, field: &[u8]) -> Result<Folding, Stop> {
+        match folding_of(field) {
+            Some(folding) => Ok(folding),
+            None => Err(Stop::Fault(Reason::BadFold)),
         }
     }
 }

@@ -10,9 +10,9 @@ ghost use Rattle.script.specs.Faults.{StatementFault, CommandFault, StopsBy};
 use crate::argument::Arguments;
 use crate::fault::Reason;
 use crate::fields::Fields;
-use crate::number::number_of;
 use crate::statement::Statement;
 use crate::stop::Stop;
+use arguments::number_of;
 use std::alloc::Global;
 
 /// The client and the statement of a line that is not skipped.

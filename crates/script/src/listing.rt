@@ -5,7 +5,7 @@ ghost use Rattle.keys.specs.Order.{bytes_cmp};
 ghost use Rattle.script.specs.Replies.{pair_text};
 ghost use Rattle.versions.specs.Map.{with_pair};
 
-use crate::map_key::MapKey;
+use arguments::MapKey;
 use std::alloc::{AllocError, Global};
 use std::collections::BTreeMap;
 use std::io;

@@ -4,7 +4,7 @@ ghost use Rattle.std.specs.Prelude.{◌≡◌, ◌++◌, OnOk};
 ghost use Rattle.script.specs.Replies.{line_text, refusal_name, text_of};
 
 use crate::listing::Listing;
-use crate::map_key::MapKey;
+use arguments::MapKey;
 use std::io;
 use std::io::Write;
 use versions::Refusal;

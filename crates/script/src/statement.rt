@@ -1,10 +1,6 @@
 //! What a script says.
 
-use crate::folding::Folding;
-use crate::key::Key;
-use crate::mapping::Mapping;
-use crate::pair_mapping::PairMapping;
-use crate::passing::Test;
+use arguments::{Folding, Key, Mapping, PairMapping, Test};
 
 /// What a client asks of the table. Handles are numbers, whether a table has them or not.
 #[derive(Debug, Drop)]

@@ -1,6 +1,7 @@
 //! Scripts, keys and laws, each called once.
+use arguments::Key;
 use script::{
-    CommandLine, Key, Statement, parse_script, spelled_text_has_no_fault, statement_in,
+    CommandLine, Statement, parse_script, spelled_text_has_no_fault, statement_in,
     text_has_one_fault, text_has_one_script,
 };
 use std::alloc::Global;

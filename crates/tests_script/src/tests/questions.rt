@@ -1,5 +1,5 @@
 //! What tests, maps and pair maps say of pairs.
-use script::{Key, Mapping, PairMapping, Test};
+use arguments::{Key, Mapping, PairMapping, Test};
 use std::test::Fail;
 
 #[test]

@@ -1,6 +1,7 @@
 //! The text of replies.
+use arguments::MapKey;
 use keys::ByteText;
-use script::{LineReply, Listing, MapKey, push_line};
+use script::{LineReply, Listing, push_line};
 use std::alloc::{AllocError, Global};
 use std::sync::Arc;
 use std::test::Fail;

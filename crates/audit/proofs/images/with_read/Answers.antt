@@ -2,7 +2,7 @@ use Rattle.std.proofs.Common.{◌≡◌, ◌∙◌, refl, rules}
 use Rattle.hash_path.specs.Fnv.{fnv1a}
 use Rattle.keys.specs.Order.{bytes_cmp}
 use Rattle.trie_shape.specs.Order.{walked}
-use Rattle.script.specs.Questions.{image_of}
+use Rattle.arguments.specs.Questions.{image_of}
 use Rattle.audit.specs.Images.{IsPutIfRead}
 use Rattle.audit.proofs.ImageLemmas.{image_there, walk_begun, walk_more}
 use Rattle.audit.proofs.images.with_read.Goals as goal

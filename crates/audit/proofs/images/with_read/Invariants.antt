@@ -1,5 +1,5 @@
 use Rattle.std.proofs.Common.{◌≡◌}
-use Rattle.script.specs.Questions.{image_of}
+use Rattle.arguments.specs.Questions.{image_of}
 use Rattle.audit.proofs.ImageLemmas.{IsWalked}
 use Rattle.audit.proofs.images.with_read.Given as goal
 

@@ -1,4 +1,4 @@
-use Rattle.script.specs.Questions.{image_of}
+use Rattle.arguments.specs.Questions.{image_of}
 use Rattle.questions.proofs.closures.stored_pair_mapping.Goals as goal
 
 pub new-requires : goal.new-requires

@@ -1,9 +1,9 @@
 use Rattle.std.proofs.Common.{arith, ◌≡◌, subst, sym}
 use Rattle.std.specs.Prelude.{IsTrue}
 use Rattle.std.specs.Str.{IsUtf8}
-use Rattle.script.specs.Numbers.{StartsNumber}
-use Rattle.script.proofs.NumberLemmas.{decimal_starts, number_utf8, number_read}
-use Rattle.script.proofs.number.number_of.Goals as goal
+use Rattle.arguments.specs.Numbers.{StartsNumber}
+use Rattle.arguments.proofs.NumberLemmas.{decimal_starts, number_utf8, number_read}
+use Rattle.arguments.proofs.number.number_of.Goals as goal
 
 pub returns-then-not-starts_number : goal.returns-then-not-starts_number
 returns-then-not-starts_number c = λ n below is.

@@ -1,14 +1,11 @@
 //! Tests of pairs.
 
 ghost use Rattle.std.specs.Prelude.{◌≡◌, ◌≢◌, ◌++◌, codes, IfOk, MatchOption, OnOk};
-ghost use Rattle.script.specs.Questions.{IsTest, passes, test_text};
-ghost use Rattle.script.specs.declared.passing.Test.{Test};
+ghost use Rattle.arguments.specs.Questions.{IsTest, passes, test_text};
+ghost use Rattle.arguments.specs.declared.passing.Test.{Test};
 
-use crate::argument::Argument;
 use crate::behind::{key_behind, value_behind};
-use crate::fault::Reason;
 use crate::key::Key;
-use crate::stop::Stop;
 use std::alloc::{AllocError, Global};
 use std::io;
 use std::io::Write;
@@ -91,24 +88,12 @@ impl Test {
     }
 }
 
-impl Argument for Test {
-    ghost use Rattle.script.specs.Grammar.{test_place};
-    ghost use Rattle.script.specs.Statements.{test_argument};
-
-    ghost place = { test_place };
-
-    ghost argument = { test_argument };
-
-    fn read(alloc: Global, field: &[u8]) -> Result<Test, Stop> {
-        match test_of(alloc, field)? {
-            Some(test) => Ok(test),
-            None => Err(Stop::Fault(Reason::BadTest)),
-        }
-    }
-}
-
 /// The test that the field spells, if it spells one.
-fn test_of(alloc: Global, field: &[u8]) -> Result<Option<Test>, AllocError>
+///
+/// # Errors
+///
+/// Memory for its key was refused.
+pub fn test_of(alloc: Global, field: &[u8]) -> Result<Option<Test>, AllocError>
     ensures { IfOk result (λ test. MatchOption test ((t : Test) → IsTest t → field.now ≢ test_text t) (λ t. IsTest t × (field.now ≡ test_text t))) }
 {
     if let Some(test) = word_of(field) {

@@ -3,7 +3,7 @@
 ghost use Rattle.std.specs.Prelude.{◌≡◌, ◌≢◌, ◌++◌, ℕ, ℤ, List, IfOk, FitsSigned, MatchOption};
 ghost use Rattle.std.specs.Fmt.{signed_decimal};
 ghost use Rattle.std.specs.Int.{w64};
-ghost use Rattle.script.specs.Keys.{IsKey};
+ghost use Rattle.arguments.specs.Keys.{IsKey};
 
 use crate::key::Key;
 use crate::number::value_of;

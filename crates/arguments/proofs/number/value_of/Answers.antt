@@ -1,10 +1,10 @@
 use Rattle.std.proofs.Common.{◌≡◌, ◌⊎◌, inl, inr, subst, sym}
 use Rattle.std.specs.Prelude.{IsTrue}
 use Rattle.std.specs.Str.{IsUtf8}
-use Rattle.script.specs.Numbers.{StartsNumber, StartsNegative}
-use Rattle.script.proofs.NumberLemmas.{value_starts, value_utf8, value_read}
-use Rattle.script.proofs.number.value_of.Goals as goal
-use Rattle.script.proofs.number.value_of.Goals.{else-not-starts_number-via-then-not-starts_number+else-not-starts_negative, else-not-starts_number-via-else-not-starts_number}
+use Rattle.arguments.specs.Numbers.{StartsNumber, StartsNegative}
+use Rattle.arguments.proofs.NumberLemmas.{value_starts, value_utf8, value_read}
+use Rattle.arguments.proofs.number.value_of.Goals as goal
+use Rattle.arguments.proofs.number.value_of.Goals.{else-not-starts_number-via-then-not-starts_number+else-not-starts_negative, else-not-starts_number-via-else-not-starts_number}
 
 pub returns-then-not-starts_negative : goal.returns-then-not-starts_negative
 returns-then-not-starts_negative c = λ z fits is.

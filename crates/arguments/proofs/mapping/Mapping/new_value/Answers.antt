@@ -1,6 +1,6 @@
 use Rattle.std.proofs.Common.{rules}
 use Rattle.std.proofs.lemmas.Int.{wraps}
-use Rattle.script.proofs.mapping.Mapping.new_value.Goals as goal
+use Rattle.arguments.proofs.mapping.Mapping.new_value.Goals as goal
 
 pub returns-in-Add : goal.returns-in-Add
 returns-in-Add c = search (rules, wraps)

@@ -1,13 +1,9 @@
 //! Folds of all values.
 
 ghost use Rattle.std.specs.Prelude.{◌≡◌, ◌≢◌, ◌++◌, MatchOption, OnOk};
-ghost use Rattle.script.specs.Questions.{folding_text};
-ghost use Rattle.script.specs.declared.folding.Folding.{Folding};
+ghost use Rattle.arguments.specs.Questions.{folding_text};
+ghost use Rattle.arguments.specs.declared.folding.Folding.{Folding};
 
-use crate::argument::Argument;
-use crate::fault::Reason;
-use crate::stop::Stop;
-use std::alloc::Global;
 use std::io;
 use std::io::Write;
 
@@ -39,24 +35,8 @@ impl Folding {
     }
 }
 
-impl Argument for Folding {
-    ghost use Rattle.script.specs.Grammar.{fold_place};
-    ghost use Rattle.script.specs.Statements.{fold_argument};
-
-    ghost place = { fold_place };
-
-    ghost argument = { fold_argument };
-
-    fn read(_alloc: Global, field: &[u8]) -> Result<Folding, Stop> {
-        match folding_of(field) {
-            Some(folding) => Ok(folding),
-            None => Err(Stop::Fault(Reason::BadFold)),
-        }
-    }
-}
-
 /// The fold that the field spells, if it spells one.
-fn folding_of(field: &[u8]) -> Option<Folding>
+pub fn folding_of(field: &[u8]) -> Option<Folding>
     ensures { MatchOption result ((f : Folding) → field.now ≢ folding_text f) (λ f. field.now ≡ folding_text f) }
 {
     match field {

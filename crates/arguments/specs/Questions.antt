@@ -4,15 +4,15 @@ use Rattle.std.specs.Ordering.{int_eq}
 use Rattle.std.specs.Int.{int_wrap, w64}
 use Rattle.std.specs.Fmt.{signed_decimal}
 use Rattle.keys.specs.Order.{bytes_eq}
-use Rattle.script.specs.Keys.{IsKey}
-use Rattle.script.specs.declared.passing.Test.{Test}
-use Rattle.script.specs.declared.passing.Test.TheVariants.{All, Even, Odd, Below, AtLeast, Equal, Prefix}
-use Rattle.script.specs.declared.mapping.Mapping.{Mapping}
-use Rattle.script.specs.declared.mapping.Mapping.TheVariants.{Set, Add, KeyLength}
-use Rattle.script.specs.declared.pair_mapping.PairMapping.{PairMapping}
-use Rattle.script.specs.declared.pair_mapping.PairMapping.TheVariants.{To, Initial, ByValue}
-use Rattle.script.specs.declared.folding.Folding.{Folding}
-use Rattle.script.specs.declared.folding.Folding.TheVariants.{Sum, Least, Greatest}
+use Rattle.arguments.specs.Keys.{IsKey}
+use Rattle.arguments.specs.declared.passing.Test.{Test}
+use Rattle.arguments.specs.declared.passing.Test.TheVariants.{All, Even, Odd, Below, AtLeast, Equal, Prefix}
+use Rattle.arguments.specs.declared.mapping.Mapping.{Mapping}
+use Rattle.arguments.specs.declared.mapping.Mapping.TheVariants.{Set, Add, KeyLength}
+use Rattle.arguments.specs.declared.pair_mapping.PairMapping.{PairMapping}
+use Rattle.arguments.specs.declared.pair_mapping.PairMapping.TheVariants.{To, Initial, ByValue}
+use Rattle.arguments.specs.declared.folding.Folding.{Folding}
+use Rattle.arguments.specs.declared.folding.Folding.TheVariants.{Sum, Least, Greatest}
 
 -- whether a value is a multiple of 2
 abbrev pub is_even : ℤ → Bool

@@ -4,7 +4,7 @@ use Rattle.std.specs.Prelude.{ℤ, FitsSigned, MatchOption, SomeIff}
 use Rattle.std.specs.Int.{w64}
 use Rattle.std.specs.Fmt.{signed_decimal}
 use Rattle.std.proofs.lemmas.List.{append_cancel_left}
-use Rattle.script.specs.Keys.{IsKey}
+use Rattle.arguments.specs.Keys.{IsKey}
 
 -- a value that the rest spells, or none
 pub value_of_both : (front field rest : List ℕ) (value : Option ℤ) → field ≡ front ++ rest

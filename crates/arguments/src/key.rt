@@ -2,7 +2,7 @@
 
 ghost use Rattle.std.specs.Prelude.{◌≡◌, ◌↔◌, IfOk, IsTrue, SomeIff};
 ghost use Rattle.std.specs.Arc.{arc_value};
-ghost use Rattle.script.specs.Keys.{IsKey};
+ghost use Rattle.arguments.specs.Keys.{IsKey};
 
 use keys::ByteText;
 use std::alloc::{AllocError, Global};
@@ -18,7 +18,7 @@ pub struct Key {
 impl Model for Key {
     ghost use Rattle.std.specs.Prelude.{List, ℕ};
     ghost use Rattle.std.specs.Arc.{arc_value};
-    ghost use Rattle.script.specs.Keys.{IsKey};
+    ghost use Rattle.arguments.specs.Keys.{IsKey};
 
     ghost Value = { List ℕ };
 

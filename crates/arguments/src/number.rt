@@ -3,7 +3,7 @@
 ghost use Rattle.std.specs.Prelude.{◌≡◌, ◌≢◌, ◌↔◌, ℕ, ℤ, ◌<◌, ◌^◌, ◌⊎◌, IsTrue, FitsSigned, MatchOption};
 ghost use Rattle.std.specs.Fmt.{decimal, signed_decimal};
 ghost use Rattle.std.specs.Int.{w64};
-ghost use Rattle.script.specs.Numbers.{StartsNumber, StartsNegative};
+ghost use Rattle.arguments.specs.Numbers.{StartsNumber, StartsNegative};
 
 /// The number that the field spells, if it is below 2^32.
 pub fn number_of(field: &[u8]) -> Option<u32>

@@ -1,14 +1,11 @@
 //! Maps of pairs to their images.
 
 ghost use Rattle.std.specs.Prelude.{◌≡◌, ◌≢◌, ◌++◌, codes, IfOk, MatchOption, OnOk, take};
-ghost use Rattle.script.specs.Questions.{IsPairMapping, image_of, pair_mapping_text};
-ghost use Rattle.script.specs.declared.pair_mapping.PairMapping.{PairMapping};
+ghost use Rattle.arguments.specs.Questions.{IsPairMapping, image_of, pair_mapping_text};
+ghost use Rattle.arguments.specs.declared.pair_mapping.PairMapping.{PairMapping};
 
-use crate::argument::Argument;
 use crate::behind::key_behind;
-use crate::fault::Reason;
 use crate::key::Key;
-use crate::stop::Stop;
 use keys::ByteText;
 use std::alloc::{AllocError, Global};
 use std::io::Write;
@@ -85,24 +82,12 @@ impl PairMapping {
     }
 }
 
-impl Argument for PairMapping {
-    ghost use Rattle.script.specs.Grammar.{pair_map_place};
-    ghost use Rattle.script.specs.Statements.{pair_map_argument};
-
-    ghost place = { pair_map_place };
-
-    ghost argument = { pair_map_argument };
-
-    fn read(alloc: Global, field: &[u8]) -> Result<PairMapping, Stop> {
-        match pair_mapping_of(alloc, field)? {
-            Some(mapping) => Ok(mapping),
-            None => Err(Stop::Fault(Reason::BadMap)),
-        }
-    }
-}
-
-/// The map that the field spells, if it spells one.
-fn pair_mapping_of(alloc: Global, field: &[u8]) -> Result<Option<PairMapping>, AllocError>
+/// The map of pairs that the field spells, if it spells one.
+///
+/// # Errors
+///
+/// Memory for its key was refused.
+pub fn pair_mapping_of(alloc: Global, field: &[u8]) -> Result<Option<PairMapping>, AllocError>
     ensures { IfOk result (λ mapping. MatchOption mapping ((m : PairMapping) → IsPairMapping m → field.now ≢ pair_mapping_text m) (λ m. IsPairMapping m × (field.now ≡ pair_mapping_text m))) }
 {
     if let Some(mapping) = word_of(field) {

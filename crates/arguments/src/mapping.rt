@@ -1,14 +1,10 @@
 //! Maps of values to new ones.
 
 ghost use Rattle.std.specs.Prelude.{◌≡◌, ◌≢◌, ◌++◌, MatchOption, OnOk};
-ghost use Rattle.script.specs.Questions.{IsMapping, mapping_text, new_value};
-ghost use Rattle.script.specs.declared.mapping.Mapping.{Mapping};
+ghost use Rattle.arguments.specs.Questions.{IsMapping, mapping_text, new_value};
+ghost use Rattle.arguments.specs.declared.mapping.Mapping.{Mapping};
 
-use crate::argument::Argument;
 use crate::behind::value_behind;
-use crate::fault::Reason;
-use crate::stop::Stop;
-use std::alloc::Global;
 use std::io;
 use std::io::Write;
 
@@ -51,24 +47,8 @@ impl Mapping {
     }
 }
 
-impl Argument for Mapping {
-    ghost use Rattle.script.specs.Grammar.{map_place};
-    ghost use Rattle.script.specs.Statements.{map_argument};
-
-    ghost place = { map_place };
-
-    ghost argument = { map_argument };
-
-    fn read(_alloc: Global, field: &[u8]) -> Result<Mapping, Stop> {
-        match mapping_of(field) {
-            Some(mapping) => Ok(mapping),
-            None => Err(Stop::Fault(Reason::BadMap)),
-        }
-    }
-}
-
 /// The map that the field spells, if it spells one.
-fn mapping_of(field: &[u8]) -> Option<Mapping>
+pub fn mapping_of(field: &[u8]) -> Option<Mapping>
     ensures { MatchOption result ((m : Mapping) → IsMapping m → field.now ≢ mapping_text m) (λ m. IsMapping m × (field.now ≡ mapping_text m)) }
 {
     if let Some(value) = value_behind(b"set:", field) {
