@@ -7,21 +7,28 @@ mod memory;
 mod stopping;
 mod sums;
 
+ghost use Rattle.combiner.specs.Unions.{AreApart};
+ghost use Rattle.iter.specs.Intervals.{part};
+
 use bulk_ops::{
-    Answer, NoImages, Pair, PairFn, Part, Query, Stored, StoredItem, StoredMap, StoredTest, ask,
-    work,
+    Answer, Asks, NoImages, Pair, PairFn, Part, Query, Stored, StoredItem, StoredMap, StoredTest,
+    ask, work,
 };
 use combiner::{Both, Bulk, Greatest, Least, Sum};
 use hash_path::PathKey;
 use iter::parts_follow_intervals;
-use splitter::{Cut, cut, law_of_cuts, whole};
+use splitter::{Cut, Piece, cut, law_of_cuts, whole};
 use std::alloc::Global;
+use std::fmt::Debug;
+use std::panic::Expect;
 use std::process::Abort;
 use std::sync::Arc;
-use std::test::Fail;
 use test_keys::ChosenKey;
-use trie_node::{NoMemory, Stamp};
+use trie_node::Stamp;
 use versions::{Version, View};
+
+// A map of the tests.
+type Map = Version<ChosenKey, i64>;
 
 // Keys with numbers below one pass.
 #[derive(Drop)]
@@ -60,6 +67,9 @@ type Three = Both<Sum, Both<Least, Greatest>>;
 
 type ThreeItems = (i128, (Option<i64>, Option<i64>));
 
+// Those of all three pairs.
+const SUMS: ThreeItems = (9_223_372_036_854_775_806, (Some(i64::MIN), Some(i64::MAX)));
+
 // The value, for each of the three.
 #[derive(Drop)]
 struct EachValue;
@@ -94,41 +104,61 @@ fn chosen(path: u64, id: u32) -> ChosenKey {
     ChosenKey { path, id }
 }
 
+// The empty map, which has room for 100 pairs.
+fn empty(rt: &impl Abort, alloc: Global) -> Map {
+    Version::empty(alloc, 100, Stamp(1)).expect(rt, "no map")
+}
+
+// Puts the value at the key.
+fn put(rt: &impl Abort, alloc: Global, map: &mut Map, key: ChosenKey, value: i64) {
+    let key = Arc::new(alloc, key).expect(rt, "no key");
+    let value = Arc::new(alloc, value).expect(rt, "no value");
+    map.put(alloc, key, value).expect(rt, "not put");
+}
+
+// A map of these pairs.
+fn map_of(rt: &impl Abort, alloc: Global, pairs: &[(ChosenKey, i64)]) -> Map {
+    let mut map = empty(rt, alloc);
+    for (key, value) in pairs {
+        put(rt, alloc, &mut map, *key, *value);
+    }
+    map
+}
+
 // The first pairs of three: key 2 at position 0 and key 3 at position 12 have the greatest value, key 1 at position 2^59
 // has the least.
-fn first(alloc: Global, number: usize) -> Result<View<ChosenKey, i64>, Fail> {
-    let mut version = Version::empty(alloc, 100, Stamp(1))?;
+fn first(rt: &impl Abort, alloc: Global, number: usize) -> View<ChosenKey, i64> {
+    let mut map = empty(rt, alloc);
     let pairs = [
         (chosen(0, 2), i64::MAX),
         (chosen(0xc000_0000_0000_0000, 3), i64::MAX),
         (chosen(1, 1), i64::MIN),
     ];
     for (key, value) in pairs.into_iter().take(number) {
-        version.put(alloc, Arc::new(alloc, key)?, Arc::new(alloc, value)?)?;
+        put(rt, alloc, &mut map, key, value);
     }
-    Ok(version.view()?)
+    map.view().expect(rt, "no view")
 }
 
 // So many pairs, at most 2,000, numbered from 0. Every second has the path word 7, so that half of them share a bucket.
-fn many(alloc: Global, count: u32) -> Result<View<ChosenKey, i64>, Fail> {
-    let mut version = Version::empty(alloc, 2_000, Stamp(1))?;
+fn many(rt: &impl Abort, alloc: Global, count: u32) -> View<ChosenKey, i64> {
+    let mut map: Map = Version::empty(alloc, 2_000, Stamp(1)).expect(rt, "no map");
     for id in 0..count {
         let path = if id % 2 == 0 {
             7
         } else {
             u64::from(id).wrapping_mul(0x9e37_79b9_7f4a_7c15)
         };
-        version.put(
-            alloc,
-            Arc::new(alloc, chosen(path, id))?,
-            Arc::new(alloc, i64::from(id))?,
-        )?;
+        put(rt, alloc, &mut map, chosen(path, id), i64::from(id));
     }
-    Ok(version.view()?)
+    map.view().expect(rt, "no view")
 }
 
+// What a map has at the three keys.
+type Contents = (Option<i64>, Option<i64>, Option<i64>);
+
 // What the map has at the three keys.
-fn at_three(made: &Version<ChosenKey, i64>) -> (Option<i64>, Option<i64>, Option<i64>) {
+fn at_three(made: &Map) -> Contents {
     (
         at(made, chosen(0, 2)),
         at(made, chosen(0xc000_0000_0000_0000, 3)),
@@ -136,83 +166,98 @@ fn at_three(made: &Version<ChosenKey, i64>) -> (Option<i64>, Option<i64>, Option
     )
 }
 
-fn at(made: &Version<ChosenKey, i64>, key: ChosenKey) -> Option<i64> {
+fn at(made: &Map, key: ChosenKey) -> Option<i64> {
     match made.get(&key) {
         Some(value) => Some(**value),
         None => None,
     }
 }
 
-// The parts of the two pieces of a cut, joined; none where the map is not cut.
-fn joined<K: PathKey + Drop, V: Drop, B: Bulk<K, V>>(
+// The two pieces of a cut of the map.
+fn two_of<K: PathKey + Drop, V: Drop>(
+    rt: &impl Abort,
     alloc: Global,
     view: View<K, V>,
-    bulk: &B,
-) -> Result<Option<B::Part>, NoMemory>
-    requires { B.ready bulk.now }
+) -> (Piece<K, V>, Piece<K, V>)
+    ensures { AreApart K.cmp (part K.path_of result.0.map result.0.interval) (part K.path_of result.1.map result.1.interval) }
 {
     law_of_cuts::<K, V>();
     parts_follow_intervals::<K, V>();
     view.len();
     let Ok(Cut::Two(lower, upper)) = cut(whole(alloc, view), 1) else {
-        return Ok(None);
+        panic!(rt; "no cut")
     };
     if lower.len() > 100 || upper.len() > 100 {
-        return Ok(None);
+        panic!(rt; "a piece of many pairs");
     }
-    let below = work(alloc, &lower, bulk)?;
-    let above = work(alloc, &upper, bulk)?;
-    bulk.join(alloc, &below, &above).map(Some)
+    (lower, upper)
 }
 
-// The number that a query is answered of all three pairs, and of the two pieces of a cut.
-fn assert_counts(rt: &impl Abort, alloc: Global, id: u32, count: u64) -> Result<(), Fail> {
-    let query = Asked::Count(below(id));
-    let (told, made) = ask(alloc, first(alloc, 3)?, &query)?;
-    assert!(rt; matches!(&told, Answer::Count(number) if *number == count));
-    assert!(rt; made.is_none());
-    let part = joined(alloc, first(alloc, 3)?, &query)?;
-    assert!(rt; matches!(&part, Some(Part::Number(number)) if *number == count));
-    Ok(())
-}
-
-// The truth that a query is answered of all three pairs, and of the two pieces of a cut.
-fn assert_is(rt: &impl Abort, alloc: Global, query: &Asked, truth: bool) -> Result<(), Fail>
-    requires { ⟦<Asked as Bulk<ChosenKey, i64>>⟧.ready query.now }
+// The part of the piece.
+fn part_of<K: PathKey + Drop, V: Drop, B: Bulk<K, V>>(
+    rt: &impl Abort,
+    alloc: Global,
+    piece: &Piece<K, V>,
+    bulk: &B,
+) -> B::Part
+    requires { B.ready bulk.now }
+    ensures { B.answers bulk.now (part K.path_of piece.now.map piece.now.interval) result }
 {
-    let (told, _) = ask(alloc, first(alloc, 3)?, query)?;
-    assert!(rt; matches!(&told, Answer::Truth(found) if *found == truth));
-    let part = joined(alloc, first(alloc, 3)?, query)?;
-    assert!(rt; matches!(&part, Some(Part::Truth(found)) if *found == truth));
-    Ok(())
+    work(alloc, piece, bulk).expect(rt, "no part")
 }
 
-// Of three pairs, those with keys below a number: how many there are, whether there are some, whether they are all.
-#[test]
-fn numbers_and_truths(rt: HostRuntime) -> Result<(), Fail> {
-    let alloc = rt.alloc();
-    let table = [
-        (1, 0, false, false),
-        (2, 1, true, false),
-        (3, 2, true, false),
-        (4, 3, true, true),
-    ];
-    for (id, count, exists, for_all) in table {
-        assert_counts(&rt, alloc, id, count)?;
-        assert_is(&rt, alloc, &Asked::Exists(below(id)), exists)?;
-        assert_is(&rt, alloc, &Asked::ForAll(below(id)), for_all)?;
+// The parts of the two pieces of a cut, joined.
+fn joined<K: PathKey + Drop, V: Drop, B: Bulk<K, V>>(
+    rt: &impl Abort,
+    alloc: Global,
+    view: View<K, V>,
+    bulk: &B,
+) -> B::Part
+    requires { B.ready bulk.now }
+{
+    let (lower, upper) = two_of(rt, alloc, view);
+    let below = part_of(rt, alloc, &lower, bulk);
+    let above = part_of(rt, alloc, &upper, bulk);
+    bulk.join(alloc, &below, &above).expect(rt, "no join")
+}
+
+// What is told by an answer or by a part, as plain values: of a map, how many pairs it has and what it has at the three
+// keys; of a pair that was found, the number of its key and its value.
+#[derive(Clone, Copy, Drop, PartialEq, Eq)]
+enum Told {
+    Number(u64),
+    Truth(bool),
+    Found(Option<(u32, i64)>),
+    Made(u64, Contents),
+    Item(ThreeItems),
+}
+
+// What the answer tells, beside the map that is made where there is one.
+fn told_by(
+    rt: &impl Abort,
+    answer: &Answer<ChosenKey, i64, ThreeItems>,
+    made: &Option<Map>,
+) -> Told {
+    match answer {
+        Answer::Count(number) => Told::Number(*number),
+        Answer::Truth(truth) => Told::Truth(*truth),
+        Answer::Found(found) => Told::Found(plainly(found)),
+        Answer::Made(number) => Told::Made(*number, contents(rt, made)),
+        Answer::Item(item) => Told::Item(*item),
+        Answer::Images(_) => panic!(rt; "images that were not asked for"),
     }
-    Ok(())
 }
 
-#[test]
-fn no_pairs_pass_all_and_none(rt: HostRuntime) -> Result<(), Fail> {
-    let alloc = rt.alloc();
-    let (told, _) = ask(alloc, first(alloc, 0)?, &Asked::ForAll(below(0)))?;
-    assert!(rt; matches!(&told, Answer::Truth(true)));
-    let (told, _) = ask(alloc, first(alloc, 0)?, &Asked::Exists(below(4)))?;
-    assert!(rt; matches!(&told, Answer::Truth(false)));
-    Ok(())
+// The same of a part.
+fn told_of(rt: &impl Abort, part: &Part<ChosenKey, i64, ThreeItems>) -> Told {
+    match part {
+        Part::Number(number) => Told::Number(*number),
+        Part::Truth(truth) => Told::Truth(*truth),
+        Part::Found(found) => Told::Found(plainly(found)),
+        Part::Made(map) => Told::Made(map.len(), at_three(map)),
+        Part::Item(item) => Told::Item(*item),
+        Part::Images(_, _) => panic!(rt; "images that were not asked for"),
+    }
 }
 
 // The key and the value of a pair that was found, if one was.
@@ -223,66 +268,101 @@ fn plainly(found: &Option<Pair<ChosenKey, i64>>) -> Option<(u32, i64)> {
     }
 }
 
-// Key 1 alone passes below 2, in the upper piece; no key passes below 1.
-#[test]
-fn pairs_that_pass(rt: HostRuntime) -> Result<(), Fail> {
-    let alloc = rt.alloc();
-    for (id, want) in [(1, None), (2, Some((1, i64::MIN)))] {
-        let query = Asked::Find(below(id));
-        let (told, _) = ask(alloc, first(alloc, 3)?, &query)?;
-        let found = match &told {
-            Answer::Found(found) => plainly(found),
-            _ => Some((0, 0)),
-        };
-        assert_eq!(rt; found, want, "find at {id}");
-        let part = joined(alloc, first(alloc, 3)?, &query)?;
-        let found = match &part {
-            Some(Part::Found(found)) => plainly(found),
-            _ => Some((0, 0)),
-        };
-        assert_eq!(rt; found, want, "find at {id}, joined");
+// What the map that is made has at the three keys.
+fn contents(rt: &impl Abort, made: &Option<Map>) -> Contents {
+    match made {
+        Some(map) => at_three(map),
+        None => panic!(rt; "no map is made"),
     }
-    Ok(())
 }
 
-// What a query that makes a map makes of all three pairs, and of the two pieces of a cut: so many pairs, and what the map
-// has at the three keys.
-fn assert_makes(
-    rt: &impl Abort,
-    alloc: Global,
-    query: &Asked,
-    count: u64,
-    want: (Option<i64>, Option<i64>, Option<i64>),
-) -> Result<(), Fail>
+// What the query is told of so many of the three pairs. A map is made where there is a handle for it.
+fn told_of_first(rt: &impl Abort, alloc: Global, number: usize, query: &Asked) -> Told
     requires { ⟦<Asked as Bulk<ChosenKey, i64>>⟧.ready query.now }
 {
-    let (told, made) = ask(alloc, first(alloc, 3)?, query)?;
-    assert!(rt; matches!(&told, Answer::Made(number) if *number == count));
-    let contents = match &made {
-        Some(map) => at_three(map),
-        None => (None, None, None),
-    };
-    assert_eq!(rt; contents, want);
-    let part = joined(alloc, first(alloc, 3)?, query)?;
-    let contents = match &part {
-        Some(Part::Made(map)) => at_three(map),
-        _ => (None, None, None),
-    };
-    assert_eq!(rt; contents, want);
-    Ok(())
+    let view = first(rt, alloc, number);
+    let (answer, made) = ask(alloc, view, query).expect(rt, "no answer");
+    assert_eq!(rt; made.is_some(), query.target().is_some());
+    told_by(rt, &answer, &made)
+}
+
+// What it is told of the two pieces of a cut.
+fn told_of_two(rt: &impl Abort, alloc: Global, query: &Asked) -> Told
+    requires { ⟦<Asked as Bulk<ChosenKey, i64>>⟧.ready query.now }
+{
+    let view = first(rt, alloc, 3);
+    told_of(rt, &joined(rt, alloc, view, query))
+}
+
+// What is seen is what is wanted. An assertion is proved wherever it is written out, so it stands here once.
+fn assert_is<T: PartialEq + Debug + Drop>(rt: &impl Abort, seen: T, want: T) {
+    assert_eq!(rt; seen, want);
+}
+
+// This is told.
+fn assert_told(rt: &impl Abort, told: Option<Told>, want: Told) {
+    assert!(rt; told == Some(want));
+}
+
+// The query is told this of all three pairs, and of the two pieces of a cut.
+fn assert_tells(rt: &impl Abort, alloc: Global, query: &Asked, want: Told)
+    requires { ⟦<Asked as Bulk<ChosenKey, i64>>⟧.ready query.now }
+{
+    assert_told(rt, Some(told_of_first(rt, alloc, 3, query)), want);
+    assert_told(rt, Some(told_of_two(rt, alloc, query)), want);
+}
+
+// Of three pairs, those with keys below a number: how many there are, whether there are some, whether they are all.
+#[test]
+fn numbers_and_truths(rt: HostRuntime) {
+    let alloc = rt.alloc();
+    let table = [
+        (1, 0, false, false),
+        (2, 1, true, false),
+        (3, 2, true, false),
+        (4, 3, true, true),
+    ];
+    for (id, count, exists, for_all) in table {
+        assert_tells(&rt, alloc, &Asked::Count(below(id)), Told::Number(count));
+        assert_tells(&rt, alloc, &Asked::Exists(below(id)), Told::Truth(exists));
+        assert_tells(&rt, alloc, &Asked::ForAll(below(id)), Told::Truth(for_all));
+    }
 }
 
 #[test]
-fn maps_that_are_made(rt: HostRuntime) -> Result<(), Fail> {
+fn no_pairs_pass_all_and_none(rt: HostRuntime) {
+    let alloc = rt.alloc();
+    let all = told_of_first(&rt, alloc, 0, &Asked::ForAll(below(0)));
+    assert_told(&rt, Some(all), Told::Truth(true));
+    let some = told_of_first(&rt, alloc, 0, &Asked::Exists(below(4)));
+    assert_told(&rt, Some(some), Told::Truth(false));
+}
+
+// Key 1 alone passes below 2, in the upper piece; no key passes below 1.
+#[test]
+fn pairs_that_pass(rt: HostRuntime) {
+    let alloc = rt.alloc();
+    for (id, want) in [(1, None), (2, Some((1, i64::MIN)))] {
+        assert_tells(&rt, alloc, &Asked::Find(below(id)), Told::Found(want));
+    }
+}
+
+#[test]
+fn maps_that_are_made(rt: HostRuntime) {
     let alloc = rt.alloc();
     let two = (Some(i64::MAX), None, Some(i64::MIN));
-    assert_makes(&rt, alloc, &Asked::Filter(below(3), 9), 2, two)?;
+    assert_tells(&rt, alloc, &Asked::Filter(below(3), 9), Told::Made(2, two));
     let three = (Some(4), Some(4), Some(4));
-    assert_makes(&rt, alloc, &Asked::MapValues(instead(4), 9), 3, three)
+    assert_tells(
+        &rt,
+        alloc,
+        &Asked::MapValues(instead(4), 9),
+        Told::Made(3, three),
+    );
 }
 
 #[test]
-fn sums_and_extremes(rt: HostRuntime) -> Result<(), Fail> {
+fn sums_and_extremes(rt: HostRuntime) {
     let alloc = rt.alloc();
     let query = Asked::Fold(Both(Sum, Both(Least, Greatest)), values());
     let table = [
@@ -291,21 +371,12 @@ fn sums_and_extremes(rt: HostRuntime) -> Result<(), Fail> {
             2,
             (18_446_744_073_709_551_614, (Some(i64::MAX), Some(i64::MAX))),
         ),
-        (
-            3,
-            (9_223_372_036_854_775_806, (Some(i64::MIN), Some(i64::MAX))),
-        ),
+        (3, SUMS),
     ];
     for (number, want) in table {
-        let (told, _) = ask(alloc, first(alloc, number)?, &query)?;
-        assert!(rt;
-            matches!(&told, Answer::Item(item) if *item == want),
-            "of {number}"
-        );
+        let told = told_of_first(&rt, alloc, number, &query);
+        assert_told(&rt, Some(told), Told::Item(want));
     }
-    let part = joined(alloc, first(alloc, 3)?, &query)?;
-    assert!(rt;
-        matches!(&part, Some(Part::Item(item)) if *item == (9_223_372_036_854_775_806, (Some(i64::MIN), Some(i64::MAX))))
-    );
-    Ok(())
+    let told = told_of_two(&rt, alloc, &query);
+    assert_told(&rt, Some(told), Told::Item(SUMS));
 }

@@ -1,15 +1,16 @@
 //! Maps of the images of pairs: keys that several images share, no pairs, and closures and maps that find no memory.
-ghost use Rattle.std.specs.Prelude.{◌≡◌, IfOk, take};
+ghost use Rattle.std.specs.Prelude.{◌≡◌, ◌∷◌, [], take};
 
 use super::joined;
-use super::memory::{MOST_GIVEN, give, spare};
+use super::memory::{MOST_GIVEN, take_all_but};
 use bulk_ops::{Answer, Asks, ImageFn, PairFn, Part, Query, StoredPairs, ask, work};
 use combiner::{Bulk, Sum};
 use keys::ByteText;
 use splitter::{Piece, whole};
-use std::alloc::{AllocError, Global};
+use std::alloc::Global;
+use std::panic::Expect;
+use std::process::Abort;
 use std::sync::Arc;
-use std::test::Fail;
 use test_keys::take_all;
 use trie_node::{NoMemory, Stamp};
 use versions::{Version, View};
@@ -55,6 +56,9 @@ impl PairFn<ByteText, i64, i128> for Unasked {
 }
 
 type Imaged<P> = Query<ByteText, i64, Unasked, Unasked, Sum, Unasked, P>;
+
+// A part of such a query.
+type Images = Part<ByteText, i64, i128>;
 
 // The first byte of the key, as a key, with the value.
 #[derive(Drop)]
@@ -134,35 +138,96 @@ fn refused_at(alloc: Global, value: i64) -> StoredPairs<ByteText, i64, RefusedAt
     StoredPairs::new(RefusedAt { alloc, value })
 }
 
-// The first pairs of a=1, ab=2, b=3.
-fn first(alloc: Global, number: usize) -> Result<View<ByteText, i64>, Fail> {
-    let mut version = Version::empty(alloc, 100, Stamp(1))?;
-    for (text, value) in [("a", 1), ("ab", 2), ("b", 3)].into_iter().take(number) {
-        let key = Arc::new(alloc, ByteText::from_text(alloc, text)?)?;
-        version.put(alloc, key, Arc::new(alloc, value)?)?;
-    }
-    Ok(version.view()?)
+// Puts the value at the key.
+fn put(rt: &impl Abort, alloc: Global, map: &mut Version<ByteText, i64>, text: &str, value: i64) {
+    let (key, value) = shared(rt, alloc, text, value);
+    map.put(alloc, key, value).expect(rt, "not put");
 }
 
-fn at(alloc: Global, map: &View<ByteText, i64>, text: &str) -> Result<Option<i64>, AllocError> {
-    let key = ByteText::from_text(alloc, text)?;
-    Ok(match map.get(&key) {
+// The first pairs of a=1, ab=2, b=3.
+fn first(rt: &impl Abort, alloc: Global, number: usize) -> View<ByteText, i64> {
+    let mut map = Version::empty(alloc, 100, Stamp(1)).expect(rt, "no map");
+    for (text, value) in [("a", 1), ("ab", 2), ("b", 3)].into_iter().take(number) {
+        put(rt, alloc, &mut map, text, value);
+    }
+    map.view().expect(rt, "no view")
+}
+
+fn at(rt: &impl Abort, alloc: Global, map: &View<ByteText, i64>, text: &str) -> Option<i64> {
+    let key = ByteText::from_text(alloc, text).expect(rt, "no key");
+    match map.get(&key) {
         Some(value) => Some(**value),
         None => None,
-    })
+    }
 }
 
 // The values of the map at a, ab, b and z, and how many pairs it has.
 type Seen = (u64, [Option<i64>; 4]);
 
-fn seen(alloc: Global, map: &View<ByteText, i64>) -> Result<Seen, AllocError> {
+fn seen(rt: &impl Abort, alloc: Global, map: &View<ByteText, i64>) -> Seen {
     let values = [
-        at(alloc, map, "a")?,
-        at(alloc, map, "ab")?,
-        at(alloc, map, "b")?,
-        at(alloc, map, "z")?,
+        at(rt, alloc, map, "a"),
+        at(rt, alloc, map, "ab"),
+        at(rt, alloc, map, "b"),
+        at(rt, alloc, map, "z"),
     ];
-    Ok((map.len(), values))
+    (map.len(), values)
+}
+
+// What the map has that an answer shows.
+fn seen_by(rt: &impl Abort, alloc: Global, answer: &Answer<ByteText, i64, i128>) -> Seen {
+    match answer {
+        Answer::Images(map) => seen(rt, alloc, map),
+        _ => panic!(rt; "no images"),
+    }
+}
+
+// What the map of a part of images has.
+fn seen_of(rt: &impl Abort, alloc: Global, part: &Images) -> Seen {
+    match part {
+        Part::Images(_, view) => seen(rt, alloc, view),
+        _ => panic!(rt; "no images"),
+    }
+}
+
+// The same, if the part was made.
+fn seen_if_made(rt: &impl Abort, alloc: Global, part: &Result<Images, NoMemory>) -> Option<Seen> {
+    match part {
+        Ok(part) => Some(seen_of(rt, alloc, part)),
+        Err(NoMemory) => None,
+    }
+}
+
+// What the map that is made has, if one is.
+fn seen_in(rt: &impl Abort, alloc: Global, made: &Option<Version<ByteText, i64>>) -> Seen {
+    match made {
+        Some(map) => seen(rt, alloc, &map.view().expect(rt, "no view")),
+        None => panic!(rt; "no map is made"),
+    }
+}
+
+// What the answer shows of the images of so many of the three pairs, and what the map has that is made of them.
+fn images_of<P: ImageFn<ByteText, i64>>(
+    rt: &impl Abort,
+    alloc: Global,
+    number: usize,
+    query: &Imaged<P>,
+) -> [Seen; 2]
+    requires { ⟦<Imaged<P> as Bulk<ByteText, i64>>⟧.ready query.now }
+{
+    let (answer, made) = ask(alloc, first(rt, alloc, number), query).expect(rt, "no answer");
+    [seen_by(rt, alloc, &answer), seen_in(rt, alloc, &made)]
+}
+
+// What the images of the two pieces of a cut have, joined.
+fn images_of_two<P: ImageFn<ByteText, i64>>(
+    rt: &impl Abort,
+    alloc: Global,
+    query: &Imaged<P>,
+) -> Seen
+    requires { ⟦<Imaged<P> as Bulk<ByteText, i64>>⟧.ready query.now }
+{
+    seen_of(rt, alloc, &joined(rt, alloc, first(rt, alloc, 3), query))
 }
 
 // Key b has its value; key a has that of a or that of ab.
@@ -177,181 +242,159 @@ fn is_of_one_key(seen: Seen) -> bool {
 
 // All three pairs at once, and the two pieces of a cut.
 #[test]
-fn images_may_share_keys(rt: HostRuntime) -> Result<(), Fail> {
+fn images_may_share_keys(rt: HostRuntime) {
     let alloc = rt.alloc();
     let query = Imaged::MapPairs(initials(alloc), 2);
     assert_eq!(rt; query.target(), Some(2));
-    let (told, made) = ask(alloc, first(alloc, 3)?, &query)?;
-    assert!(rt; matches!(&told, Answer::Images(map) if is_of_initials(seen(alloc, map)?)));
-    assert!(rt; matches!(&made, Some(map) if is_of_initials(seen(alloc, &map.view()?)?)));
-    let part = joined(alloc, first(alloc, 3)?, &query)?;
-    assert!(rt; matches!(&part, Some(Part::Images(_, view)) if is_of_initials(seen(alloc, view)?)));
-    Ok(())
+    for contents in images_of(&rt, alloc, 3, &query) {
+        assert!(rt; is_of_initials(contents));
+    }
+    assert!(rt; is_of_initials(images_of_two(&rt, alloc, &query)));
 }
 
 #[test]
-fn images_of_one_key_are_one_pair(rt: HostRuntime) -> Result<(), Fail> {
+fn images_of_one_key_are_one_pair(rt: HostRuntime) {
     let alloc = rt.alloc();
     let query = Imaged::MapPairs(one_key(alloc), 3);
-    let (told, made) = ask(alloc, first(alloc, 3)?, &query)?;
-    assert!(rt; matches!(&told, Answer::Images(map) if is_of_one_key(seen(alloc, map)?)));
-    assert!(rt; matches!(&made, Some(map) if is_of_one_key(seen(alloc, &map.view()?)?)));
-    let part = joined(alloc, first(alloc, 3)?, &query)?;
-    assert!(rt; matches!(&part, Some(Part::Images(_, view)) if is_of_one_key(seen(alloc, view)?)));
-    Ok(())
+    for contents in images_of(&rt, alloc, 3, &query) {
+        assert!(rt; is_of_one_key(contents));
+    }
+    assert!(rt; is_of_one_key(images_of_two(&rt, alloc, &query)));
 }
 
 #[test]
-fn no_pairs_have_no_images(rt: HostRuntime) -> Result<(), Fail> {
+fn no_pairs_have_no_images(rt: HostRuntime) {
     let alloc = rt.alloc();
-    let (told, made) = ask(
-        alloc,
-        first(alloc, 0)?,
-        &Imaged::MapPairs(initials(alloc), 2),
-    )?;
-    assert!(rt; matches!(&told, Answer::Images(map) if map.is_empty()));
+    let query = Imaged::MapPairs(initials(alloc), 2);
+    let (answer, made) = ask(alloc, first(&rt, alloc, 0), &query).expect(&rt, "no answer");
+    assert!(rt; matches!(&answer, Answer::Images(map) if map.is_empty()));
     assert!(rt; matches!(&made, Some(map) if map.is_empty()));
-    Ok(())
 }
 
 // Of the first two pairs all images are found; that of the third is not.
 #[test]
-fn a_closure_that_finds_no_memory_refuses(rt: HostRuntime) -> Result<(), Fail> {
+fn a_closure_that_finds_no_memory_refuses(rt: HostRuntime) {
     let alloc = rt.alloc();
     let query = Imaged::MapPairs(refused_at(alloc, 3), 2);
-    assert!(rt; ask(alloc, first(alloc, 3)?, &query).is_err());
-    let (told, made) = ask(alloc, first(alloc, 2)?, &query)?;
-    assert!(rt; matches!(&told, Answer::Images(map) if map.len() == 2));
-    let contents = match &made {
-        Some(map) => seen(alloc, &map.view()?)?,
-        None => (0, [None; 4]),
-    };
-    assert_eq!(rt; contents, (2, [Some(1), Some(2), None, None]));
-    Ok(())
+    assert!(rt; ask(alloc, first(&rt, alloc, 3), &query).is_err());
+    let two = (2, [Some(1), Some(2), None, None]);
+    assert_eq!(rt; images_of(&rt, alloc, 2, &query), [two; 2]);
+}
+
+// The images of three pairs, where there is memory.
+fn seen_of_piece(rt: &impl Abort, alloc: Global, piece: &Piece<ByteText, i64>) -> Option<Seen> {
+    let query = Imaged::MapPairs(initials(alloc), 2);
+    seen_if_made(rt, alloc, &work(alloc, piece, &query))
 }
 
 #[test]
-fn a_map_that_finds_no_memory_refuses(rt: HostRuntime) -> Result<(), Fail> {
+fn a_map_that_finds_no_memory_refuses(rt: HostRuntime) {
     let alloc = rt.alloc();
-    let piece = whole(alloc, first(alloc, 3)?);
-    let query = Imaged::MapPairs(initials(alloc), 2);
-    let taken = take_all(alloc)?;
-    let refused = work(alloc, &piece, &query).is_err();
+    let piece = whole(alloc, first(&rt, alloc, 3));
+    let taken = take_all(alloc).expect(&rt, "no list");
+    let refused = seen_of_piece(&rt, alloc, &piece).is_none();
     drop(taken);
     assert!(rt; refused);
-    let part = work(alloc, &piece, &query)?;
-    assert!(rt; matches!(&part, Part::Images(_, view) if is_of_initials(seen(alloc, view)?)));
-    Ok(())
+    let contents = seen_of_piece(&rt, alloc, &piece).expect(&rt, "no images");
+    assert!(rt; is_of_initials(contents));
 }
 
-// The images of three pairs, with so many blocks of memory.
-fn worked(
+// The part of their images, with so many blocks of memory.
+fn made_with(
+    rt: &impl Abort,
     alloc: Global,
     piece: &Piece<ByteText, i64>,
     given: usize,
-) -> Result<Option<Seen>, AllocError> {
+) -> Result<Images, NoMemory> {
     let query = Imaged::MapPairs(initials(alloc), 2);
-    let mut blocks = spare(alloc)?;
-    let taken = take_all(alloc)?;
-    give(&mut blocks, given);
-    let answer = work(alloc, piece, &query);
-    drop(taken);
-    match &answer {
-        Ok(part) => Ok(Some(seen_of(alloc, part)?)),
-        Err(_) => Ok(None),
-    }
+    let _taken = take_all_but(rt, alloc, given);
+    work(alloc, piece, &query)
 }
 
 #[test]
-fn images_are_refused_until_there_is_memory(rt: HostRuntime) -> Result<(), Fail> {
+fn images_are_refused_until_there_is_memory(rt: HostRuntime) {
     let alloc = rt.alloc();
-    let piece = whole(alloc, first(alloc, 3)?);
+    let piece = whole(alloc, first(&rt, alloc, 3));
     for given in 0..MOST_GIVEN {
-        if let Some(contents) = worked(alloc, &piece, given)? {
-            assert!(rt; given > 0 && is_of_initials(contents));
-            return Ok(());
+        let contents = seen_if_made(&rt, alloc, &made_with(&rt, alloc, &piece, given));
+        if let Some(contents) = contents {
+            return assert!(rt; given > 0 && is_of_initials(contents));
         }
     }
     assert!(rt; false, "images are refused with memory to spare");
-    Ok(())
 }
 
 // A key and its value, shared.
-fn shared(alloc: Global, text: &str, value: i64) -> Result<(Arc<ByteText>, Arc<i64>), AllocError>
-    ensures { IfOk result (λ pair. (pair.0.value ≡ text.now) × (pair.1.value ≡ value)) }
+fn shared(rt: &impl Abort, alloc: Global, text: &str, value: i64) -> (Arc<ByteText>, Arc<i64>)
+    ensures key { result.0.value ≡ text.now }
+    ensures value { result.1.value ≡ value }
 {
-    Ok((
-        Arc::new(alloc, ByteText::from_text(alloc, text)?)?,
-        Arc::new(alloc, value)?,
-    ))
+    let key = ByteText::from_text(alloc, text).expect(rt, "no text");
+    let key = Arc::new(alloc, key).expect(rt, "no key");
+    (key, Arc::new(alloc, value).expect(rt, "no value"))
+}
+
+// The part of one pair.
+fn one_of(
+    rt: &impl Abort,
+    alloc: Global,
+    query: &Imaged<Initial>,
+    key: &Arc<ByteText>,
+    value: &Arc<i64>,
+) -> Images
+    requires { ⟦<Imaged<Initial> as Bulk<ByteText, i64>>⟧.ready query.now }
+    ensures { ⟦<Imaged<Initial> as Bulk<ByteText, i64>>⟧.answers query.now ((key.now.value, value.now.value) ∷ []) result }
+{
+    query.one(alloc, key, value).expect(rt, "no part")
 }
 
 // What a part of a=1 has after the image of b=3 was added to it with so many blocks of memory.
-fn added(alloc: Global, given: usize) -> Result<(bool, Seen), Fail> {
+fn added(rt: &impl Abort, alloc: Global, given: usize) -> (bool, Seen) {
     let query = Imaged::MapPairs(initials(alloc), 2);
-    let (first, one) = shared(alloc, "a", 1)?;
-    let (second, three) = shared(alloc, "b", 3)?;
-    let mut part = query.one(alloc, &first, &one)?;
-    let mut blocks = spare(alloc)?;
-    let taken = take_all(alloc)?;
-    give(&mut blocks, given);
+    let (first, one) = shared(rt, alloc, "a", 1);
+    let (second, three) = shared(rt, alloc, "b", 3);
+    let mut part = one_of(rt, alloc, &query, &first, &one);
+    let taken = take_all_but(rt, alloc, given);
     let is_added = query.add(alloc, &mut part, &second, &three).is_ok();
     drop(taken);
-    Ok((is_added, seen_of(alloc, &part)?))
-}
-
-// What the map of a part of images has.
-fn seen_of(alloc: Global, part: &Part<ByteText, i64, i128>) -> Result<Seen, AllocError> {
-    match part {
-        Part::Images(_, view) => seen(alloc, view),
-        _ => Ok((0, [None; 4])),
-    }
+    (is_added, seen_of(rt, alloc, &part))
 }
 
 #[test]
-fn a_refused_image_leaves_the_part_as_it_was(rt: HostRuntime) -> Result<(), Fail> {
+fn a_refused_image_leaves_the_part_as_it_was(rt: HostRuntime) {
     let alloc = rt.alloc();
     for given in 0..MOST_GIVEN {
-        let (is_added, contents) = added(alloc, given)?;
+        let (is_added, contents) = added(&rt, alloc, given);
         if is_added {
             assert!(rt; given > 0);
-            assert_eq!(rt; contents, (2, [Some(1), None, Some(3), None]));
-            return Ok(());
+            return assert_eq!(rt; contents, (2, [Some(1), None, Some(3), None]));
         }
         assert_eq!(rt; contents, (1, [Some(1), None, None, None]));
     }
     assert!(rt; false, "an image is refused with memory to spare");
-    Ok(())
 }
 
 // The join of the images of a=1 and of b=3, with so many blocks of memory.
-fn joined_of_two(alloc: Global, given: usize) -> Result<Option<Seen>, Fail> {
+fn joined_of_two(rt: &impl Abort, alloc: Global, given: usize) -> Option<Seen> {
     let query = Imaged::MapPairs(initials(alloc), 2);
-    let (first, one) = shared(alloc, "a", 1)?;
-    let (second, three) = shared(alloc, "b", 3)?;
-    let left = query.one(alloc, &first, &one)?;
-    let right = query.one(alloc, &second, &three)?;
-    let mut blocks = spare(alloc)?;
-    let taken = take_all(alloc)?;
-    give(&mut blocks, given);
+    let (first, one) = shared(rt, alloc, "a", 1);
+    let (second, three) = shared(rt, alloc, "b", 3);
+    let left = one_of(rt, alloc, &query, &first, &one);
+    let right = one_of(rt, alloc, &query, &second, &three);
+    let taken = take_all_but(rt, alloc, given);
     let both = query.join(alloc, &left, &right);
     drop(taken);
-    match &both {
-        Ok(part) => Ok(Some(seen_of(alloc, part)?)),
-        Err(_) => Ok(None),
-    }
+    seen_if_made(rt, alloc, &both)
 }
 
 #[test]
-fn a_join_of_images_is_refused_until_there_is_memory(rt: HostRuntime) -> Result<(), Fail> {
+fn a_join_of_images_is_refused_until_there_is_memory(rt: HostRuntime) {
     let alloc = rt.alloc();
     for given in 0..MOST_GIVEN {
-        if let Some(contents) = joined_of_two(alloc, given)? {
+        if let Some(contents) = joined_of_two(&rt, alloc, given) {
             assert!(rt; given > 0);
-            assert_eq!(rt; contents, (2, [Some(1), None, Some(3), None]));
-            return Ok(());
+            return assert_eq!(rt; contents, (2, [Some(1), None, Some(3), None]));
         }
     }
     assert!(rt; false, "a join of images is refused with memory to spare");
-    Ok(())
 }

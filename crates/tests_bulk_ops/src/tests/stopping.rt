@@ -1,14 +1,16 @@
 //! When a work stops: once its part is settled, and else at the end of its piece.
 
-use super::{first, many};
+use super::{assert_is, first, many};
 use bulk_ops::work;
 use combiner::Bulk;
 use splitter::whole;
 use std::alloc::Global;
+use std::panic::Expect;
+use std::process::Abort;
 use std::sync::Arc;
-use std::test::Fail;
 use test_keys::ChosenKey;
 use trie_node::NoMemory;
+use versions::View;
 
 // Its part is the number of pairs that it was given. It is settled at once, or never.
 #[derive(Drop)]
@@ -49,17 +51,22 @@ impl Bulk<ChosenKey, i64> for Given {
     }
 }
 
+// How many pairs of the view such a work is given.
+fn pairs_given(rt: &impl Abort, alloc: Global, view: View<ChosenKey, i64>, settled: bool) -> u64 {
+    let piece = whole(alloc, view);
+    work(alloc, &piece, &Given { settled }).expect(rt, "no part")
+}
+
 #[test]
-fn a_settled_work_looks_at_no_other_pair(rt: HostRuntime) -> Result<(), Fail> {
+fn a_settled_work_looks_at_no_other_pair(rt: HostRuntime) {
     let alloc = rt.alloc();
     for (settled, want) in [(true, 1), (false, 3)] {
-        let piece = whole(alloc, first(alloc, 3)?);
-        assert_eq!(rt; work(alloc, &piece, &Given { settled })?, want);
+        let seen = pairs_given(&rt, alloc, first(&rt, alloc, 3), settled);
+        assert_is(&rt, seen, want);
     }
     // however many pairs were taken from the trie at a time
     for (settled, want) in [(true, 1), (false, 1_200)] {
-        let piece = whole(alloc, many(alloc, 1_200)?);
-        assert_eq!(rt; work(alloc, &piece, &Given { settled })?, want);
+        let seen = pairs_given(&rt, alloc, many(&rt, alloc, 1_200), settled);
+        assert_is(&rt, seen, want);
     }
-    Ok(())
 }

@@ -6,14 +6,14 @@ use Rattle.tests_bulk_ops.proofs.tests.images.joined_of_two.Goals as goal
 
 -- the two parts are of pairs with two keys
 pub join-both-requires : goal.join-both-requires
-join-both-requires c =
-    let a = c.in_ok-first in
-    let b = c.in_ok-second in
-    let other : is_eq (bytes_cmp a.first.value b.second.value) ≡ false = λ i. is_eq (bytes_cmp (a.ensures.0 i) (b.ensures.0 i)) in
+join-both-requires g c =
+    let a = c.shared-first.result in
+    let b = c.shared-second.result in
+    let other : is_eq (bytes_cmp a.0.value b.0.value) ≡ false = λ i. is_eq (bytes_cmp (c.shared-first.ensures.key i) (c.shared-second.ensures.key i)) in
     ∣ record {
-      first = (a.first.value, a.one.value) ∷ [];
-      second = (b.second.value, b.three.value) ∷ [];
-      first_is = c.in_ok-left.ensures;
-      second_is = c.in_ok-right.ensures;
-      apart = one_apart a.first.value b.second.value a.one.value b.three.value other;
+      first = (a.0.value, a.1.value) ∷ [];
+      second = (b.0.value, b.1.value) ∷ [];
+      first_is = c.one_of-left.ensures;
+      second_is = c.one_of-right.ensures;
+      apart = one_apart a.0.value b.0.value a.1.value b.1.value other;
     } ∣₁
