@@ -17,7 +17,6 @@ use std::fmt::Debug;
 use std::panic::Expect;
 use std::process::Abort;
 use std::sync::Arc;
-use std::test::Fail;
 use test_keys::ChosenKey;
 use trie_node::{Condition, IfAbsent, IfEqual, IfPresent, Stamp};
 use versions::{NoMemory, Refusal, Version};
@@ -28,9 +27,16 @@ type Texts = Version<ByteText, i64>;
 // A map from keys whose path words are chosen.
 type Chosen = Version<ChosenKey, i64>;
 
-// A key of the bytes of a text.
-fn text(alloc: Global, text: &str) -> Result<Arc<ByteText>, NoMemory> {
-    Ok(Arc::new(alloc, ByteText::from_text(alloc, text)?)?)
+// A key of the bytes of a text. Where a step fails that has to be granted, its test ends: no test has an early return,
+// which would have to drop all that the test owns.
+fn text(rt: &impl Abort, alloc: Global, text: &str) -> Arc<ByteText> {
+    let bytes = ByteText::from_text(alloc, text).expect(rt, "no text");
+    Arc::new(alloc, bytes).expect(rt, "no key")
+}
+
+// A shared value.
+fn shared(rt: &impl Abort, alloc: Global, value: i64) -> Arc<i64> {
+    Arc::new(alloc, value).expect(rt, "no value")
 }
 
 // A key with this path word.
@@ -47,8 +53,8 @@ fn value_of<K: PathKey + Drop>(version: &Version<K, i64>, key: &K) -> Option<i64
 }
 
 // The value of the text, or none.
-fn at_text(alloc: Global, version: &Texts, at: &str) -> Result<Option<i64>, NoMemory> {
-    Ok(value_of(version, &*text(alloc, at)?))
+fn at_text(rt: &impl Abort, alloc: Global, version: &Texts, at: &str) -> Option<i64> {
+    value_of(version, &*text(rt, alloc, at))
 }
 
 // What a shared value is.
@@ -61,62 +67,66 @@ fn plainly(value: Option<Arc<i64>>) -> Option<i64> {
 
 // Maps the key to the value, and answers the value before, or none.
 fn put<K: PathKey + Drop>(
+    rt: &impl Abort,
     alloc: Global,
     version: &mut Version<K, i64>,
     key: K,
     value: i64,
 ) -> Result<Option<i64>, Refusal> {
-    let key = Arc::new(alloc, key)?;
-    let value = Arc::new(alloc, value)?;
+    let key = Arc::new(alloc, key).expect(rt, "no key");
+    let value = shared(rt, alloc, value);
     Ok(plainly(version.put(alloc, key, value)?))
 }
 
 // Maps the text to the value, and answers the value before, or none.
 fn put_text(
+    rt: &impl Abort,
     alloc: Global,
     version: &mut Texts,
     at: &str,
     value: i64,
 ) -> Result<Option<i64>, Refusal> {
-    put(alloc, version, ByteText::from_text(alloc, at)?, value)
+    let key = text(rt, alloc, at);
+    let value = shared(rt, alloc, value);
+    Ok(plainly(version.put(alloc, key, value)?))
 }
 
 // Removes the key, and answers the value before, or none.
 fn remove<K: PathKey + Drop>(
+    rt: &impl Abort,
     alloc: Global,
     version: &mut Version<K, i64>,
     key: &K,
-) -> Result<Option<i64>, NoMemory> {
-    Ok(plainly(version.remove(alloc, key)?))
-}
-
-// Removes the text, and answers the value before, or none.
-fn remove_text(alloc: Global, version: &mut Texts, at: &str) -> Result<Option<i64>, NoMemory> {
-    remove(alloc, version, &*text(alloc, at)?)
+) -> Option<i64> {
+    plainly(version.remove(alloc, key).expect(rt, "not removed"))
 }
 
 // Maps the text to the value where the condition holds. It answers the value before and whether it was done.
 fn put_text_where<C: Condition<i64>>(
+    rt: &impl Abort,
     alloc: Global,
     version: &mut Texts,
-    at: &str,
-    value: i64,
+    (at, value): (&str, i64),
     condition: &C,
 ) -> Result<(Option<i64>, bool), Refusal> {
-    let value = Arc::new(alloc, value)?;
-    let change = version.put_where(alloc, text(alloc, at)?, value, condition)?;
+    let key = text(rt, alloc, at);
+    let value = shared(rt, alloc, value);
+    let change = version.put_where(alloc, key, value, condition)?;
     Ok((plainly(change.previous), change.done))
 }
 
 // Removes the text where the condition holds. It answers the value before and whether it was done.
 fn remove_text_where<C: Condition<i64>>(
+    rt: &impl Abort,
     alloc: Global,
     version: &mut Texts,
     at: &str,
     condition: &C,
-) -> Result<(Option<i64>, bool), Refusal> {
-    let change = version.remove_where(alloc, &*text(alloc, at)?, condition)?;
-    Ok((plainly(change.previous), change.done))
+) -> (Option<i64>, bool) {
+    let key = text(rt, alloc, at);
+    let change = version.remove_where(alloc, &*key, condition);
+    let change = change.expect(rt, "not removed");
+    (plainly(change.previous), change.done)
 }
 
 // Removes all pairs.
@@ -136,34 +146,40 @@ fn fork<K: PathKey + Drop>(
 }
 
 // A version that maps a to 1, b to 2 and c to 3.
-fn of_three(alloc: Global, stamp: Stamp) -> Result<Texts, Refusal> {
-    let mut version = Version::empty(alloc, 10, stamp)?;
+fn of_three(rt: &impl Abort, alloc: Global, stamp: Stamp) -> Texts {
+    let mut version = Version::empty(alloc, 10, stamp).expect(rt, "no map");
     for (at, value) in [("a", 1), ("b", 2), ("c", 3)] {
-        put_text(alloc, &mut version, at, value)?;
+        assert_put(rt, alloc, &mut version, (at, value), Ok(None));
     }
-    Ok(version)
+    version
 }
 
 // The version of three pairs, and the source of its stamp.
-fn started(alloc: Global) -> Result<(Texts, Source), Refusal> {
+fn started(rt: &impl Abort, alloc: Global) -> (Texts, Source) {
     let mut source = Source::new();
-    let version = of_three(alloc, source.next())?;
-    Ok((version, source))
+    let version = of_three(rt, alloc, source.next());
+    (version, source)
 }
 
 // A version with no pairs, the stamp 1 and this limit.
-fn empty<K: PathKey + Drop>(
-    rt: &impl Abort,
-    alloc: Global,
-    limit: u64,
-) -> Result<Version<K, i64>, NoMemory> {
+fn empty<K: PathKey + Drop>(rt: &impl Abort, alloc: Global, limit: u64) -> Version<K, i64> {
     assert!(rt; 1 <= limit && limit <= 1000);
-    Version::empty(alloc, limit, Stamp(1))
+    Version::empty(alloc, limit, Stamp(1)).expect(rt, "no map")
 }
 
 // Whether the key is there.
 fn has<K: PathKey + Drop>(version: &Version<K, i64>, key: &K) -> bool {
     version.contains_key(key)
+}
+
+// Whether there are no pairs.
+fn is_empty(version: &Texts) -> bool {
+    version.is_empty()
+}
+
+// The limit and the stamp.
+fn limit_and_stamp(version: &Texts) -> (u64, Stamp) {
+    (version.limit(), version.stamp())
 }
 
 // How many pairs there are.
@@ -197,14 +213,26 @@ fn assert_own<K: PathKey + Drop>(rt: &impl Abort, version: &Version<K, i64>, wan
     assert_is(rt, version.own_nodes(), want);
 }
 
-// The value of the key, or none.
+// The value of the key, or none, and whether it is there.
 fn assert_value(rt: &impl Abort, version: &Chosen, key: ChosenKey, want: Option<i64>) {
     assert_is(rt, value_of(version, &key), want);
+    assert_is(rt, has(version, &key), want.is_some());
+}
+
+// What a put of the key is answered: the value before, or none.
+fn assert_before(
+    rt: &impl Abort,
+    alloc: Global,
+    version: &mut Chosen,
+    (key, value): (ChosenKey, i64),
+    want: Option<i64>,
+) {
+    assert_is(rt, put(rt, alloc, version, key, value), Ok(want));
 }
 
 // The value of the text, or none.
 fn assert_text(rt: &impl Abort, alloc: Global, version: &Texts, at: &str, want: Option<i64>) {
-    assert_is(rt, at_text(alloc, version, at), Ok(want));
+    assert_is(rt, at_text(rt, alloc, version, at), want);
 }
 
 // What a put of the text is answered.
@@ -215,7 +243,7 @@ fn assert_put(
     (at, value): (&str, i64),
     want: Result<Option<i64>, Refusal>,
 ) {
-    assert_is(rt, put_text(alloc, version, at, value), want);
+    assert_is(rt, put_text(rt, alloc, version, at, value), want);
 }
 
 // What a removal of the text is answered.
@@ -226,75 +254,70 @@ fn assert_removal(
     at: &str,
     want: Option<i64>,
 ) {
-    assert_is(rt, remove_text(alloc, version, at), Ok(want));
+    let key = text(rt, alloc, at);
+    assert_is(rt, remove(rt, alloc, version, &*key), want);
 }
 
 #[test]
-fn a_new_map_is_empty(rt: HostRuntime) -> Result<(), Fail> {
+fn a_new_map_is_empty(rt: HostRuntime) {
     let alloc = rt.alloc();
-    let version: Texts = Version::empty(alloc, 2, Stamp(7))?;
-    assert_is(&rt, (version.is_empty(), version.len()), (true, 0));
-    assert_is(&rt, (version.limit(), version.stamp()), (2, Stamp(7)));
-    assert_is(&rt, version.own_nodes(), 1);
+    let version: Texts = Version::empty(alloc, 2, Stamp(7)).expect(&rt, "no map");
+    assert_is(&rt, (is_empty(&version), len(&version)), (true, 0));
+    assert_is(&rt, limit_and_stamp(&version), (2, Stamp(7)));
+    assert_own(&rt, &version, 1);
     assert_is(&rt, trie_node::size(version.root()), 0);
     assert_text(&rt, alloc, &version, "a", None);
-    Ok(())
 }
 
 #[test]
-fn a_put_answers_the_value_before(rt: HostRuntime) -> Result<(), Fail> {
+fn a_put_answers_the_value_before(rt: HostRuntime) {
     let alloc = rt.alloc();
-    let mut version = empty(&rt, alloc, 10)?;
+    let mut version = empty(&rt, alloc, 10);
     for (path, value, before) in [
         (5, 50, None),
         (3, 30, None),
         (9, 90, None),
         (3, 31, Some(30)),
     ] {
-        let answer = put(alloc, &mut version, chosen(path, 0), value);
-        assert_is(&rt, (path, answer), (path, Ok(before)));
+        let pair = (chosen(path, 0), value);
+        assert_before(&rt, alloc, &mut version, pair, before);
     }
     assert_is(&rt, len(&version), 3);
     for (path, value) in [(3, Some(31)), (4, None), (5, Some(50)), (9, Some(90))] {
-        let key = chosen(path, 0);
-        assert_is(&rt, (path, value_of(&version, &key)), (path, value));
-        assert_is(&rt, (path, has(&version, &key)), (path, value.is_some()));
+        assert_value(&rt, &version, chosen(path, 0), value);
     }
-    Ok(())
 }
 
 #[test]
-fn a_third_key_is_full_and_a_key_that_is_there_never_is(rt: HostRuntime) -> Result<(), Fail> {
+fn a_third_key_is_full_and_a_key_that_is_there_never_is(rt: HostRuntime) {
     let alloc = rt.alloc();
-    let mut version = empty(&rt, alloc, 2)?;
+    let mut version = empty(&rt, alloc, 2);
     for (at, value, answer) in [
         ("a", 10, Ok(None)),
         ("b", 20, Ok(None)),
         ("c", 30, Err(Refusal::Full)),
         ("a", 11, Ok(Some(10))),
     ] {
-        let given = put_text(alloc, &mut version, at, value);
-        assert_is(&rt, (value, given), (value, answer));
+        assert_put(&rt, alloc, &mut version, (at, value), answer);
     }
     assert_is(&rt, len(&version), 2);
     assert_text(&rt, alloc, &version, "c", None);
     assert_removal(&rt, alloc, &mut version, "b", Some(20));
     assert_put(&rt, alloc, &mut version, ("c", 30), Ok(None));
-    Ok(())
 }
 
 // A version that maps a to 1, and the source of its stamp.
-fn with_one(alloc: Global) -> Result<(Texts, Source), Refusal> {
+fn with_one(rt: &impl Abort, alloc: Global) -> (Texts, Source) {
     let mut source = Source::new();
-    let mut version = Version::empty(alloc, 10, source.next())?;
-    put_text(alloc, &mut version, "a", 1)?;
-    Ok((version, source))
+    let mut version = Version::empty(alloc, 10, source.next()).expect(rt, "no map");
+    assert_put(rt, alloc, &mut version, ("a", 1), Ok(None));
+    (version, source)
 }
 
 #[test]
-fn a_put_shows_in_no_fork(rt: HostRuntime) -> Result<(), Fail> {
+fn a_put_shows_in_no_fork(rt: HostRuntime) {
     let alloc = rt.alloc();
-    let (mut first, mut source) = with_one(alloc)?;
+    let (mut first, mut source) = with_one(&rt, alloc);
     let mut second = fork(&rt, &mut first, &mut source);
     assert_put(&rt, alloc, &mut first, ("a", 9), Ok(Some(1)));
     assert_text(&rt, alloc, &second, "a", Some(1));
@@ -304,49 +327,94 @@ fn a_put_shows_in_no_fork(rt: HostRuntime) -> Result<(), Fail> {
     assert_text(&rt, alloc, &third, "b", None);
     assert_text(&rt, alloc, &first, "a", Some(9));
     assert_is(&rt, (third.limit(), source.issued()), (10, 5));
-    Ok(())
 }
 
-// The value before, and whether the write was done.
-fn assert_change(
+// What a put of the text under a condition is answered: the value before, and whether it was done.
+fn assert_put_where<C: Condition<i64>>(
     rt: &impl Abort,
-    seen: Result<(Option<i64>, bool), Refusal>,
+    alloc: Global,
+    version: &mut Texts,
+    put: (&str, i64),
+    condition: &C,
+    want: Result<(Option<i64>, bool), Refusal>,
+) {
+    assert_is(rt, put_text_where(rt, alloc, version, put, condition), want);
+}
+
+// What a removal of the text under a condition is answered: the value before, and whether it was done.
+fn assert_removal_where<C: Condition<i64>>(
+    rt: &impl Abort,
+    alloc: Global,
+    version: &mut Texts,
+    at: &str,
+    condition: &C,
     want: (Option<i64>, bool),
 ) {
-    assert_is(rt, seen, Ok(want));
+    let told = remove_text_where(rt, alloc, version, at, condition);
+    assert_is(rt, told, want);
 }
 
 #[test]
-fn a_put_under_a_condition_tells_whether_it_was_done(rt: HostRuntime) -> Result<(), Fail> {
+fn a_put_under_a_condition_tells_whether_it_was_done(rt: HostRuntime) {
     let alloc = rt.alloc();
-    let mut map = empty(&rt, alloc, 1)?;
-    let told = put_text_where(alloc, &mut map, "a", 5, &IfPresent);
-    assert_change(&rt, told, (None, false));
-    let told = put_text_where(alloc, &mut map, "a", 5, &IfAbsent);
-    assert_change(&rt, told, (None, true));
-    let told = put_text_where(alloc, &mut map, "a", 6, &IfAbsent);
-    assert_change(&rt, told, (Some(5), false));
-    let told = put_text_where(alloc, &mut map, "a", 6, &IfEqual(&6));
-    assert_change(&rt, told, (Some(5), false));
-    let told = put_text_where(alloc, &mut map, "a", 6, &IfEqual(&5));
-    assert_change(&rt, told, (Some(5), true));
-    let told = put_text_where(alloc, &mut map, "b", 6, &IfAbsent);
-    assert_is(&rt, told, Err(Refusal::Full));
-    let told = put_text_where(alloc, &mut map, "b", 6, &IfPresent);
-    assert_change(&rt, told, (None, false));
+    let mut map = empty(&rt, alloc, 1);
+    assert_put_where(
+        &rt,
+        alloc,
+        &mut map,
+        ("a", 5),
+        &IfPresent,
+        Ok((None, false)),
+    );
+    assert_put_where(&rt, alloc, &mut map, ("a", 5), &IfAbsent, Ok((None, true)));
+    assert_put_where(
+        &rt,
+        alloc,
+        &mut map,
+        ("a", 6),
+        &IfAbsent,
+        Ok((Some(5), false)),
+    );
+    assert_put_where(
+        &rt,
+        alloc,
+        &mut map,
+        ("a", 6),
+        &IfEqual(&6),
+        Ok((Some(5), false)),
+    );
+    assert_put_where(
+        &rt,
+        alloc,
+        &mut map,
+        ("a", 6),
+        &IfEqual(&5),
+        Ok((Some(5), true)),
+    );
+    assert_put_where(
+        &rt,
+        alloc,
+        &mut map,
+        ("b", 6),
+        &IfAbsent,
+        Err(Refusal::Full),
+    );
+    assert_put_where(
+        &rt,
+        alloc,
+        &mut map,
+        ("b", 6),
+        &IfPresent,
+        Ok((None, false)),
+    );
     assert_text(&rt, alloc, &map, "a", Some(6));
-    Ok(())
 }
 
 #[test]
-fn a_removal_under_a_condition_tells_whether_it_was_done(rt: HostRuntime) -> Result<(), Fail> {
+fn a_removal_under_a_condition_tells_whether_it_was_done(rt: HostRuntime) {
     let alloc = rt.alloc();
-    let mut map = of_three(alloc, Stamp(1))?;
-    let told = remove_text_where(alloc, &mut map, "a", &IfEqual(&5));
-    assert_change(&rt, told, (Some(1), false));
-    let told = remove_text_where(alloc, &mut map, "a", &IfEqual(&1));
-    assert_change(&rt, told, (Some(1), true));
-    let told = remove_text_where(alloc, &mut map, "a", &IfPresent);
-    assert_change(&rt, told, (None, false));
-    Ok(())
+    let mut map = of_three(&rt, alloc, Stamp(1));
+    assert_removal_where(&rt, alloc, &mut map, "a", &IfEqual(&5), (Some(1), false));
+    assert_removal_where(&rt, alloc, &mut map, "a", &IfEqual(&1), (Some(1), true));
+    assert_removal_where(&rt, alloc, &mut map, "a", &IfPresent, (None, false));
 }

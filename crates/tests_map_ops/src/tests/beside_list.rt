@@ -1,15 +1,15 @@
 //! Many calls on versions that fork from one another, and on a plain sorted list beside each, which answer alike.
-use super::plain::{Pair, find_pair, put_pair, without_pair};
+use super::plain::{Pair, find_pair, put_pair, shared_pair, without_pair};
 use super::shape::{Shown, walk};
-use super::{Chosen, assert_is, chosen, fork, plainly, value_of};
+use super::{Chosen, assert_is, chosen, fork, plainly, remove, shared, value_of};
 use generation::Source;
-use std::alloc::{AllocError, Global};
+use std::alloc::Global;
+use std::panic::Expect;
 use std::process::Abort;
 use std::sync::Arc;
-use std::test::Fail;
 use test_keys::ChosenKey;
 use trie_node::Stamp;
-use versions::{NoMemory, Refusal, Version};
+use versions::Version;
 
 // Few words, which part at different levels.
 const WORDS: [u64; 8] = [
@@ -43,6 +43,9 @@ fn key_of(number: u32) -> ChosenKey {
     chosen(WORDS[(number % 8) as usize], number / 8 % KEYS)
 }
 
+// What a list and a version answer.
+type Answers = (Option<i64>, Option<i64>);
+
 // A list and the version that is to be like it.
 #[derive(Drop)]
 struct Both {
@@ -60,70 +63,59 @@ fn listed(list: &[Pair<ChosenKey, i64>], key: &ChosenKey) -> Option<i64> {
 
 // Another handle on each pair.
 fn copied(
+    rt: &impl Abort,
     alloc: Global,
     list: &[Pair<ChosenKey, i64>],
-) -> Result<Vec<Pair<ChosenKey, i64>>, NoMemory> {
+) -> Vec<Pair<ChosenKey, i64>> {
     let mut all = Vec::new(alloc);
     for (key, value) in list {
-        all.push((Arc::try_clone(key)?, Arc::try_clone(value)?))?;
+        let pair = shared_pair(key, value).expect(rt, "no handles");
+        all.push(pair).expect(rt, "no room");
     }
-    Ok(all)
+    all
 }
 
 impl Both {
     // An empty list and an empty version.
-    fn new(alloc: Global) -> Result<Both, NoMemory> {
-        Ok(Both {
+    fn new(rt: &impl Abort, alloc: Global) -> Both {
+        Both {
             list: Vec::new(alloc),
-            version: Version::empty(alloc, 100, Stamp::LOOSE)?,
-        })
+            version: empty(rt, alloc),
+        }
     }
 
     // Puts the value at the key in both, and answers what each answers.
-    fn put(
-        &mut self,
-        alloc: Global,
-        key: ChosenKey,
-        value: i64,
-    ) -> Result<(Option<i64>, Option<i64>), Fail> {
+    fn put(&mut self, rt: &impl Abort, alloc: Global, key: ChosenKey, value: i64) -> Answers {
         let before = listed(&self.list, &key);
-        let key = Arc::new(alloc, key)?;
-        let value = Arc::new(alloc, value)?;
-        self.list = put_pair(alloc, &self.list, &key, &value)?;
-        Ok((before, plainly(self.version.put(alloc, key, value)?)))
+        let key = Arc::new(alloc, key).expect(rt, "no key");
+        let value = shared(rt, alloc, value);
+        self.list = put_pair(alloc, &self.list, &key, &value).expect(rt, "no list");
+        let put = self.version.put(alloc, key, value);
+        (before, plainly(put.expect(rt, "not put")))
     }
 
     // Removes the key from both, and answers what each answers.
-    fn remove(
-        &mut self,
-        alloc: Global,
-        key: &ChosenKey,
-    ) -> Result<(Option<i64>, Option<i64>), Fail> {
+    fn remove(&mut self, rt: &impl Abort, alloc: Global, key: &ChosenKey) -> Answers {
         let before = listed(&self.list, key);
-        self.list = without_pair(alloc, &self.list, key)?;
-        Ok((before, plainly(self.version.remove(alloc, key)?)))
+        self.list = without_pair(alloc, &self.list, key).expect(rt, "no list");
+        (before, remove(rt, alloc, &mut self.version, key))
     }
 
     // A copy of the list and a fork of the version.
-    fn fork(
-        &mut self,
-        rt: &impl Abort,
-        alloc: Global,
-        source: &mut Source,
-    ) -> Result<Both, NoMemory> {
-        Ok(Both {
-            list: copied(alloc, &self.list)?,
+    fn fork(&mut self, rt: &impl Abort, alloc: Global, source: &mut Source) -> Both {
+        Both {
+            list: copied(rt, alloc, &self.list),
             version: fork(rt, &mut self.version, source),
-        })
+        }
     }
 
     // A put, or else a removal, which a number picks. It answers what each answers.
-    fn write(&mut self, alloc: Global, number: u32) -> Result<(Option<i64>, Option<i64>), Fail> {
+    fn write(&mut self, rt: &impl Abort, alloc: Global, number: u32) -> Answers {
         let key = key_of(number / 2);
         if number % 2 == 0 {
-            self.put(alloc, key, i64::from(number))
+            self.put(rt, alloc, key, i64::from(number))
         } else {
-            self.remove(alloc, &key)
+            self.remove(rt, alloc, &key)
         }
     }
 
@@ -139,36 +131,41 @@ impl Both {
     }
 
     // Whether the version has the nodes of a version into which the pairs of the list were put.
-    fn has_shape(&self, alloc: Global) -> Result<bool, Fail> {
-        let made = of_pairs(alloc, &self.list)?;
-        let (nodes, made_nodes) = (nodes_of(alloc, &self.version)?, nodes_of(alloc, &made)?);
-        Ok(nodes.as_slice() == made_nodes.as_slice())
+    fn has_shape(&self, rt: &impl Abort, alloc: Global) -> bool {
+        let made = of_pairs(rt, alloc, &self.list);
+        nodes_of(rt, alloc, &self.version).as_slice() == nodes_of(rt, alloc, &made).as_slice()
     }
+}
+
+// An empty version.
+fn empty(rt: &impl Abort, alloc: Global) -> Chosen {
+    Version::empty(alloc, 100, Stamp::LOOSE).expect(rt, "no map")
 }
 
 // The nodes of the version's trie, as a walk meets them.
-fn nodes_of(alloc: Global, version: &Chosen) -> Result<Vec<Shown>, AllocError> {
+fn nodes_of(rt: &impl Abort, alloc: Global, version: &Chosen) -> Vec<Shown> {
     let mut nodes = Vec::new(alloc);
-    walk(version.root(), 0, &mut nodes)?;
-    Ok(nodes)
+    walk(version.root(), 0, &mut nodes).expect(rt, "no list");
+    nodes
 }
 
 // A version into which the pairs are put.
-fn of_pairs(alloc: Global, list: &[Pair<ChosenKey, i64>]) -> Result<Chosen, Refusal> {
-    let mut made = Version::empty(alloc, 100, Stamp::LOOSE)?;
+fn of_pairs(rt: &impl Abort, alloc: Global, list: &[Pair<ChosenKey, i64>]) -> Chosen {
+    let mut made = empty(rt, alloc);
     for (key, value) in list {
-        made.put(alloc, Arc::try_clone(key)?, Arc::try_clone(value)?)?;
+        let (key, value) = shared_pair(key, value).expect(rt, "no handles");
+        made.put(alloc, key, value).expect(rt, "not put");
     }
-    Ok(made)
+    made
 }
 
 // Empty lists with their versions.
-fn all_empty(alloc: Global) -> Result<Vec<Both>, Fail> {
+fn all_empty(rt: &impl Abort, alloc: Global) -> Vec<Both> {
     let mut all = Vec::new(alloc);
     for _ in 0..VERSIONS {
-        all.push(Both::new(alloc)?)?;
+        all.push(Both::new(rt, alloc)).expect(rt, "no room");
     }
-    Ok(all)
+    all
 }
 
 // Makes the call that the number picks: one in 16 forks a version in place of another, the others write. It tells what
@@ -179,33 +176,32 @@ fn call(
     all: &mut Vec<Both>,
     source: &mut Source,
     number: u32,
-) -> Result<(Option<i64>, Option<i64>), Fail> {
-    let Some(both) = all.get_mut(number as usize % VERSIONS) else {
-        return Err(Fail::new("there are eight versions"));
-    };
+) -> Answers {
+    let both = all.get_mut(number as usize % VERSIONS);
+    let both = both.expect(rt, "there are eight versions");
     if number / 8 % 16 != 0 {
-        return both.write(alloc, number / 128);
+        return both.write(rt, alloc, number / 128);
     }
-    let copy = both.fork(rt, alloc, source)?;
+    let copy = both.fork(rt, alloc, source);
     if let Some(place) = all.get_mut(number as usize / 128 % VERSIONS) {
         *place = copy;
     }
-    Ok((None, None))
+    (None, None)
 }
 
 #[test]
-fn many_calls_are_answered_as_by_sorted_lists(rt: HostRuntime) -> Result<(), Fail> {
+fn many_calls_are_answered_as_by_sorted_lists(rt: HostRuntime) {
     let alloc = rt.alloc();
     let mut source = Source::new();
-    let mut all = all_empty(alloc)?;
+    let mut all = all_empty(&rt, alloc);
     let mut number = 2463534242;
     for turn in 0..CALLS {
         number = shuffled(number);
-        let (listed, found) = call(&rt, alloc, &mut all, &mut source, number)?;
+        let (listed, found) = call(&rt, alloc, &mut all, &mut source, number);
         assert_is(&rt, (turn, listed), (turn, found));
     }
     for both in &all {
-        assert_is(&rt, (both.is_alike(), both.has_shape(alloc)?), (true, true));
+        let alike = (both.is_alike(), both.has_shape(&rt, alloc));
+        assert_is(&rt, alike, (true, true));
     }
-    Ok(())
 }

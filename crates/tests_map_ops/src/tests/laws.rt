@@ -2,12 +2,11 @@
 ghost use Rattle.std.specs.Prelude.{◌≡◌, [], map, None, Some, OnOk, Contains};
 ghost use Rattle.versions.specs.Map.{value_at};
 
-use super::{Chosen, chosen};
+use super::{Chosen, chosen, empty, shared};
 use hash_path::PathKey;
 use std::alloc::Global;
+use std::panic::Expect;
 use std::sync::Arc;
-use std::test::Fail;
-use trie_node::Stamp;
 use versions::{Refusal, Version, law_of_equal_maps, law_of_names, law_of_put, law_of_removal};
 
 // The root's name is the empty prefix, so each version has it.
@@ -35,36 +34,31 @@ fn put_there<K: PathKey + Drop>(
 fn put_and_removed<K: PathKey + Drop>(
     alloc: Global,
     version: &mut Version<K, i64>,
-    key: Arc<K>,
+    key: &Arc<K>,
     value: Arc<i64>,
 ) -> Result<(), Refusal>
-    ensures { OnOk result (value_at K.cmp version.old.entries key.value ≡ None → version.new.entries ≡ version.old.entries) }
+    ensures { OnOk result (value_at K.cmp version.old.entries key.now.value ≡ None → version.new.entries ≡ version.old.entries) }
 {
     law_of_put::<K, i64>();
     law_of_removal::<K, i64>();
     law_of_equal_maps::<K, i64>();
     let _ = version.len();
-    let same = Arc::try_clone(&key)?;
-    version.put(alloc, key, value)?;
-    version.remove(alloc, &*same)?;
+    let same = Arc::try_clone(key)?;
+    version.put(alloc, same, value)?;
+    version.remove(alloc, &**key)?;
     Ok(())
 }
 
 #[test]
-fn laws_tell_of_versions(rt: HostRuntime) -> Result<(), Fail> {
+fn laws_tell_of_versions(rt: HostRuntime) {
     let alloc = rt.alloc();
-    let mut version: Chosen = Version::empty(alloc, 1, Stamp(1))?;
+    let mut version: Chosen = empty(&rt, alloc, 1);
     has_a_root(&version);
-    let key = Arc::new(alloc, chosen(0, 0))?;
-    let one = Arc::new(alloc, 1)?;
-    put_and_removed(
-        alloc,
-        &mut version,
-        Arc::try_clone(&key)?,
-        Arc::try_clone(&one)?,
-    )?;
+    let key = Arc::new(alloc, chosen(0, 0)).expect(&rt, "no key");
+    let put = put_and_removed(alloc, &mut version, &key, shared(&rt, alloc, 1));
+    put.expect(&rt, "not put and removed");
     assert!(rt; version.is_empty());
-    put_there(alloc, &mut version, key, one)?;
+    let put = put_there(alloc, &mut version, key, shared(&rt, alloc, 1));
+    put.expect(&rt, "not put");
     assert!(rt; version.contains_key(&chosen(0, 0)));
-    Ok(())
 }

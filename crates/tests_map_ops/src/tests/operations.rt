@@ -2,132 +2,216 @@
 mod limits;
 mod nodes;
 
-use super::assert_is;
-use keys::ByteText;
+use super::{Texts, assert_is, at_text, empty, len, plainly, shared, text};
 use map_ops::{get_or_else_update, put, put_if_absent, remove, remove_if, replace, replace_if};
 use std::alloc::Global;
-use std::sync::Arc;
-use std::test::Fail;
-use trie_node::{NoMemory, Stamp};
-use versions::{Refusal, Version};
+use std::process::Abort;
+use versions::Refusal;
 
-// A map of texts to numbers.
-type Map = Version<ByteText, i64>;
-
-// A key of the bytes of a text.
-fn key(alloc: Global, text: &str) -> Result<Arc<ByteText>, NoMemory> {
-    let bytes = Vec::from_slice(alloc, text.as_bytes())?;
-    Ok(Arc::new(alloc, ByteText::new(bytes))?)
+// An operation on one key, with its values.
+#[derive(Clone, Copy)]
+enum Call {
+    Get,
+    Put(i64),
+    PutIfAbsent(i64),
+    Replace(i64),
+    ReplaceIf(i64, i64),
+    Remove,
+    RemoveIf(i64),
+    GetOrElseUpdate(i64),
 }
 
-// An empty map of up to ten pairs.
-fn empty(alloc: Global) -> Result<Map, NoMemory> {
-    Version::empty(alloc, 10, Stamp(1))
+// What an operation answers.
+#[derive(Clone, Copy, Debug, PartialEq, Eq)]
+enum Answer {
+    // The value before, or none.
+    Was(Option<i64>),
+    // Whether it was done.
+    Done(bool),
+    // The value that is then there, and whether the closure ran that makes it.
+    Is(i64, bool),
 }
 
-// What a shared value is.
-fn plain(value: Option<Arc<i64>>) -> Option<i64> {
-    match value {
-        Some(value) => Some(*value),
-        None => None,
-    }
-}
-
-// The value of the key, or none.
-fn value_at(alloc: Global, map: &Map, at: &str) -> Result<Option<i64>, NoMemory> {
-    match map.get(&*key(alloc, at)?) {
-        Some(value) => Ok(Some(**value)),
-        None => Ok(None),
-    }
-}
+// A call, its key, and what it answers.
+type Row<'a> = (Call, &'a str, Result<Answer, Refusal>);
 
 // Puts the value, and answers the one before.
-fn put_at(alloc: Global, map: &mut Map, at: &str, value: i64) -> Result<Option<i64>, Refusal> {
-    Ok(plain(put(map, alloc, key(alloc, at)?, Arc::new(alloc, value)?)?))
+fn put_at(
+    rt: &impl Abort,
+    alloc: Global,
+    map: &mut Texts,
+    at: &str,
+    value: i64,
+) -> Result<Option<i64>, Refusal> {
+    let key = text(rt, alloc, at);
+    Ok(plainly(put(map, alloc, key, shared(rt, alloc, value))?))
 }
 
 // Puts the value where there is none, and answers the one before.
-fn add_at(alloc: Global, map: &mut Map, at: &str, value: i64) -> Result<Option<i64>, Refusal> {
-    Ok(plain(put_if_absent(map, alloc, key(alloc, at)?, Arc::new(alloc, value)?)?))
+fn add_at(
+    rt: &impl Abort,
+    alloc: Global,
+    map: &mut Texts,
+    at: &str,
+    value: i64,
+) -> Result<Option<i64>, Refusal> {
+    let key = text(rt, alloc, at);
+    Ok(plainly(put_if_absent(map, alloc, key, shared(rt, alloc, value))?))
 }
 
 // Puts the value where there is one, and answers the one before.
-fn replace_at(alloc: Global, map: &mut Map, at: &str, value: i64) -> Result<Option<i64>, Refusal> {
-    Ok(plain(replace(map, alloc, key(alloc, at)?, Arc::new(alloc, value)?)?))
+fn replace_at(
+    rt: &impl Abort,
+    alloc: Global,
+    map: &mut Texts,
+    at: &str,
+    value: i64,
+) -> Result<Option<i64>, Refusal> {
+    let key = text(rt, alloc, at);
+    Ok(plainly(replace(map, alloc, key, shared(rt, alloc, value))?))
 }
 
 // Puts the new value where the old one is, and answers whether it was.
-fn swap_at(alloc: Global, map: &mut Map, at: &str, old: i64, new: i64) -> Result<bool, Refusal> {
-    replace_if(map, alloc, key(alloc, at)?, &old, Arc::new(alloc, new)?)
+fn swap_at(
+    rt: &impl Abort,
+    alloc: Global,
+    map: &mut Texts,
+    at: &str,
+    (old, new): (i64, i64),
+) -> Result<bool, Refusal> {
+    let key = text(rt, alloc, at);
+    replace_if(map, alloc, key, &old, shared(rt, alloc, new))
 }
 
 // Removes the key, and answers the value before.
-fn remove_at(alloc: Global, map: &mut Map, at: &str) -> Result<Option<i64>, Refusal> {
-    Ok(plain(remove(map, alloc, &*key(alloc, at)?)?))
+fn remove_at(
+    rt: &impl Abort,
+    alloc: Global,
+    map: &mut Texts,
+    at: &str,
+) -> Result<Option<i64>, Refusal> {
+    let key = text(rt, alloc, at);
+    Ok(remove(map, alloc, &*key).map(plainly)?)
 }
 
 // Removes the key where the value is this one, and answers whether it was.
-fn remove_value_at(alloc: Global, map: &mut Map, at: &str, value: i64) -> Result<bool, Refusal> {
-    remove_if(map, alloc, &*key(alloc, at)?, &value)
+fn remove_value_at(
+    rt: &impl Abort,
+    alloc: Global,
+    map: &mut Texts,
+    at: &str,
+    value: i64,
+) -> Result<bool, Refusal> {
+    let key = text(rt, alloc, at);
+    remove_if(map, alloc, &*key, &value)
 }
 
-// The value of the key, which is this one where there was none.
-fn get_or_put(alloc: Global, map: &mut Map, at: &str, value: i64) -> Result<i64, Refusal> {
-    Ok(*get_or_else_update(map, alloc, key(alloc, at)?, || value)?)
-}
-
-#[test]
-fn conditional_writes_of_one_key(rt: HostRuntime) -> Result<(), Fail> {
-    let alloc = rt.alloc();
-    let mut map = empty(alloc)?;
-    assert_is(&rt, put_at(alloc, &mut map, "a", 5), Ok(None));
-    assert_is(&rt, add_at(alloc, &mut map, "a", 6), Ok(Some(5)));
-    assert_is(&rt, swap_at(alloc, &mut map, "a", 6, 8), Ok(false));
-    assert_is(&rt, swap_at(alloc, &mut map, "a", 5, 8), Ok(true));
-    assert_is(&rt, remove_value_at(alloc, &mut map, "a", 5), Ok(false));
-    assert_is(&rt, remove_value_at(alloc, &mut map, "a", 8), Ok(true));
-    assert_is(&rt, replace_at(alloc, &mut map, "a", 1), Ok(None));
-    assert_is(&rt, get_or_put(alloc, &mut map, "a", 4), Ok(4));
-    assert_is(&rt, get_or_put(alloc, &mut map, "a", 6), Ok(4));
-    assert_is(&rt, map.len(), 1);
-    Ok(())
-}
-
-#[test]
-fn writes_of_a_key_that_is_there_and_of_one_that_is_not(rt: HostRuntime) -> Result<(), Fail> {
-    let alloc = rt.alloc();
-    let mut map = empty(alloc)?;
-    assert_is(&rt, remove_at(alloc, &mut map, "a"), Ok(None));
-    assert_is(&rt, remove_value_at(alloc, &mut map, "a", 0), Ok(false));
-    assert_is(&rt, swap_at(alloc, &mut map, "a", 0, 1), Ok(false));
-    assert_is(&rt, add_at(alloc, &mut map, "a", 1), Ok(None));
-    assert_is(&rt, replace_at(alloc, &mut map, "a", 2), Ok(Some(1)));
-    assert_is(&rt, put_at(alloc, &mut map, "a", 3), Ok(Some(2)));
-    assert_is(&rt, value_at(alloc, &map, "a"), Ok(Some(3)));
-    assert_is(&rt, remove_at(alloc, &mut map, "a"), Ok(Some(3)));
-    assert_is(&rt, value_at(alloc, &map, "a"), Ok(None));
-    assert_is(&rt, map.len(), 0);
-    Ok(())
-}
-
-#[test]
-fn the_closure_runs_where_the_key_is_absent_alone(rt: HostRuntime) -> Result<(), Fail> {
-    let alloc = rt.alloc();
-    let mut map = empty(alloc)?;
+// The value of the key, which is this one where there was none, and whether the closure ran that makes it.
+fn get_or_put(
+    rt: &impl Abort,
+    alloc: Global,
+    map: &mut Texts,
+    at: &str,
+    value: i64,
+) -> Result<(i64, bool), Refusal> {
+    let key = text(rt, alloc, at);
     let mut ran = false;
-    let made = get_or_else_update(&mut map, alloc, key(alloc, "a")?, || {
+    let found = get_or_else_update(map, alloc, key, || {
         ran = true;
-        4
+        value
     })?;
-    assert_is(&rt, *made, 4);
-    assert!(rt; ran);
-    let mut again = false;
-    let found = get_or_else_update(&mut map, alloc, key(alloc, "a")?, || {
-        again = true;
-        6
-    })?;
-    assert_is(&rt, *found, 4);
-    assert!(rt; !again);
-    assert_is(&rt, value_at(alloc, &map, "a"), Ok(Some(4)));
-    Ok(())
+    Ok((*found, ran))
+}
+
+// What the call on the key answers.
+fn answer_of(
+    rt: &impl Abort,
+    alloc: Global,
+    map: &mut Texts,
+    call: Call,
+    at: &str,
+) -> Result<Answer, Refusal> {
+    Ok(match call {
+        Call::Get => Answer::Was(at_text(rt, alloc, map, at)),
+        Call::Put(value) => Answer::Was(put_at(rt, alloc, map, at, value)?),
+        Call::PutIfAbsent(value) => Answer::Was(add_at(rt, alloc, map, at, value)?),
+        Call::Replace(value) => Answer::Was(replace_at(rt, alloc, map, at, value)?),
+        Call::ReplaceIf(old, new) => Answer::Done(swap_at(rt, alloc, map, at, (old, new))?),
+        Call::Remove => Answer::Was(remove_at(rt, alloc, map, at)?),
+        Call::RemoveIf(value) => Answer::Done(remove_value_at(rt, alloc, map, at, value)?),
+        Call::GetOrElseUpdate(value) => {
+            let (value, ran) = get_or_put(rt, alloc, map, at, value)?;
+            Answer::Is(value, ran)
+        }
+    })
+}
+
+// The calls are made one after another, and answered so.
+fn assert_answers(rt: &impl Abort, alloc: Global, map: &mut Texts, rows: &[Row<'_>]) {
+    for (number, (call, at, want)) in rows.iter().enumerate() {
+        let seen = answer_of(rt, alloc, map, *call, at);
+        assert_is(rt, (number, seen), (number, *want));
+    }
+}
+
+#[test]
+fn conditional_writes_of_one_key(rt: HostRuntime) {
+    let alloc = rt.alloc();
+    let mut map = empty(&rt, alloc, 10);
+    assert_answers(
+        &rt,
+        alloc,
+        &mut map,
+        &[
+            (Call::Put(5), "a", Ok(Answer::Was(None))),
+            (Call::PutIfAbsent(6), "a", Ok(Answer::Was(Some(5)))),
+            (Call::ReplaceIf(6, 8), "a", Ok(Answer::Done(false))),
+            (Call::ReplaceIf(5, 8), "a", Ok(Answer::Done(true))),
+            (Call::RemoveIf(5), "a", Ok(Answer::Done(false))),
+            (Call::RemoveIf(8), "a", Ok(Answer::Done(true))),
+            (Call::Replace(1), "a", Ok(Answer::Was(None))),
+            (Call::GetOrElseUpdate(4), "a", Ok(Answer::Is(4, true))),
+            (Call::GetOrElseUpdate(6), "a", Ok(Answer::Is(4, false))),
+        ],
+    );
+    assert_is(&rt, len(&map), 1);
+}
+
+#[test]
+fn writes_of_a_key_that_is_there_and_of_one_that_is_not(rt: HostRuntime) {
+    let alloc = rt.alloc();
+    let mut map = empty(&rt, alloc, 10);
+    assert_answers(
+        &rt,
+        alloc,
+        &mut map,
+        &[
+            (Call::Remove, "a", Ok(Answer::Was(None))),
+            (Call::RemoveIf(0), "a", Ok(Answer::Done(false))),
+            (Call::ReplaceIf(0, 1), "a", Ok(Answer::Done(false))),
+            (Call::PutIfAbsent(1), "a", Ok(Answer::Was(None))),
+            (Call::Replace(2), "a", Ok(Answer::Was(Some(1)))),
+            (Call::Put(3), "a", Ok(Answer::Was(Some(2)))),
+            (Call::Get, "a", Ok(Answer::Was(Some(3)))),
+            (Call::Remove, "a", Ok(Answer::Was(Some(3)))),
+            (Call::Get, "a", Ok(Answer::Was(None))),
+        ],
+    );
+    assert_is(&rt, len(&map), 0);
+}
+
+#[test]
+fn the_closure_runs_where_the_key_is_absent_alone(rt: HostRuntime) {
+    let alloc = rt.alloc();
+    let mut map = empty(&rt, alloc, 10);
+    assert_answers(
+        &rt,
+        alloc,
+        &mut map,
+        &[
+            (Call::GetOrElseUpdate(4), "a", Ok(Answer::Is(4, true))),
+            (Call::GetOrElseUpdate(6), "a", Ok(Answer::Is(4, false))),
+            (Call::Get, "a", Ok(Answer::Was(Some(4)))),
+        ],
+    );
 }

@@ -10,6 +10,13 @@ use std::sync::Arc;
 /// A key and its value, both shared.
 pub type Pair<K, V> = (Arc<K>, Arc<V>);
 
+/// Other handles on the key and the value.
+pub fn shared_pair<K: Drop, V: Drop>(key: &Arc<K>, value: &Arc<V>) -> Result<Pair<K, V>, AllocError>
+    ensures { IfOk result (λ pair. pair_values pair ≡ (key.now.value, value.now.value)) }
+{
+    Ok((Arc::try_clone(key)?, Arc::try_clone(value)?))
+}
+
 /// The value of the key among the pairs.
 pub fn find_pair<'a, K: Ord, V>(pairs: &'a [Pair<K, V>], key: &K) -> Option<&'a Arc<V>>
     ensures { option_map (λ v. v.now.value) result ≡ value_at K.cmp (map pair_values pairs.now) key.now }
@@ -40,18 +47,18 @@ pub fn put_pair<K: Ord + Drop, V: Drop>(
             key.cmp(each)
         };
         if order == Ordering::Less {
-            all.push((Arc::try_clone(key)?, Arc::try_clone(value)?))?;
+            all.push(shared_pair(key, value)?)?;
         }
         let kept = if order == Ordering::Equal {
             value
         } else {
             before
         };
-        all.push((Arc::try_clone(each)?, Arc::try_clone(kept)?))?;
+        all.push(shared_pair(each, kept)?)?;
         placed = placed || order != Ordering::Greater;
     }
     if !placed {
-        all.push((Arc::try_clone(key)?, Arc::try_clone(value)?))?;
+        all.push(shared_pair(key, value)?)?;
     }
     Ok(all)
 }
@@ -67,7 +74,7 @@ pub fn without_pair<K: Ord + Drop, V: Drop>(
     let mut all = Vec::new(alloc);
     for (each, value) in pairs {
         if key.cmp(each) != Ordering::Equal {
-            all.push((Arc::try_clone(each)?, Arc::try_clone(value)?))?;
+            all.push(shared_pair(each, value)?)?;
         }
     }
     Ok(all)

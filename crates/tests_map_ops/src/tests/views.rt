@@ -1,14 +1,14 @@
 //! Views of a version, and versions of a root.
 use super::{
     Texts, assert_is, assert_own, assert_put, assert_removal, assert_sizes, assert_text, clear,
-    has, of_three, put_text, text,
+    has, is_empty, limit_and_stamp, of_three, text,
 };
 use keys::ByteText;
 use std::alloc::Global;
+use std::panic::Expect;
 use std::process::Abort;
-use std::test::Fail;
 use trie_node::Stamp;
-use versions::{NoMemory, Refusal, Version, View};
+use versions::{Refusal, Version, View};
 
 // Takes a value that other threads may have and read.
 fn for_threads<T: Send + Sync>(value: T) -> T {
@@ -24,8 +24,8 @@ fn seen(view: &View<ByteText, i64>, key: &ByteText) -> Option<i64> {
 }
 
 // A view of the version.
-fn view(version: &Texts) -> Result<View<ByteText, i64>, NoMemory> {
-    version.view()
+fn view(rt: &impl Abort, version: &Texts) -> View<ByteText, i64> {
+    version.view().expect(rt, "no view")
 }
 
 // The view has three pairs, the key's among them.
@@ -36,10 +36,8 @@ fn assert_has_all_three(rt: &impl Abort, view: &View<ByteText, i64>, key: &ByteT
 }
 
 // Another view of the same map, once the first one is dropped.
-fn another(view: View<ByteText, i64>) -> Result<View<ByteText, i64>, NoMemory> {
-    let again = view.try_clone()?;
-    drop(view);
-    Ok(again)
+fn another(rt: &impl Abort, view: View<ByteText, i64>) -> View<ByteText, i64> {
+    view.try_clone().expect(rt, "no clone")
 }
 
 // How many pairs the view has, and the value of the key.
@@ -47,19 +45,14 @@ fn pairs_and_value(view: &View<ByteText, i64>, key: &ByteText) -> (u64, Option<i
     (view.len(), seen(view, key))
 }
 
-// Whether there are no pairs.
-fn is_empty(version: &Texts) -> bool {
-    version.is_empty()
-}
-
 #[test]
-fn a_view_shows_no_later_write(rt: HostRuntime) -> Result<(), Fail> {
+fn a_view_shows_no_later_write(rt: HostRuntime) {
     let alloc = rt.alloc();
-    let a = text(alloc, "a")?;
-    let c = text(alloc, "c")?;
-    let mut version = of_three(alloc, Stamp(1))?;
+    let a = text(&rt, alloc, "a");
+    let c = text(&rt, alloc, "c");
+    let mut version = of_three(&rt, alloc, Stamp(1));
     assert_own(&rt, &version, 4);
-    let view = for_threads(view(&version)?);
+    let view = for_threads(view(&rt, &version));
     assert_put(&rt, alloc, &mut version, ("a", 9), Ok(Some(1)));
     assert_own(&rt, &version, 4);
     assert_is(&rt, seen(&view, &*a), Some(1));
@@ -67,23 +60,17 @@ fn a_view_shows_no_later_write(rt: HostRuntime) -> Result<(), Fail> {
     assert_own(&rt, &version, 3);
     assert_is(&rt, has(&version, &*c), false);
     assert_has_all_three(&rt, &view, &*c);
-    clear(alloc, &mut version)?;
+    assert_is(&rt, clear(alloc, &mut version), Ok(()));
     assert_is(&rt, is_empty(&version), true);
     assert_has_all_three(&rt, &view, &*c);
-    let again = another(view)?;
+    let again = another(&rt, view);
     assert_is(&rt, pairs_and_value(&again, &*c), (3, Some(3)));
-    Ok(())
 }
 
 // A map of the root of no pairs, with another stamp than the root's.
-fn of_empty_root(alloc: Global) -> Result<Texts, NoMemory> {
-    let root = trie_node::empty_root(alloc, Stamp(2))?;
-    Ok(Version::from_root(root, 2, Stamp(5)))
-}
-
-// The limit and the stamp.
-fn limit_and_stamp(version: &Texts) -> (u64, Stamp) {
-    (version.limit(), version.stamp())
+fn of_empty_root(rt: &impl Abort, alloc: Global) -> Texts {
+    let root = trie_node::empty_root(alloc, Stamp(2)).expect(rt, "no root");
+    Version::from_root(root, 2, Stamp(5))
 }
 
 // Gives a map of three pairs at most the limit 3.
@@ -93,9 +80,9 @@ fn limit_to_three(rt: &impl Abort, version: &mut Texts) {
 }
 
 #[test]
-fn a_map_of_a_root_may_get_another_limit(rt: HostRuntime) -> Result<(), Fail> {
+fn a_map_of_a_root_may_get_another_limit(rt: HostRuntime) {
     let alloc = rt.alloc();
-    let mut version = of_empty_root(alloc)?;
+    let mut version = of_empty_root(&rt, alloc);
     assert_is(&rt, limit_and_stamp(&version), (2, Stamp(5)));
     assert_sizes(&rt, &version, (0, 0));
     assert_put(&rt, alloc, &mut version, ("a", 1), Ok(None));
@@ -106,5 +93,4 @@ fn a_map_of_a_root_may_get_another_limit(rt: HostRuntime) -> Result<(), Fail> {
     assert_put(&rt, alloc, &mut version, ("d", 4), Err(Refusal::Full));
     assert_is(&rt, limit_and_stamp(&version), (3, Stamp(5)));
     assert_text(&rt, alloc, &version, "b", Some(2));
-    Ok(())
 }
