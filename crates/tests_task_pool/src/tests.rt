@@ -4,18 +4,22 @@ mod many;
 mod memory;
 mod rows;
 
+ghost use Rattle.std.specs.Prelude.{◌≤◌};
+
 use bulk_ops::{NoImages, PairFn, Part, Query, Stored, StoredTest};
 use combiner::Sum;
 use iter::Interval;
 use std::alloc::Global;
 use std::fmt::Debug;
+use std::panic::Expect;
 use std::process::Abort;
-use std::sync::Arc;
-use task_pool::{Crew, Report};
+use std::sync::{Arc, Wait};
+use std::thread::Threads;
+use task_pool::{Crew, Gate, Report, run_crew};
 use test_keys::ChosenKey;
 use test_queries::{Values, Zero};
 use trie_node::{NoMemory, Stamp};
-use versions::{MOST_PAIRS, Refusal, Version, View};
+use versions::{MOST_PAIRS, Version, View};
 
 // A map of the tests.
 type Map = Version<ChosenKey, u64>;
@@ -58,19 +62,25 @@ fn equal(value: u64) -> StoredTest<ChosenKey, u64, IsValue> {
 
 // A map of so many pairs: their values and the numbers of their keys count up from 0, and so do their words, or all
 // have one word.
-fn filled(alloc: Global, pairs: u32, one_word: bool) -> Result<Map, Refusal> {
-    let mut map = Version::empty(alloc, MOST_PAIRS, Stamp::LOOSE)?;
+fn filled(rt: &impl Abort, alloc: Global, pairs: u32, one_word: bool) -> Map {
+    let mut map = Version::empty(alloc, MOST_PAIRS, Stamp::LOOSE).expect(rt, "no map");
     for id in 0..pairs {
         let path = if one_word { 7 } else { u64::from(id) };
-        let key = Arc::new(alloc, ChosenKey { path, id })?;
-        map.put(alloc, key, Arc::new(alloc, u64::from(id))?)?;
+        put(rt, alloc, &mut map, ChosenKey { path, id });
     }
-    Ok(map)
+    map
 }
 
-// A view of such a map. Where a step fails that has to be granted, its test ends.
+// Puts the key, with its number as its value.
+fn put(rt: &impl Abort, alloc: Global, map: &mut Map, key: ChosenKey) {
+    let value = Arc::new(alloc, u64::from(key.id)).expect(rt, "no value");
+    let key = Arc::new(alloc, key).expect(rt, "no key");
+    map.put(alloc, key, value).expect(rt, "not put");
+}
+
+// A view of such a map.
 fn seen(rt: &impl Abort, alloc: Global, pairs: u32, one_word: bool) -> Seen {
-    let map = filled(alloc, pairs, one_word).expect(rt, "no map");
+    let map = filled(rt, alloc, pairs, one_word);
     map.view().expect(rt, "no view")
 }
 
@@ -80,6 +90,29 @@ fn number<I>(part: &Part<ChosenKey, u64, I>) -> Option<u64> {
         Part::Number(number) => Some(*number),
         _ => None,
     }
+}
+
+// What a count comes to: the number, how many intervals are listed, in how many lists, and whether two of them share a
+// position, and how many of them stand in the lists from a place on.
+type Counted = (Option<u64>, (usize, usize, bool), usize);
+
+// What the crew's count of all pairs comes to.
+fn counted<G: Gate + Sync, R: Threads + Wait + Sync>(
+    rt: &R,
+    alloc: Global,
+    view: &Seen,
+    crew: Crew,
+    gate: &G,
+    place: usize,
+) -> Result<Counted, NoMemory>
+    requires least_workers { 1 ≤ crew.workers }
+    requires most_workers { crew.workers ≤ 16 }
+    requires least_grain { 1 ≤ crew.grain }
+    requires most_grain { crew.grain ≤ 65536 }
+{
+    let report = run_crew(rt, alloc, view, &Asked::Count(all()), crew, gate)?;
+    let from = count_from(&report.lists, place);
+    Ok((number(&report.part), listed(&report), from))
 }
 
 // How many intervals each of the lists from a place on has, added up.

@@ -1,16 +1,16 @@
 //! Threads that work at one time, and beside a thread that writes.
-use super::{Asked, Map, all, assert_is, filled};
-use bulk_ops::Part;
+use super::{Map, assert_is, counted, filled, put};
 use hash_path::Bound;
 use std::alloc::Global;
+use std::panic::Expect;
+use std::process::Abort;
 use std::sync::atomic::{AtomicU32, Ordering};
-use std::sync::{Arc, Mutex, Wait};
+use std::sync::{Mutex, Wait};
 use std::test::*;
 use std::thread;
 use std::thread::Threads;
-use task_pool::{Crew, Gate, run_crew};
+use task_pool::{Crew, Gate};
 use test_keys::ChosenKey;
-use versions::Refusal;
 
 // How often a thread lets others run before it gives up.
 const TURNS: u32 = 10_000_000;
@@ -69,58 +69,50 @@ impl Gate for Signs {
 }
 
 // How many pairs a crew of two counts in a view of the map.
-fn count<R: AllocGlobal + Threads + Wait + Sync>(
+fn count<R: AllocGlobal + Threads + Wait + Abort + Sync>(
     rt: &R,
     map: &Mutex<Map>,
     signs: &Signs,
-) -> Result<Option<u64>, Refusal> {
-    let view = map.lock(rt).view()?;
+) -> Option<u64> {
+    let view = map.lock(rt).view().expect(rt, "no view");
     let crew = Crew {
         workers: WORKERS,
         grain: 1,
         patience: 1_000_000,
     };
-    let report = run_crew(rt, rt.alloc(), &view, &Asked::Count(all()), crew, signs)?;
-    match &report.part {
-        Part::Number(number) => Ok(Some(*number)),
-        _ => Ok(None),
-    }
+    let counted = counted(rt, rt.alloc(), &view, crew, signs, 2);
+    counted.expect(rt, "no count").0
 }
 
 // Puts a pair into the map once a piece was begun.
-fn put<R: Wait>(rt: &R, alloc: Global, map: &Mutex<Map>, signs: &Signs) -> Result<(), Refusal> {
+fn put_meanwhile<R: Wait + Abort>(rt: &R, alloc: Global, map: &Mutex<Map>, signs: &Signs) {
     if wait_for(&signs.begun) {
-        let key = Arc::new(alloc, ChosenKey { path: 64, id: 64 })?;
-        map.lock(rt).put(alloc, key, Arc::new(alloc, 64u64)?)?;
+        put(rt, alloc, &mut map.lock(rt), ChosenKey { path: 64, id: 64 });
         signs.answered.store(1, Ordering::SeqCst);
     }
-    Ok(())
 }
 
 // The count, whether a wait ran out, how many pieces the caller began, and how many pairs the map has in the end.
-fn met<R: AllocGlobal + Threads + Wait + Sync>(
-    rt: &R,
-) -> Result<(Option<u64>, u32, u32, u64), Refusal> {
+fn met<R: AllocGlobal + Threads + Wait + Abort + Sync>(rt: &R) -> (Option<u64>, u32, u32, u64) {
     let alloc = rt.alloc();
-    let map = Mutex::new(filled(alloc, 64, false)?);
+    let map = Mutex::new(filled(rt, alloc, 64, false));
     let signs = no_signs();
     let (shared, told) = (&map, &signs);
-    let (counted, answered) = thread::join(
+    let (counted, ()) = thread::join(
         rt,
         || count(rt, shared, told),
-        || put(rt, alloc, shared, told),
+        || put_meanwhile(rt, alloc, shared, told),
     );
-    answered?;
     let pairs = map.lock(rt).len();
-    Ok((
-        counted?,
+    (
+        counted,
         signs.ran_out.load(Ordering::SeqCst),
         signs.callers.load(Ordering::SeqCst),
         pairs,
-    ))
+    )
 }
 
 #[test]
 fn two_workers_meet_and_a_put_is_answered_meanwhile(rt: HostRuntime) {
-    assert_is(&rt, met(&rt), Ok((Some(64), 0, 0, 65)));
+    assert_is(&rt, met(&rt), (Some(64), 0, 0, 65));
 }

@@ -1,13 +1,14 @@
 //! Counts where memory is wanting: at each request of a caller that works alone, since no thread can be started then, and
 //! from some piece on, while threads work.
-use super::{Asked, Seen, all, assert_is, count_from, listed, number, seen};
+use super::{Counted, Seen, assert_is, counted, seen};
 use hash_path::Bound;
 use std::alloc::Global;
+use std::panic::Expect;
+use std::process::Abort;
 use std::sync::atomic::{AtomicU32, Ordering};
 use std::sync::{OnceLock, Wait};
-use std::test::Fail;
 use std::thread::Threads;
-use task_pool::{Crew, Free, Gate, run_crew};
+use task_pool::{Crew, Free, Gate};
 use test_keys::{Shortage, take_all};
 use trie_node::NoMemory;
 
@@ -29,48 +30,38 @@ const TRIES: u32 = 7_680;
 // How far the pieces are apart before which memory ends, since taking all of it costs a quarter of a second.
 const APART: u32 = 9;
 
-// The number that was counted, how many intervals are listed, and how many of them the caller worked.
-type Counted = (Option<u64>, usize, usize);
-
-// What the crew's count of all pairs comes to.
-fn counted<G: Gate + Sync, R: Threads + Wait + Sync>(
-    rt: &R,
-    alloc: Global,
-    view: &Seen,
-    gate: &G,
-) -> Result<Counted, NoMemory> {
-    let report = run_crew(rt, alloc, view, &Asked::Count(all()), CREW, gate)?;
-    let (intervals, _, _) = listed(&report);
-    let callers = count_from(&report.lists, 2);
-    Ok((number(&report.part), intervals, callers))
-}
-
 // Counts with no memory, with a little, and so on, until memory is not wanting: how often it was, and what was counted.
-fn refused_and_counted<R: Threads + Wait + Sync>(
+fn refused_and_counted<R: Threads + Wait + Abort + Sync>(
     rt: &R,
     alloc: Global,
     view: &Seen,
-) -> Result<(u32, Counted), Fail> {
-    let mut shortage = Shortage::new(alloc)?;
+) -> (u32, Counted) {
+    let mut shortage = Shortage::new(alloc).expect(rt, "no shortage");
     for refused in 0..TRIES {
-        match counted(rt, alloc, view, &Free) {
-            Ok(counted) => return Ok((refused, counted)),
-            Err(NoMemory) => shortage.give(alloc, STEP)?,
+        match counted(rt, alloc, view, CREW, &Free, 2) {
+            Ok(counted) => return (refused, counted),
+            Err(NoMemory) => give(rt, alloc, &mut shortage),
         }
     }
-    Err(Fail::new("memory is never enough"))
+    panic!(rt; "memory is never enough")
+}
+
+// Gives a step more.
+fn give(rt: &impl Abort, alloc: Global, shortage: &mut Shortage) {
+    shortage
+        .give(alloc, STEP)
+        .expect(rt, "no room for the rest");
 }
 
 // With each try a request more is met. No thread gets a stack of what little there is, so the pieces of both workers are
 // left to the caller. It catches a count of some of the pairs, and pieces that are lost with a worker.
 #[test]
-fn a_count_is_refused_at_each_request(rt: HostRuntime) -> Result<(), Fail> {
+fn a_count_is_refused_at_each_request(rt: HostRuntime) {
     let alloc = rt.alloc();
     let view = seen(&rt, alloc, PAIRS, false);
-    let (refused, counted) = refused_and_counted(&rt, alloc, &view)?;
+    let (refused, counted) = refused_and_counted(&rt, alloc, &view);
     assert!(rt; refused > 0);
-    assert_is(&rt, counted, (Some(64), 64, 64));
-    Ok(())
+    assert_is(&rt, counted, (Some(64), (64, 3, false), 64));
 }
 
 // Takes all memory before the piece of a number is worked, by whichever thread, and keeps it. The first piece that is
@@ -106,7 +97,7 @@ fn is_counted_until<R: Threads + Wait + Sync>(
         begun: AtomicU32::new(0),
         taken: OnceLock::new(),
     };
-    match counted(rt, alloc, view, &gate) {
+    match counted(rt, alloc, view, CREW, &gate, 2) {
         Ok((Some(64), _, _)) => Some(true),
         Ok(_) => None,
         Err(NoMemory) => Some(false),
@@ -116,7 +107,7 @@ fn is_counted_until<R: Threads + Wait + Sync>(
 // It catches a worker whose want of memory is taken for a piece that it has worked. The thread that begins the first piece
 // has no room for its interval yet, so some of the counts are refused.
 #[test]
-fn memory_is_wanting_from_some_piece_on(rt: HostRuntime) -> Result<(), Fail> {
+fn memory_is_wanting_from_some_piece_on(rt: HostRuntime) {
     let alloc = rt.alloc();
     let view = seen(&rt, alloc, PAIRS, false);
     let mut refused = 0u32;
@@ -131,5 +122,4 @@ fn memory_is_wanting_from_some_piece_on(rt: HostRuntime) -> Result<(), Fail> {
     assert!(rt; refused > 0);
     let beyond = is_counted_until(&rt, alloc, &view, PAIRS);
     assert_is(&rt, beyond, Some(true));
-    Ok(())
 }

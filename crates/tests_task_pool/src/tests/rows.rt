@@ -1,79 +1,74 @@
 //! What reports list where there is little to cut.
-use super::{Asked, all, assert_is, count_from, listed, number, seen};
+ghost use Rattle.std.specs.Prelude.{◌≡◌};
+
+use super::{Asked, all, assert_is, counted, listed, number, seen};
 use iter::Interval;
+use std::panic::Expect;
 use std::test::*;
 use task_pool::{Crew, Free, run_crew};
 
-// A crew of two on an empty view works one interval, the whole, and its part is the unit.
-#[test]
-fn an_empty_view_is_worked_whole(rt: HostRuntime) -> Result<(), Fail> {
-    let alloc = rt.alloc();
-    let view = seen(&rt, alloc, 0, false);
-    let report = run_crew(&rt, alloc, &view, &Asked::Count(all()), Crew::of(2), &Free)?;
-    assert_is(&rt, number(&report.part), Some(0));
-    assert_is(&rt, listed(&report), (1, 3, false));
-    let mut first = None;
-    for list in report.lists.iter() {
-        for interval in list.iter() {
-            first = Some(*interval);
+// The first interval of the lists, if they have one.
+fn first_of(lists: &[Vec<Interval>]) -> Option<Interval> {
+    for list in lists {
+        if let Some(interval) = list.first() {
+            return Some(*interval);
         }
     }
+    None
+}
+
+// A crew of two on an empty view works one interval, the whole, and its part is the unit.
+#[test]
+fn an_empty_view_is_worked_whole(rt: HostRuntime) {
+    let alloc = rt.alloc();
+    let view = seen(&rt, alloc, 0, false);
+    let query = Asked::Count(all());
+    let report = run_crew(&rt, alloc, &view, &query, Crew::of(2), &Free).expect(&rt, "no report");
+    assert_is(&rt, number(&report.part), Some(0));
+    assert_is(&rt, listed(&report), (1, 3, false));
     let whole = Interval {
         lo: 0,
         hi: 0x1_0000_0000_0000_0000,
     };
-    assert_is(&rt, first, Some(whole));
-    Ok(())
+    assert_is(&rt, first_of(&report.lists), Some(whole));
+}
+
+// Sixteen workers.
+fn sixteen(grain: u64) -> Crew
+    ensures { result ≡ record { workers = 16; grain = grain; patience = 1000 } }
+{
+    Crew {
+        workers: 16,
+        grain,
+        patience: 1000,
+    }
 }
 
 // Pairs of one word cannot be told apart by their positions, so they are one piece, however small the grain.
 #[test]
-fn one_word_is_one_piece(rt: HostRuntime) -> Result<(), Fail> {
+fn one_word_is_one_piece(rt: HostRuntime) {
     let alloc = rt.alloc();
     let view = seen(&rt, alloc, 1000, true);
-    let crew = Crew {
-        workers: 16,
-        grain: 1,
-        patience: 1000,
-    };
-    let report = run_crew(&rt, alloc, &view, &Asked::Count(all()), crew, &Free)?;
-    assert_is(&rt, number(&report.part), Some(1000));
-    assert_is(&rt, listed(&report), (1, 17, false));
-    Ok(())
+    let counted = counted(&rt, alloc, &view, sixteen(1), &Free, 17);
+    assert_is(&rt, counted, Ok((Some(1000), (1, 17, false), 0)));
 }
 
 // No thread is started for a view of at most the grain's pairs: the caller works it as one piece.
 #[test]
-fn few_pairs_are_worked_by_the_caller(rt: HostRuntime) -> Result<(), Fail> {
+fn few_pairs_are_worked_by_the_caller(rt: HostRuntime) {
     let alloc = rt.alloc();
     let view = seen(&rt, alloc, 64, false);
-    let crew = Crew {
-        workers: 16,
-        grain: 64,
-        patience: 1000,
-    };
-    let report = run_crew(&rt, alloc, &view, &Asked::Count(all()), crew, &Free)?;
-    assert_is(&rt, number(&report.part), Some(64));
-    assert_is(&rt, listed(&report), (1, 17, false));
-    assert_is(&rt, count_from(&report.lists, 16), 1);
-    Ok(())
+    let counted = counted(&rt, alloc, &view, sixteen(64), &Free, 16);
+    assert_is(&rt, counted, Ok((Some(64), (1, 17, false), 1)));
 }
 
 // Pairs of two pieces start no more than two workers.
 #[test]
-fn two_pieces_start_two_workers(rt: HostRuntime) -> Result<(), Fail> {
+fn two_pieces_start_two_workers(rt: HostRuntime) {
     let alloc = rt.alloc();
     let view = seen(&rt, alloc, 64, false);
-    let crew = Crew {
-        workers: 16,
-        grain: 32,
-        patience: 1000,
-    };
-    let report = run_crew(&rt, alloc, &view, &Asked::Count(all()), crew, &Free)?;
-    assert_is(&rt, number(&report.part), Some(64));
-    assert_is(&rt, listed(&report), (2, 17, false));
-    assert_is(&rt, count_from(&report.lists, 2), 0);
-    Ok(())
+    let counted = counted(&rt, alloc, &view, sixteen(32), &Free, 2);
+    assert_is(&rt, counted, Ok((Some(64), (2, 17, false), 0)));
 }
 
 // What a crew of a number of workers may be set up as.
