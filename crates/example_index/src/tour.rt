@@ -2,7 +2,7 @@
 
 use crate::fault::Fault;
 use crate::indexer::{INDEX, Indexer};
-use std::alloc::Global;
+use std::alloc::{AllocError, Global};
 use std::rt::Runtime;
 use std::sync::{Arc, Wait};
 use std::thread::Threads;
@@ -51,12 +51,17 @@ pub fn tour<R: Runtime + AllocGlobal + Threads + Wait + Sync>(rt: &R) -> Result<
 }
 
 // A client that writes the words of this document.
-fn writer(alloc: Global, document: u64, text: &str) -> Result<Indexer, Fault> {
+fn writer(alloc: Global, document: u64, text: &str) -> Result<Indexer, AllocError> {
     let mut words = Vec::new(alloc);
     for word in text.split_whitespace() {
-        words.push(Arc::new(alloc, ByteText::from_text(alloc, word)?)?)?;
+        words.push(shared(alloc, word)?)?;
     }
     Ok(Indexer::Writes { document, words })
+}
+
+// The word as a key.
+fn shared(alloc: Global, word: &str) -> Result<Arc<ByteText>, AllocError> {
+    Ok(Arc::new(alloc, ByteText::from_text(alloc, word)?)?)
 }
 
 // How many words the index has in the end.
