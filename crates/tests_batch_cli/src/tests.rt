@@ -17,9 +17,9 @@ ghost use Rattle.batch_cli.specs.CommandLine.{AreInRange};
 use batch_cli::{Crew, Journal, LineGate, Options, execute, parse_script, run_script};
 use std::alloc::{AllocError, Global};
 use std::fmt::Debug;
+use std::panic::Expect;
 use std::process::Abort;
 use std::sync::Wait;
-use std::test::Fail;
 use std::thread::Threads;
 
 /// The crew of the bulk verbs. It takes the smallest pieces that there are, so that small maps have several.
@@ -46,34 +46,39 @@ fn plain() -> Options
 fn executed<R: AllocGlobal + Threads + Wait + Sync>(
     rt: &R,
     script: &[u8],
-) -> Result<(u8, String, String), AllocError> {
+) -> (u8, Vec<u8>, Vec<u8>) {
     let alloc = rt.alloc();
-    let mut out = Vec::new(alloc);
-    let mut err = Vec::new(alloc);
+    let (mut out, mut err) = (Vec::new(alloc), Vec::new(alloc));
     let (status, journal) = execute(rt, alloc, &plain(), script, &mut out, &mut err);
     drop(journal);
-    Ok((status, text(alloc, &out)?, text(alloc, &err)?))
+    (status, out, err)
 }
 
 /// What a run of the script writes, with its journal.
-fn ran<R: AllocGlobal + Threads + Wait + Sync, G: LineGate + Sync>(
+fn ran<R: AllocGlobal + Abort + Threads + Wait + Sync, G: LineGate + Sync>(
     rt: &R,
     script: &[u8],
     gate: &G,
-) -> Result<(String, Journal), Fail> {
+) -> (Vec<u8>, Journal) {
     let alloc = rt.alloc();
-    let script = parse_script(alloc, script)?;
+    let script = parse_script(alloc, script).expect(rt, "no script");
     let mut out = Vec::new(alloc);
-    let journal = run_script(rt, alloc, &script, CREW, &mut out, gate)?;
-    Ok((text(alloc, &out)?, journal))
+    let journal = run_script(rt, alloc, &script, CREW, &mut out, gate).expect(rt, "no run");
+    (out, journal)
 }
 
-/// The bytes as text; a text of no bytes where they are none.
-fn text(alloc: Global, bytes: &Vec<u8>) -> Result<String, AllocError> {
-    match str::from_utf8(bytes.as_slice()) {
-        Ok(text) => String::from_str(alloc, text),
-        Err(_) => Ok(String::new(alloc)),
+/// So many lines: the first one, and the other one again and again.
+fn lines(alloc: Global, first: &[u8], other: &[u8], count: u32) -> Result<Vec<u8>, AllocError> {
+    let mut script = Vec::from_slice(alloc, first)?;
+    for _ in 1..count {
+        script.extend_from_slice(other)?;
     }
+    Ok(script)
+}
+
+/// The bytes as text.
+fn text<'b>(rt: &impl Abort, bytes: &'b [u8]) -> &'b str {
+    str::from_utf8(bytes).expect(rt, "no text")
 }
 
 /// What is seen is what is wanted. An assertion is proved wherever it is written out, so it stands here once.
@@ -84,4 +89,9 @@ fn assert_is<T: PartialEq + Debug + Drop>(rt: &impl Abort, seen: T, want: T) {
 /// The same for texts.
 fn assert_text(rt: &impl Abort, seen: &str, want: &str) {
     assert_eq!(rt; seen, want);
+}
+
+/// The bytes are those of the text.
+fn assert_bytes(rt: &impl Abort, seen: &[u8], want: &str) {
+    assert_text(rt, text(rt, seen), want);
 }

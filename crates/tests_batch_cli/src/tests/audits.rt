@@ -1,13 +1,12 @@
 //! Runs whose journal is wanted, and audits.
 
-ghost use Rattle.std.specs.Prelude.{IfOk};
 ghost use Rattle.batch_cli.specs.CommandLine.{AreInRange};
 
-use super::{assert_is, assert_text, plain, text};
+use super::{assert_bytes, assert_is, plain};
 use batch_cli::{Options, execute, write_journal};
-use std::alloc::{AllocError, Global};
+use std::panic::Expect;
+use std::process::Abort;
 use std::sync::Wait;
-use std::test::Fail;
 use std::thread::Threads;
 
 // A script of one client, and the journal of its run.
@@ -21,13 +20,14 @@ const JOURNAL: &str = "{\"call\":\"open 1\",\"entry\":1,\"reply\":\"ok\",\"seat\
 ";
 
 /// The options of a run whose journal is wanted.
-fn journalled(alloc: Global) -> Result<Options, AllocError>
-    ensures { IfOk result (λ options. AreInRange options.workers options.grain) }
+fn journalled<R: AllocGlobal + Abort>(rt: &R) -> Options
+    ensures { AreInRange result.workers result.grain }
 {
-    Ok(Options {
-        journal: Some(String::from_str(alloc, "j")?),
+    let name = String::from_str(rt.alloc(), "j").expect(rt, "no name");
+    Options {
+        journal: Some(name),
         ..plain()
-    })
+    }
 }
 
 /// The options of an audit.
@@ -41,80 +41,75 @@ fn auditing() -> Options
 }
 
 #[test]
-fn a_run_keeps_its_journal(rt: HostRuntime) -> Result<(), Fail> {
+fn a_run_keeps_its_journal(rt: HostRuntime) {
     let alloc = rt.alloc();
     let (mut out, mut err) = (Vec::new(alloc), Vec::new(alloc));
-    let options = journalled(alloc)?;
+    let options = journalled(&rt);
     let (status, journal) = execute(&rt, alloc, &options, SCRIPT, &mut out, &mut err);
     assert_is(&rt, (status, err.len()), (0, 0));
-    assert_text(
-        &rt,
-        text(alloc, &out)?.as_str(),
-        "1 ok\n2 none\n3 some 5\n4 some 7\n",
-    );
-    let journal = journal.unwrap_or(Vec::new(alloc));
-    assert_text(&rt, text(alloc, &journal)?.as_str(), JOURNAL);
-    Ok(())
+    assert_bytes(&rt, &out, "1 ok\n2 none\n3 some 5\n4 some 7\n");
+    let journal = journal.expect(&rt, "no journal");
+    assert_bytes(&rt, &journal, JOURNAL);
 }
 
-#[test]
-fn a_run_that_fails_keeps_no_journal(rt: HostRuntime) -> Result<(), Fail> {
+/// A run of the script has this status and keeps no journal.
+fn assert_keeps_none<R: AllocGlobal + Abort + Threads + Wait + Sync>(
+    rt: &R,
+    options: &Options,
+    script: &[u8],
+    wanted: u8,
+)
+    requires { AreInRange options.now.workers options.now.grain }
+{
     let alloc = rt.alloc();
     let (mut out, mut err) = (Vec::new(alloc), Vec::new(alloc));
-    let options = journalled(alloc)?;
-    let (status, journal) = execute(&rt, alloc, &options, b"0 open", &mut out, &mut err);
-    assert_is(&rt, (status, journal.is_some()), (2, false));
-    let (status, journal) = execute(&rt, alloc, &plain(), SCRIPT, &mut out, &mut err);
-    assert_is(&rt, (status, journal.is_some()), (0, false));
-    Ok(())
+    let (status, journal) = execute(rt, alloc, options, script, &mut out, &mut err);
+    assert_is(rt, (status, journal.is_some()), (wanted, false));
 }
 
-/// What the audit of the text writes, and its status.
-fn verdict<R: AllocGlobal + Threads + Wait + Sync>(
+#[test]
+fn a_run_that_fails_keeps_no_journal(rt: HostRuntime) {
+    assert_keeps_none(&rt, &journalled(&rt), b"0 open", 2);
+    assert_keeps_none(&rt, &plain(), SCRIPT, 0);
+}
+
+/// The audit of the text has this status, and writes the verdict and nothing else. It keeps no journal.
+fn assert_audited<R: AllocGlobal + Abort + Threads + Wait + Sync>(
     rt: &R,
-    journal: &[u8],
-) -> Result<String, AllocError> {
+    journal: &str,
+    verdict: &str,
+    wanted: u8,
+) {
     let alloc = rt.alloc();
     let (mut out, mut err) = (Vec::new(alloc), Vec::new(alloc));
-    let (status, kept) = execute(rt, alloc, &auditing(), journal, &mut out, &mut err);
-    let (out, err) = (text(alloc, &out)?, text(alloc, &err)?);
-    format!(in alloc; "{out}{err}{status} {}", kept.is_some())
+    let text = journal.as_bytes();
+    let (status, kept) = execute(rt, alloc, &auditing(), text, &mut out, &mut err);
+    assert_is(rt, (status, kept.is_some(), err.len()), (wanted, false, 0));
+    assert_bytes(rt, &out, verdict);
 }
 
-/// The audit of the journal with this text in the place of its first text of the other kind.
-fn verdict_with<R: AllocGlobal + Threads + Wait + Sync>(
-    rt: &R,
-    from: &str,
-    to: &str,
-) -> Result<String, Fail> {
-    let (before, behind) = JOURNAL.split_once(from).ok_or("the text")?;
-    let changed = format!(in rt.alloc(); "{before}{to}{behind}")?;
-    Ok(verdict(rt, changed.as_bytes())?)
+/// The journal with this text in the place of its first text of the other kind.
+fn journal_with<R: AllocGlobal + Abort>(rt: &R, from: &str, to: &str) -> String {
+    let (before, behind) = JOURNAL.split_once(from).expect(rt, "no such text");
+    format!(in rt.alloc(); "{before}{to}{behind}").expect(rt, "no journal")
 }
 
 #[test]
-fn a_journal_is_audited(rt: HostRuntime) -> Result<(), Fail> {
-    assert_text(
-        &rt,
-        verdict(&rt, JOURNAL.as_bytes())?.as_str(),
-        "legal 4\n0 false",
-    );
-    let third = verdict_with(&rt, "some 5", "some 6")?;
-    assert_text(&rt, third.as_str(), "bad 3\n3 false");
-    let last = verdict_with(&rt, "{\"entries\":4}\n", "")?;
-    assert_text(&rt, last.as_str(), "bad 5\n3 false");
-    Ok(())
+fn a_journal_is_audited(rt: HostRuntime) {
+    assert_audited(&rt, JOURNAL, "legal 4\n", 0);
+    let third = journal_with(&rt, "some 5", "some 6");
+    assert_audited(&rt, &third, "bad 3\n", 3);
+    let last = journal_with(&rt, "{\"entries\":4}\n", "");
+    assert_audited(&rt, &last, "bad 5\n", 3);
 }
 
 #[test]
-fn a_file_that_cannot_be_made_is_told(rt: HostRuntime) -> Result<(), Fail> {
-    let alloc = rt.alloc();
-    let mut err = Vec::new(alloc);
+fn a_file_that_cannot_be_made_is_told(rt: HostRuntime) {
+    let mut err = Vec::new(rt.alloc());
     let status = write_journal(&rt, "absent/journal", JOURNAL.as_bytes(), &mut err);
     assert_is(&rt, status, 1);
     let wanted = "trierun: cannot write absent/journal\n";
-    assert_text(&rt, text(alloc, &err)?.as_str(), wanted);
+    assert_bytes(&rt, &err, wanted);
     let status = write_journal(&rt, "/dev/null", JOURNAL.as_bytes(), &mut err);
     assert_is(&rt, (status, err.len()), (0, wanted.len()));
-    Ok(())
 }

@@ -1,11 +1,12 @@
 //! Two clients that add the same keys to one handle.
-use super::entries::told_to;
+use super::entries::assert_told;
 use super::gates::Meeting;
-use super::{assert_is, assert_text, ran};
-use std::alloc::Global;
+use super::{assert_is, assert_text, ran, text};
+use batch_cli::Journal;
+use std::alloc::{AllocError, Global};
+use std::panic::Expect;
 use std::process::Abort;
 use std::sync::Wait;
-use std::test::Fail;
 use std::thread::Threads;
 
 // How often all of it is done.
@@ -27,7 +28,7 @@ fn lines_of(key: u32) -> [u32; 4] {
 
 // Both clients open handle 1 and add all keys twice. The clients take turns in the lines, and a value is the number of
 // its line.
-fn script_of(alloc: Global) -> Result<String, Fail> {
+fn script_of(alloc: Global) -> Result<String, AllocError> {
     let mut script = String::from_str(alloc, "0 open 1\n1 open 1\n")?;
     let mut line = 3u32;
     for _ in 0..2 {
@@ -42,86 +43,90 @@ fn script_of(alloc: Global) -> Result<String, Fail> {
 }
 
 // The reply at the line, without its number.
-fn reply_at<'a>(replies: &[&'a str], line: u32) -> Result<&'a str, Fail> {
+fn reply_at<'a>(rt: &impl Abort, replies: &[&'a str], line: u32) -> &'a str {
     let place = line.saturating_sub(1) as usize;
-    let text = replies.get(place).ok_or("a line of the output")?;
-    let (number, reply) = text.split_once(' ').ok_or("a number and a reply")?;
-    if number.parse::<u32>()? == line {
-        Ok(reply)
-    } else {
-        Err(Fail::new("a line has another's number"))
+    let text = replies.get(place).expect(rt, "no such line");
+    let (number, reply) = text.split_once(' ').expect(rt, "no number and reply");
+    assert_is(rt, number.parse::<u32>().ok(), Some(line));
+    reply
+}
+
+// The line that added the key. No other one did.
+fn winner_of(rt: &impl Abort, replies: &[&str], key: u32) -> u32 {
+    let mut winner = None;
+    for line in lines_of(key) {
+        if reply_at(rt, replies, line) == "none" {
+            assert_is(rt, winner, None);
+            winner = Some(line);
+        }
     }
+    winner.expect(rt, "nobody added the key")
 }
 
 // One line added the key, and all others of the key were told its value.
-fn assert_added_once(
-    rt: &impl Abort,
-    alloc: Global,
-    replies: &[&str],
-    key: u32,
-) -> Result<(), Fail> {
-    let mut winners = Vec::new(alloc);
-    for line in lines_of(key) {
-        if reply_at(replies, line)? == "none" {
-            winners.push(line)?;
-        }
-    }
-    assert_is(rt, winners.len(), 1);
-    let winner = *winners.as_slice().first().ok_or("who added the key")?;
-    let told = format!(in alloc; "some {winner}")?;
+fn assert_added_once(rt: &impl Abort, alloc: Global, replies: &[&str], key: u32) {
+    let winner = winner_of(rt, replies, key);
+    let told = format!(in alloc; "some {winner}").expect(rt, "no room");
     for line in lines_of(key) {
         if line != winner {
-            assert_text(rt, reply_at(replies, line)?, told.as_str());
+            assert_text(rt, reply_at(rt, replies, line), &told);
         }
     }
-    Ok(())
+}
+
+// Adds the reply as a line of its own.
+fn push_reply(text: &mut String, reply: &str) -> Result<(), AllocError> {
+    text.push_str(reply)?;
+    text.push_str("\n")
 }
 
 // The replies of the lines of a client, each on a line of its own. The clients take turns.
-fn replies_to(alloc: Global, replies: &[&str], client: u32) -> Result<String, Fail> {
+fn replies_to(rt: &impl Abort, alloc: Global, replies: &[&str], client: u32) -> String {
     let mut text = String::new(alloc);
     for line in 1..403 {
         if line % 2 != client {
-            text.push_str(reply_at(replies, line)?)?;
-            text.push_str("\n")?;
+            push_reply(&mut text, reply_at(rt, replies, line)).expect(rt, "no room");
         }
     }
-    Ok(text)
+    text
+}
+
+// The replies are those of the journal, and each key was added once.
+fn assert_replies<R: AllocGlobal + Abort>(rt: &R, replies: &[&str], journal: &Journal) {
+    assert_is(rt, (replies.len(), journal.len()), (402, 402));
+    for key in 0..KEYS {
+        assert_added_once(rt, rt.alloc(), replies, key);
+    }
+    for client in 0..2 {
+        let printed = replies_to(rt, rt.alloc(), replies, client);
+        assert_told(rt, journal, client, &printed);
+    }
+}
+
+// The lines of the text.
+fn split(alloc: Global, text: &str) -> Result<Vec<&str>, AllocError> {
+    let mut lines = Vec::new(alloc);
+    for line in text.lines() {
+        lines.push(line)?;
+    }
+    Ok(lines)
 }
 
 // One run.
-fn one_round<R: AllocGlobal + Abort + Threads + Wait + Sync>(
-    rt: &R,
-    script: &str,
-) -> Result<(), Fail> {
-    let alloc = rt.alloc();
+fn one_round<R: AllocGlobal + Abort + Threads + Wait + Sync>(rt: &R, script: &str) {
     let gate = Meeting::new();
-    let (out, journal) = ran(rt, script.as_bytes(), &gate)?;
+    let (out, journal) = ran(rt, script.as_bytes(), &gate);
     assert_is(rt, gate.is_missed(), false);
-    let mut replies = Vec::new(alloc);
-    for line in out.as_str().lines() {
-        replies.push(line)?;
-    }
-    assert_is(rt, replies.len(), 402);
-    for key in 0..KEYS {
-        assert_added_once(rt, alloc, replies.as_slice(), key)?;
-    }
-    assert_is(rt, journal.len(), 402);
-    for client in 0..2 {
-        let printed = replies_to(alloc, replies.as_slice(), client)?;
-        let told = told_to(alloc, &journal, client)?;
-        assert_text(rt, told.as_str(), printed.as_str());
-    }
-    Ok(())
+    let replies = split(rt.alloc(), text(rt, &out)).expect(rt, "no list");
+    assert_replies(rt, &replies, &journal);
 }
 
 // It catches maps of which each client has one of its own, an update that is lost, a reply at another's line, and a
 // journal that tells another answer than was printed.
 #[test]
-fn each_key_is_added_once(rt: HostRuntime) -> Result<(), Fail> {
-    let script = script_of(rt.alloc())?;
+fn each_key_is_added_once(rt: HostRuntime) {
+    let script = script_of(rt.alloc()).expect(&rt, "no script");
     for _ in 0..ROUNDS {
-        one_round(&rt, script.as_str())?;
+        one_round(&rt, &script);
     }
-    Ok(())
 }

@@ -1,14 +1,15 @@
 //! Writers and readers that fail.
-use super::{CREW, assert_is, assert_text, executed, plain, text};
+use super::{CREW, assert_bytes, assert_is, assert_text, executed, plain};
 use batch_cli::{
-    ArgFault, Free, RunFault, ScriptFault, execute, parse_script, read_journal, read_script,
-    run_script,
+    ArgFault, Free, Journal, RunFault, ScriptFault, execute, parse_script, read_journal,
+    read_script, run_script,
 };
-use std::alloc::AllocError;
+use std::alloc::Global;
 use std::io;
 use std::io::{Read, Write};
+use std::panic::Expect;
+use std::process::Abort;
 use std::sync::Wait;
-use std::test::Fail;
 use std::thread::Threads;
 
 /// Takes three bytes at a time until it has its most, and then fails.
@@ -56,79 +57,69 @@ impl Read for Torn {
     }
 }
 
-// The status of a run of one line whose output takes so many bytes, how many it took, and standard error.
-fn executed_onto<R: AllocGlobal + Threads + Wait + Sync>(
-    rt: &R,
-    most: usize,
-) -> Result<(u8, usize, String), AllocError> {
-    let alloc = rt.alloc();
-    let mut out = Disk {
+// The disk with no bytes that takes so many.
+fn empty_disk(alloc: Global, most: usize) -> Disk {
+    Disk {
         held: Vec::new(alloc),
         most,
-    };
-    let mut err = Vec::new(alloc);
+    }
+}
+
+// A run of one line whose output takes so many bytes fails, and takes them.
+fn assert_fails_onto<R: AllocGlobal + Abort + Threads + Wait + Sync>(rt: &R, most: usize) {
+    let alloc = rt.alloc();
+    let (mut out, mut err) = (empty_disk(alloc, most), Vec::new(alloc));
     let (status, journal) = execute(rt, alloc, &plain(), b"0 open 1\n", &mut out, &mut err);
     drop(journal);
-    Ok((status, out.held.len(), text(alloc, &err)?))
+    assert_is(rt, (status, out.held.len()), (1, most));
+    assert_bytes(rt, &err, "trierun: cannot write output\n");
 }
 
 #[test]
-fn a_writer_that_fails_fails_the_run(rt: HostRuntime) -> Result<(), Fail> {
+fn a_writer_that_fails_fails_the_run(rt: HostRuntime) {
     for most in [0, 3] {
-        let (status, taken, err) = executed_onto(&rt, most)?;
-        assert_is(&rt, (status, taken), (1, most));
-        assert_text(&rt, err.as_str(), "trierun: cannot write output\n");
+        assert_fails_onto(&rt, most);
     }
-    Ok(())
+}
+
+// The run of two lines whose output takes so many bytes, and what it took.
+fn run_onto<R: AllocGlobal + Abort + Threads + Wait + Sync>(
+    rt: &R,
+    most: usize,
+) -> (Result<Journal, RunFault>, Vec<u8>) {
+    let alloc = rt.alloc();
+    let script = parse_script(alloc, b"0 open 1\n0 size 1").expect(rt, "no script");
+    let mut out = empty_disk(alloc, most);
+    let ran = run_script(rt, alloc, &script, CREW, &mut out, &Free);
+    (ran, out.held)
 }
 
 // Whatever it takes first of the fifteen bytes, the run fails.
 #[test]
-fn a_writer_that_fails_at_any_write_fails_the_run(rt: HostRuntime) -> Result<(), Fail> {
-    let alloc = rt.alloc();
-    let script = parse_script(alloc, b"0 open 1\n0 size 1")?;
+fn a_writer_that_fails_at_any_write_fails_the_run(rt: HostRuntime) {
     for most in [0, 3, 6, 9, 12] {
-        let mut out = Disk {
-            held: Vec::new(alloc),
-            most,
-        };
-        let ran = run_script(&rt, alloc, &script, CREW, &mut out, &Free);
+        let (ran, _) = run_onto(&rt, most);
         assert!(rt; matches!(ran, Err(RunFault::Write)), "with room for {most}");
     }
-    Ok(())
 }
 
 #[test]
-fn a_writer_that_has_room_gets_all(rt: HostRuntime) -> Result<(), Fail> {
-    let alloc = rt.alloc();
-    let script = parse_script(alloc, b"0 open 1\n0 size 1")?;
-    let mut out = Disk {
-        held: Vec::new(alloc),
-        most: 100,
-    };
-    let journal = run_script(&rt, alloc, &script, CREW, &mut out, &Free)?;
-    assert_is(&rt, journal.len(), 2);
-    let held = text(alloc, &out.held)?;
-    assert_text(&rt, held.as_str(), "1 ok\n2 count 0\n");
-    Ok(())
+fn a_writer_that_has_room_gets_all(rt: HostRuntime) {
+    let (ran, held) = run_onto(&rt, 100);
+    assert_is(&rt, ran.expect(&rt, "no run").len(), 2);
+    assert_bytes(&rt, &held, "1 ok\n2 count 0\n");
 }
 
 #[test]
-fn standard_error_that_fails_changes_no_status(rt: HostRuntime) -> Result<(), Fail> {
+fn standard_error_that_fails_changes_no_status(rt: HostRuntime) {
     let alloc = rt.alloc();
-    let mut out = Vec::new(alloc);
-    let mut err = Disk {
-        held: Vec::new(alloc),
-        most: 0,
-    };
-    let options = plain();
-    let (status, _) = execute(&rt, alloc, &options, b"0", &mut out, &mut err);
+    let (mut out, mut err) = (Vec::new(alloc), empty_disk(alloc, 0));
+    let (status, _) = execute(&rt, alloc, &plain(), b"0", &mut out, &mut err);
     assert_is(&rt, (status, out.len()), (2, 0));
-    Ok(())
 }
 
 #[test]
-fn a_reader_that_fails_fails_the_reading(rt: HostRuntime) -> Result<(), Fail> {
+fn a_reader_that_fails_fails_the_reading(rt: HostRuntime) {
     let torn = Torn {
         byte: b'#',
         left: 9,
@@ -139,23 +130,21 @@ fn a_reader_that_fails_fails_the_reading(rt: HostRuntime) -> Result<(), Fail> {
         left: 9,
     };
     assert!(rt; read_journal(rt.alloc(), torn).is_err());
-    Ok(())
 }
 
 #[test]
-fn no_more_is_read_than_a_script_may_have(rt: HostRuntime) -> Result<(), Fail> {
+fn no_more_is_read_than_a_script_may_have(rt: HostRuntime) {
     let alloc = rt.alloc();
-    let all = read_script(alloc, io::repeat(b'#'))?;
+    let all = read_script(alloc, io::repeat(b'#')).expect(&rt, "no script");
     assert_is(&rt, all.len(), 65_536 * 257 + 1);
-    let few = read_script(alloc, b"0 open 1\n".as_slice())?;
-    assert_text(&rt, text(alloc, &few)?.as_str(), "0 open 1\n");
-    let long = read_journal(alloc, io::repeat(b'{').take(16_900_000))?;
+    let few = read_script(alloc, b"0 open 1\n".as_slice()).expect(&rt, "no script");
+    assert_bytes(&rt, &few, "0 open 1\n");
+    let long = read_journal(alloc, io::repeat(b'{').take(16_900_000)).expect(&rt, "no journal");
     assert_is(&rt, long.len(), 16_900_000);
-    Ok(())
 }
 
 #[test]
-fn faults_show_as_they_are_printed(rt: HostRuntime) -> Result<(), Fail> {
+fn faults_show_as_they_are_printed(rt: HostRuntime) {
     let alloc = rt.alloc();
     let shown = format!(in alloc;
         "{}, {}, {}, {}, {}",
@@ -164,23 +153,26 @@ fn faults_show_as_they_are_printed(rt: HostRuntime) -> Result<(), Fail> {
         RunFault::Write,
         ArgFault::Memory,
         ArgFault::AuditJournal
-    )?;
+    );
     let wanted =
         "out of memory, out of memory, cannot write output, out of memory, --audit takes no --journal";
-    assert_text(&rt, shown.as_str(), wanted);
-    let help = String::from_str(alloc, "Usage")?;
-    let shown = format!(in alloc; "{}", ArgFault::Help(help))?;
-    assert_text(&rt, shown.as_str(), "Usage");
-    let shown = format!(in alloc; "{}", ArgFault::NotText)?;
-    assert!(rt; shown.as_str().starts_with("error: invalid UTF-8"));
-    Ok(())
+    assert_text(&rt, &shown.expect(&rt, "no text"), wanted);
 }
 
 #[test]
-fn a_script_with_a_fault_is_not_run(rt: HostRuntime) -> Result<(), Fail> {
-    let (status, out, err) = executed(&rt, b"0 open 1\n0 open")?;
-    assert_text(&rt, err.as_str(), "line 2: missing field\n");
-    assert_text(&rt, out.as_str(), "");
+fn faults_of_words_show_their_texts(rt: HostRuntime) {
+    let alloc = rt.alloc();
+    let help = String::from_str(alloc, "Usage").expect(&rt, "no text");
+    let shown = format!(in alloc; "{}", ArgFault::Help(help)).expect(&rt, "no text");
+    assert_text(&rt, &shown, "Usage");
+    let shown = format!(in alloc; "{}", ArgFault::NotText).expect(&rt, "no text");
+    assert!(rt; shown.as_str().starts_with("error: invalid UTF-8"));
+}
+
+#[test]
+fn a_script_with_a_fault_is_not_run(rt: HostRuntime) {
+    let (status, out, err) = executed(&rt, b"0 open 1\n0 open");
+    assert_bytes(&rt, &err, "line 2: missing field\n");
+    assert_bytes(&rt, &out, "");
     assert_is(&rt, status, 2);
-    Ok(())
 }

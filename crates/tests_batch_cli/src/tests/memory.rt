@@ -4,8 +4,9 @@ use batch_cli::{Free, LineGate, RunFault, Script, execute, parse_script, run_scr
 use std::alloc::{AllocError, Global};
 use std::io;
 use std::io::Write;
+use std::panic::Expect;
+use std::process::Abort;
 use std::sync::{Barrier, Mutex, Wait};
-use std::test::Fail;
 use std::thread::Threads;
 use test_keys::{Shortage, take_all};
 
@@ -50,6 +51,9 @@ const FEW_TRIES: usize = 40;
 
 // How far behind a line memory is given back, where it is.
 const APART: u32 = 5;
+
+// What is told of a run that is neither whole nor refused as it has to be.
+const WRONG: &str = "a run is not as it has to be";
 
 /// Takes a byte at a time into its own, with no request for memory.
 #[derive(Drop)]
@@ -99,14 +103,13 @@ fn is_told_in_one_line<R: Threads + Wait + Sync>(rt: &R, alloc: Global, script: 
 }
 
 #[test]
-fn want_of_memory_is_told_in_one_line(rt: HostRuntime) -> Result<(), Fail> {
+fn want_of_memory_is_told_in_one_line(rt: HostRuntime) {
     let alloc = rt.alloc();
-    let taken = take_all(alloc)?;
+    let taken = take_all(alloc).expect(&rt, "no list");
     let of_a_line = is_told_in_one_line(&rt, alloc, b"0 open 1");
     let of_a_comment = is_told_in_one_line(&rt, alloc, b"# none");
     drop(taken);
     assert_is(&rt, (of_a_line, of_a_comment), (true, true));
-    Ok(())
 }
 
 // Whether a run of the script is whole, or wants memory and has written nothing; or nothing where it is neither.
@@ -125,43 +128,41 @@ fn is_run<R: Threads + Wait + Sync, G: LineGate + Sync>(
 }
 
 // Runs the script with so many times the bytes of a step, and with a step more each time: how many runs wanted memory
-// before one was whole, with those that came before these; none where no run was whole. Nothing where a run is not as it
-// has to be.
+// before one was whole, with those that came before these; nothing where no run was whole.
 //
 // Memory is taken anew for them: what earlier runs have let go lies in pieces among the bytes that were given to them.
-fn refusals_from<R: Threads + Wait + Sync>(
+fn refusals_from<R: Abort + Threads + Wait + Sync>(
     rt: &R,
     alloc: Global,
     script: &Script,
     from: u32,
-) -> Option<Option<u32>> {
-    let mut shortage = Shortage::new(alloc).ok()?;
-    shortage
-        .give(alloc, (from as usize).saturating_mul(STEP))
-        .ok()?;
+) -> Option<u32> {
+    let mut shortage = Shortage::new(alloc).expect(rt, "no list");
+    let first = shortage.give(alloc, (from as usize).saturating_mul(STEP));
+    first.expect(rt, "no room");
     for refused in from..from.saturating_add(TRIES_AT_ONCE) {
-        if is_run(rt, alloc, script, &Free)? {
-            return Some(Some(refused));
+        if is_run(rt, alloc, script, &Free).expect(rt, WRONG) {
+            return Some(refused);
         }
-        shortage.give(alloc, STEP).ok()?;
+        shortage.give(alloc, STEP).expect(rt, "no room");
     }
-    Some(None)
+    None
 }
 
-// Runs the script with no memory, with a little, and so on: how many runs wanted memory before one was whole, and whether
-// one was. Nothing where a run is not as it has to be.
-fn refusals<R: Threads + Wait + Sync>(
+// Runs the script with no memory, with a little, and so on: how many runs wanted memory before one was whole; nothing
+// where none was.
+fn refusals<R: Abort + Threads + Wait + Sync>(
     rt: &R,
     alloc: Global,
     script: &Script,
-) -> Option<(u32, bool)> {
+) -> Option<u32> {
     for round in 0..ROUNDS {
         let from = round.saturating_mul(TRIES_AT_ONCE);
-        if let Some(refused) = refusals_from(rt, alloc, script, from)? {
-            return Some((refused, true));
+        if let Some(refused) = refusals_from(rt, alloc, script, from) {
+            return Some(refused);
         }
     }
-    Some((0, false))
+    None
 }
 
 // With each try a request more is met. No thread is started in what little there is, so the clients are run one after
@@ -169,13 +170,11 @@ fn refusals<R: Threads + Wait + Sync>(
 // an entry where memory is wanting, one that writes before all replies are there, and one that takes want of memory for
 // a reply.
 #[test]
-fn a_run_is_refused_at_each_request(rt: HostRuntime) -> Result<(), Fail> {
+fn a_run_is_refused_at_each_request(rt: HostRuntime) {
     let alloc = rt.alloc();
-    let script = parse_script(alloc, SCRIPT)?;
-    let runs = refusals(&rt, alloc, &script);
-    let (refused, is_whole) = runs.ok_or("runs that are as they have to be")?;
-    assert_is(&rt, (refused > 0, is_whole), (true, true));
-    Ok(())
+    let script = parse_script(alloc, SCRIPT).expect(&rt, "no script");
+    let refused = refusals(&rt, alloc, &script).expect(&rt, "no run is whole");
+    assert_is(&rt, refused > 0, true);
 }
 
 /// Lets no client go on before all have begun. It takes all memory then but for so many bytes next to one another, and
@@ -237,13 +236,12 @@ fn rationed<R: Threads + Wait + Sync>(rt: &R, alloc: Global, script: &Script) ->
 // own, so clients run at once while requests of their caller's thread are refused, and how much memory is enough differs.
 // It catches a client that is lost where the caller's wants memory.
 #[test]
-fn a_run_of_threads_is_refused_at_some_requests(rt: HostRuntime) -> Result<(), Fail> {
+fn a_run_of_threads_is_refused_at_some_requests(rt: HostRuntime) {
     let alloc = rt.alloc();
-    let script = parse_script(alloc, SCRIPT)?;
-    let refused = rationed(&rt, alloc, &script).ok_or("runs that are as they have to be")?;
+    let script = parse_script(alloc, SCRIPT).expect(&rt, "no script");
+    let refused = rationed(&rt, alloc, &script).expect(&rt, WRONG);
     assert_is(&rt, refused > 0, true);
     assert_is(&rt, is_run(&rt, alloc, &script, &Free), Some(true));
-    Ok(())
 }
 
 /// Takes all memory before the line `at`, and gives it back before the first line numbered `until` or higher that begins
@@ -289,9 +287,9 @@ fn is_run_without<R: Threads + Wait + Sync>(
 // The threads of all clients have begun or will begin when memory is taken. It catches a thread that is not joined
 // where another one fails, and replies that are written without those of a client that failed.
 #[test]
-fn memory_is_wanting_from_some_line_on(rt: HostRuntime) -> Result<(), Fail> {
+fn memory_is_wanting_from_some_line_on(rt: HostRuntime) {
     let alloc = rt.alloc();
-    let script = parse_script(alloc, SCRIPT)?;
+    let script = parse_script(alloc, SCRIPT).expect(&rt, "no script");
     for at in 1..BEYOND {
         let run = is_run_without(&rt, alloc, &script, at, BEYOND);
         assert!(rt; run.is_some(), "from line {at} on");
@@ -300,7 +298,6 @@ fn memory_is_wanting_from_some_line_on(rt: HostRuntime) -> Result<(), Fail> {
     assert_is(&rt, first, Some(false));
     let after = is_run_without(&rt, alloc, &script, BEYOND, BEYOND);
     assert_is(&rt, after, Some(true));
-    Ok(())
 }
 
 // How many of the runs want memory, where it is there again some lines behind the one that takes it. Nothing where a run
@@ -319,10 +316,9 @@ fn pinched<R: Threads + Wait + Sync>(rt: &R, alloc: Global, script: &Script) -> 
 // it. It catches a client that is whole for its caller and lacks a line, and a job that is told as done though its crew
 // had no memory.
 #[test]
-fn memory_is_wanting_for_some_lines(rt: HostRuntime) -> Result<(), Fail> {
+fn memory_is_wanting_for_some_lines(rt: HostRuntime) {
     let alloc = rt.alloc();
-    let script = parse_script(alloc, SCRIPT)?;
-    let refused = pinched(&rt, alloc, &script).ok_or("runs that are as they have to be")?;
+    let script = parse_script(alloc, SCRIPT).expect(&rt, "no script");
+    let refused = pinched(&rt, alloc, &script).expect(&rt, WRONG);
     assert!(rt; refused > 0);
-    Ok(())
 }
