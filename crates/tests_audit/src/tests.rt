@@ -1,9 +1,7 @@
 //! What the tests share: the verdict on a text, in words.
 use audit::{Verdict, audit};
-use std::alloc::Global;
+use std::panic::Expect;
 use std::process::Abort;
-use std::test::Fail;
-use versions::NoMemory;
 
 mod changed;
 mod hostile;
@@ -12,17 +10,19 @@ mod model;
 mod rows;
 mod runs;
 
-/// The verdict on the text, as the program prints it.
-fn told(alloc: Global, text: &[u8]) -> Result<String, NoMemory> {
-    Ok(match audit(alloc, text)? {
-        Verdict::Legal(entries) => format!(in alloc; "legal {entries}")?,
-        Verdict::Bad(line) => format!(in alloc; "bad {line}")?,
-    })
+/// The verdict on the text.
+fn verdict_on<R: AllocGlobal + Abort>(rt: &R, text: &[u8]) -> Verdict {
+    audit(rt.alloc(), text).expect(rt, "no verdict")
 }
 
-/// The verdict on the text is this one. An assertion is proved wherever it is written out, so it stands here once.
-fn assert_told<R: AllocGlobal + Abort>(rt: &R, text: &[u8], wanted: &str) -> Result<(), Fail> {
-    let seen = told(rt.alloc(), text)?;
-    assert_eq!(rt; seen.as_str(), wanted);
-    Ok(())
+/// The verdict on the text, as the program prints it, is this one. An assertion is proved wherever it is written out, so
+/// it stands here once.
+fn assert_told<R: AllocGlobal + Abort>(rt: &R, text: &[u8], wanted: &str) {
+    let alloc = rt.alloc();
+    let shown = match verdict_on(rt, text) {
+        Verdict::Legal(entries) => format!(in alloc; "legal {entries}"),
+        Verdict::Bad(line) => format!(in alloc; "bad {line}"),
+    };
+    let told = shown.expect(rt, "no room");
+    assert_eq!(rt; told.as_str(), wanted);
 }

@@ -2,10 +2,11 @@
 use crate::tests::model::judged;
 use crate::tests::rows::FIRST;
 use crate::tests::runs::written;
-use crate::tests::{assert_told, told};
-use std::alloc::Global;
+use crate::tests::verdict_on;
+use audit::Verdict;
+use std::alloc::AllocError;
+use std::panic::Expect;
 use std::process::Abort;
-use std::test::Fail;
 use test_keys::Random;
 
 /// How many random scripts are run.
@@ -55,37 +56,43 @@ const LETTERS: [u8; 4] = *b"abcd";
 
 const MARKS: [u8; 16] = *b" \"\\-+0aenu{}:,\n\xff";
 
-/// A script of the verbs that the plain judge knows.
-fn plain_script(alloc: Global, random: &mut Random) -> Result<Vec<u8>, Fail> {
-    let mut text = Vec::new(alloc);
-    for _ in 0..LINES {
-        let (verb, has_key, has_value) = PLAIN[random.next(8) as usize % 8];
-        let (client, handle) = (random.next(3), random.next(3));
-        let line = format!(in alloc; "{client} {verb} {handle}")?;
-        text.extend_from_slice(line.as_bytes())?;
-        if has_key {
-            let key = format!(in alloc; " {}", KEYS[random.next(5) as usize % 5])?;
-            text.extend_from_slice(key.as_bytes())?;
-        }
-        if has_value {
-            let value = format!(in alloc; " {}", i64::from(random.next(21)) - 10)?;
-            text.extend_from_slice(value.as_bytes())?;
-        }
-        text.push(b'\n')?;
+/// Adds a line with a verb that the plain judge knows.
+fn push_plain(text: &mut String, random: &mut Random) -> Result<(), AllocError> {
+    let (verb, has_key, has_value) = PLAIN[random.next(8) as usize % 8];
+    let (client, handle) = (random.next(3), random.next(3));
+    write!(text, "{client} {verb} {handle}")?;
+    if has_key {
+        write!(text, " {}", KEYS[random.next(5) as usize % 5])?;
     }
-    Ok(text)
+    if has_value {
+        write!(text, " {}", i64::from(random.next(21)) - 10)?;
+    }
+    text.push_str("\n")
+}
+
+/// A script of the verbs that the plain judge knows.
+fn plain_script<R: AllocGlobal + Abort>(rt: &R, random: &mut Random) -> String {
+    let mut text = String::new(rt.alloc());
+    for _ in 0..LINES {
+        push_plain(&mut text, random).expect(rt, "no room");
+    }
+    text
+}
+
+/// Adds a line with a verb of any kind.
+fn push_any(text: &mut String, random: &mut Random) -> Result<(), AllocError> {
+    let (verb, rest) = WHOLE[random.next(14) as usize % 14];
+    let (client, handle) = (random.next(3), random.next(7));
+    write!(text, "{client} {verb} {handle}{rest}\n")
 }
 
 /// A script of all kinds of verbs.
-fn whole_script(alloc: Global, random: &mut Random) -> Result<Vec<u8>, Fail> {
-    let mut text = Vec::new(alloc);
+fn whole_script<R: AllocGlobal + Abort>(rt: &R, random: &mut Random) -> String {
+    let mut text = String::new(rt.alloc());
     for _ in 0..LINES {
-        let (verb, rest) = WHOLE[random.next(14) as usize % 14];
-        let (client, handle) = (random.next(3), random.next(7));
-        let line = format!(in alloc; "{client} {verb} {handle}{rest}\n")?;
-        text.extend_from_slice(line.as_bytes())?;
+        push_any(&mut text, random).expect(rt, "no room");
     }
-    Ok(text)
+    text
 }
 
 /// Another byte of the same kind.
@@ -98,9 +105,8 @@ fn another(byte: u8, random: &mut Random) -> u8 {
 }
 
 /// The audit judges the text as the plain judge does.
-fn assert_judged<R: AllocGlobal + Abort>(rt: &R, text: &[u8]) -> Result<(), Fail> {
-    let wanted = judged(rt.alloc(), text)?;
-    assert_told(rt, text, wanted.as_str())
+fn assert_judged<R: AllocGlobal + Abort>(rt: &R, text: &[u8]) {
+    assert_eq!(rt; verdict_on(rt, text), judged(rt, text));
 }
 
 /// Puts the byte into its place, if there is one.
@@ -111,59 +117,50 @@ fn put(text: &mut [u8], place: usize, byte: u8) {
 }
 
 /// So it does with some bytes changed, one at a time.
-fn assert_changes_judged<R: AllocGlobal + Abort>(
-    rt: &R,
-    text: &mut [u8],
-    random: &mut Random,
-) -> Result<(), Fail> {
+fn assert_changes_judged<R: AllocGlobal + Abort>(rt: &R, text: &mut [u8], random: &mut Random) {
     for _ in 0..CHANGES {
         let place = (random.next(1 << 16) as usize)
             .checked_rem(text.len())
             .unwrap_or(0);
         let Some(old) = text.get(place).copied() else {
-            return Ok(());
+            return;
         };
         put(text, place, another(old, random));
-        assert_judged(rt, text)?;
+        assert_judged(rt, text);
         put(text, place, old);
     }
-    Ok(())
 }
 
 #[test]
-fn changed_journals_are_judged(rt: HostRuntime) -> Result<(), Fail> {
+fn changed_journals_are_judged(rt: HostRuntime) {
     let mut random = Random(2026);
     for _ in 0..RUNS {
-        let script = plain_script(rt.alloc(), &mut random)?;
-        let mut text = written(&rt, &script)?;
-        assert_judged(&rt, &text)?;
-        assert_changes_judged(&rt, &mut text, &mut random)?;
+        let script = plain_script(&rt, &mut random);
+        let mut text = written(&rt, script.as_bytes());
+        assert_judged(&rt, &text);
+        assert_changes_judged(&rt, &mut text, &mut random);
     }
-    Ok(())
 }
 
 #[test]
-fn journals_of_random_scripts_are_legal(rt: HostRuntime) -> Result<(), Fail> {
+fn journals_of_random_scripts_are_legal(rt: HostRuntime) {
     let mut random = Random(2027);
     for _ in 0..RUNS {
-        let script = whole_script(rt.alloc(), &mut random)?;
-        let text = written(&rt, &script)?;
-        let verdict = told(rt.alloc(), &text)?;
-        assert!(rt; verdict.as_str().starts_with("legal "));
+        let script = whole_script(&rt, &mut random);
+        let text = written(&rt, script.as_bytes());
+        assert!(rt; matches!(verdict_on(&rt, &text), Verdict::Legal(_)));
     }
-    Ok(())
 }
 
 /// Each bit of each byte of a journal, turned.
 #[test]
-fn turned_bytes_are_judged(rt: HostRuntime) -> Result<(), Fail> {
-    let mut text = Vec::from_slice(rt.alloc(), FIRST)?;
+fn turned_bytes_are_judged(rt: HostRuntime) {
+    let mut text = Vec::from_slice(rt.alloc(), FIRST).expect(&rt, "no text");
     for (place, byte) in FIRST.iter().enumerate() {
         for bit in [1, 2, 4, 8, 16, 32, 64, 128] {
             put(&mut text, place, *byte ^ bit);
-            assert_judged(&rt, &text)?;
+            assert_judged(&rt, &text);
         }
         put(&mut text, place, *byte);
     }
-    Ok(())
 }

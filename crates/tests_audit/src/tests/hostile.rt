@@ -1,8 +1,7 @@
 //! Bytes that nobody wrote as a journal.
 use crate::tests::assert_told;
-use std::alloc::Global;
-use std::test::Fail;
-use versions::NoMemory;
+use std::alloc::{AllocError, Global};
+use std::panic::Expect;
 
 /// So many times the bytes, between two others.
 fn repeated(
@@ -11,7 +10,7 @@ fn repeated(
     bytes: &[u8],
     times: u32,
     back: &[u8],
-) -> Result<Vec<u8>, NoMemory> {
+) -> Result<Vec<u8>, AllocError> {
     let mut made = Vec::new(alloc);
     made.extend_from_slice(front)?;
     for _ in 0..times {
@@ -68,10 +67,9 @@ const LINES: [Row; 10] = [
 ];
 
 #[test]
-fn hostile_lines_are_bad(rt: HostRuntime) -> Result<(), Fail> {
+fn hostile_lines_are_bad(rt: HostRuntime) {
     for (front, bytes, times, back) in LINES {
-        let text = repeated(rt.alloc(), front, bytes, times, back)?;
-        assert_told(&rt, &text, "bad 1")?;
+        let text = repeated(rt.alloc(), front, bytes, times, back);
+        assert_told(&rt, &text.expect(&rt, "no text"), "bad 1");
     }
-    Ok(())
 }

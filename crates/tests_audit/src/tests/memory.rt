@@ -1,11 +1,11 @@
 //! Audits with no memory, with a little, and so on.
 use crate::tests::rows::BULK;
-use crate::tests::runs::CREW;
+use crate::tests::runs::journal_of;
 use audit::{Verdict, audit};
-use batch_cli::{Free, parse_script, run_script};
 use journal_text::{ProgramJournal, journal_text};
 use std::alloc::Global;
-use std::test::Fail;
+use std::panic::Expect;
+use std::process::Abort;
 use test_keys::Shortage;
 
 /// How many bytes are given after each refusal, and how often it is tried at most.
@@ -13,37 +13,37 @@ const STEP: usize = 32;
 
 const TRIES: u32 = 4_096;
 
-/// How often the audit was refused memory, and its verdict then.
-fn audited(alloc: Global, text: &[u8]) -> Result<(u32, Verdict), Fail> {
-    let mut shortage = Shortage::new(alloc)?;
+/// How often the audit was refused memory, and its verdict then; nothing where memory is never enough.
+fn audited(rt: &impl Abort, alloc: Global, text: &[u8]) -> Option<(u32, Verdict)> {
+    let mut shortage = Shortage::new(alloc).expect(rt, "no list");
     for refused in 0..TRIES {
-        match audit(alloc, text) {
-            Ok(verdict) => return Ok((refused, verdict)),
-            Err(_) => shortage.give(alloc, STEP)?,
+        if let Ok(verdict) = audit(alloc, text) {
+            return Some((refused, verdict));
         }
+        shortage.give(alloc, STEP).expect(rt, "no room");
     }
-    Err(Fail::new("memory is never enough"))
+    None
 }
 
-/// How often the text of the journal was refused memory, and the text then.
-fn spelled(alloc: Global, journal: &ProgramJournal) -> Result<(u32, Vec<u8>), Fail> {
-    let mut shortage = Shortage::new(alloc)?;
+/// How often the text of the journal was refused memory, and the text then; nothing where memory is never enough.
+fn spelled(rt: &impl Abort, alloc: Global, journal: &ProgramJournal) -> Option<(u32, Vec<u8>)> {
+    let mut shortage = Shortage::new(alloc).expect(rt, "no list");
     for refused in 0..TRIES {
-        match journal_text(alloc, journal) {
-            Ok(text) => return Ok((refused, text)),
-            Err(_) => shortage.give(alloc, STEP)?,
+        if let Ok(text) = journal_text(alloc, journal) {
+            return Some((refused, text));
         }
+        shortage.give(alloc, STEP).expect(rt, "no room");
     }
-    Err(Fail::new("memory is never enough"))
+    None
 }
 
 /// With each try a request more is met. It catches want of memory that is taken for a line that spoils the text.
 #[test]
-fn an_audit_is_refused_at_each_request(rt: HostRuntime) -> Result<(), Fail> {
-    let (refused, verdict) = audited(rt.alloc(), BULK)?;
+fn an_audit_is_refused_at_each_request(rt: HostRuntime) {
+    let seen = audited(&rt, rt.alloc(), BULK);
+    let (refused, verdict) = seen.expect(&rt, "memory is never enough");
     assert!(rt; refused > 0);
     assert_eq!(rt; verdict, Verdict::Legal(16));
-    Ok(())
 }
 
 /// A script of one client, and the text of the journal of its run.
@@ -71,13 +71,10 @@ const TEXT: &[u8] = b"{\"call\":\"open 1\",\"entry\":1,\"reply\":\"ok\",\"seat\"
 
 /// It catches a line that is lost where memory is wanting.
 #[test]
-fn a_text_is_refused_at_each_request(rt: HostRuntime) -> Result<(), Fail> {
-    let alloc = rt.alloc();
-    let script = parse_script(alloc, SCRIPT)?;
-    let mut out = Vec::new(alloc);
-    let journal = run_script(&rt, alloc, &script, CREW, &mut out, &Free)?;
-    let (refused, text) = spelled(alloc, &journal)?;
+fn a_text_is_refused_at_each_request(rt: HostRuntime) {
+    let journal = journal_of(&rt, SCRIPT);
+    let seen = spelled(&rt, rt.alloc(), &journal);
+    let (refused, text) = seen.expect(&rt, "memory is never enough");
     assert!(rt; refused > 0);
     assert_eq!(rt; text.as_slice(), TEXT);
-    Ok(())
 }

@@ -1,8 +1,9 @@
 //! A plain judge of the texts of journals: it spells each line again, and its maps are std's. Of calls it knows those
 //! that the tests of changed journals make.
-use std::alloc::Global;
+use audit::Verdict;
 use std::collections::BTreeMap;
-use std::test::Fail;
+use std::panic::Expect;
+use std::process::Abort;
 
 /// The value of each key of each handle, and how many keys each live handle has.
 #[derive(Drop)]
@@ -20,81 +21,83 @@ struct Call<'t> {
     value: i64,
 }
 
-/// The verdict on the text, as the program prints it.
-pub(super) fn judged(alloc: Global, text: &[u8]) -> Result<String, Fail> {
+/// The verdict on the text.
+pub(super) fn judged<R: AllocGlobal + Abort>(rt: &R, text: &[u8]) -> Verdict {
     let mut model = Model {
-        values: BTreeMap::new(alloc),
-        sizes: BTreeMap::new(alloc),
+        values: BTreeMap::new(rt.alloc()),
+        sizes: BTreeMap::new(rt.alloc()),
     };
     let mut number = 1u32;
     let mut over = false;
     for line in text.split_inclusive(|byte| *byte == b'\n') {
-        let last = format!(in alloc; "{{\"entries\":{}}}\n", number.saturating_sub(1))?;
         if over {
-            return Ok(format!(in alloc; "bad {number}")?);
+            return Verdict::Bad(u64::from(number));
         }
-        if line == last.as_bytes() {
+        if is_last(rt, number, line) {
             over = true;
-        } else if !model.takes(alloc, number, line)? {
-            return Ok(format!(in alloc; "bad {number}")?);
+        } else if !model.takes(rt, number, line) {
+            return Verdict::Bad(u64::from(number));
         }
         number = number.saturating_add(1);
     }
     if over {
-        return Ok(format!(in alloc; "legal {}", number.saturating_sub(2))?);
+        return Verdict::Legal(u64::from(number.saturating_sub(2)));
     }
-    Ok(format!(in alloc; "bad {number}")?)
+    Verdict::Bad(u64::from(number))
+}
+
+/// Whether the line of this number is the last one of a journal.
+fn is_last<R: AllocGlobal + Abort>(rt: &R, number: u32, line: &[u8]) -> bool {
+    let last = format!(in rt.alloc(); "{{\"entries\":{}}}\n", number.saturating_sub(1));
+    line == last.expect(rt, "no room").as_bytes()
 }
 
 impl Model {
     /// Whether the line is that of the entry of this number. What it asks is then done.
-    fn takes(&mut self, alloc: Global, number: u32, line: &[u8]) -> Result<bool, Fail> {
+    fn takes<R: AllocGlobal + Abort>(&mut self, rt: &R, number: u32, line: &[u8]) -> bool {
         let Ok(line) = str::from_utf8(line) else {
-            return Ok(false);
+            return false;
         };
         let Some((quoted_call, seat)) = parts(line) else {
-            return Ok(false);
+            return false;
         };
-        let text = unquoted(alloc, quoted_call)?;
-        let (Some(call), Some(seat)) = (call_in(alloc, text.as_str())?, number_in(alloc, seat)?)
-        else {
-            return Ok(false);
+        let text = unquoted(rt, quoted_call);
+        let (Some(call), Some(seat)) = (call_in(rt, &text), number_in(rt, seat)) else {
+            return false;
         };
-        let reply = self.reply(alloc, &call)?;
-        let call = quoted(alloc, text.as_str())?;
-        let spelled = format!(in alloc;
-            "{{\"call\":\"{call}\",\"entry\":{number},\"reply\":\"{reply}\",\"seat\":{seat}}}\n"
-        )?;
-        Ok(seat < 64 && spelled.as_str() == line)
+        let reply = self.reply(rt, &call);
+        seat < 64 && is_entry(rt, line, number, seat, &text, &reply)
     }
 
     /// The reply to the call, which is made.
-    fn reply(&mut self, alloc: Global, call: &Call<'_>) -> Result<String, Fail> {
-        if call.handle > 1023 {
-            return Ok(format!(in alloc; "refused BadNumber")?);
-        }
-        let Some(size) = self.sizes.get(&call.handle).copied() else {
-            if call.verb != "open" {
-                return Ok(format!(in alloc; "refused NoHandle")?);
+    fn reply<R: AllocGlobal + Abort>(&mut self, rt: &R, call: &Call<'_>) -> String {
+        let alloc = rt.alloc();
+        let shown = match (call.verb, self.sizes.get(&call.handle).copied()) {
+            _ if call.handle > 1023 => String::from_str(alloc, "refused BadNumber"),
+            ("open", None) => {
+                self.resize(rt, call.handle, 0);
+                String::from_str(alloc, "ok")
             }
-            self.sizes.insert(call.handle, 0)?;
-            return Ok(format!(in alloc; "ok")?);
+            (_, None) => String::from_str(alloc, "refused NoHandle"),
+            ("open", Some(_)) => String::from_str(alloc, "refused Taken"),
+            ("size", Some(size)) => format!(in alloc; "count {size}"),
+            (_, Some(size)) => match self.changed(rt, call, size) {
+                Some(old) => format!(in alloc; "some {old}"),
+                None => String::from_str(alloc, "none"),
+            },
         };
-        if call.verb == "open" {
-            return Ok(format!(in alloc; "refused Taken")?);
-        }
-        if call.verb == "size" {
-            return Ok(format!(in alloc; "count {size}")?);
-        }
-        match self.changed(alloc, call, size)? {
-            Some(old) => Ok(format!(in alloc; "some {old}")?),
-            None => Ok(format!(in alloc; "none")?),
-        }
+        shown.expect(rt, "no room")
     }
 
     /// The value of the key before the call, which is made; the handle has so many keys.
-    fn changed(&mut self, alloc: Global, call: &Call<'_>, size: u32) -> Result<Option<i64>, Fail> {
-        let key = (call.handle, String::from_str(alloc, call.key)?);
+    fn changed<R: AllocGlobal + Abort>(
+        &mut self,
+        rt: &R,
+        call: &Call<'_>,
+        size: u32,
+    ) -> Option<i64> {
+        let name = String::from_str(rt.alloc(), call.key).expect(rt, "no key");
+        let key = (call.handle, name);
         let old = self.values.get(&key).copied();
         let new = match call.verb {
             "put" => Some(call.value),
@@ -103,18 +106,47 @@ impl Model {
             "remove" => None,
             _ => old,
         };
-        let mut keys = size;
-        if old.is_some() {
-            keys = keys.saturating_sub(1);
-            self.values.remove(&key);
-        }
-        if let Some(value) = new {
-            keys = keys.saturating_add(1);
-            self.values.insert(key, value)?;
-        }
-        self.sizes.insert(call.handle, keys)?;
-        Ok(old)
+        self.give(rt, key, new);
+        let others = size.saturating_sub(u32::from(old.is_some()));
+        let keys = others.saturating_add(u32::from(new.is_some()));
+        self.resize(rt, call.handle, keys);
+        old
     }
+
+    /// The handle has so many keys.
+    fn resize(&mut self, rt: &impl Abort, handle: u32, keys: u32) {
+        let put: Result<_, _> = self.sizes.insert(handle, keys);
+        put.expect(rt, "no room");
+    }
+
+    /// The key has the value, or none.
+    fn give(&mut self, rt: &impl Abort, key: (u32, String), value: Option<i64>) {
+        match value {
+            Some(value) => {
+                let put: Result<_, _> = self.values.insert(key, value);
+                put.expect(rt, "no room");
+            }
+            None => {
+                self.values.remove(&key);
+            }
+        }
+    }
+}
+
+/// Whether the line is that of an entry with these parts.
+fn is_entry<R: AllocGlobal + Abort>(
+    rt: &R,
+    line: &str,
+    number: u32,
+    seat: u32,
+    call: &str,
+    reply: &str,
+) -> bool {
+    let call = quoted(rt, call);
+    let spelled = format!(in rt.alloc();
+        "{{\"call\":\"{call}\",\"entry\":{number},\"reply\":\"{reply}\",\"seat\":{seat}}}\n"
+    );
+    spelled.expect(rt, "no room").as_str() == line
 }
 
 /// What stands in a line for the call and for the seat.
@@ -127,75 +159,86 @@ fn parts(line: &str) -> Option<(&str, &str)> {
 }
 
 /// The call of the text, if it is one.
-fn call_in<'t>(alloc: Global, text: &'t str) -> Result<Option<Call<'t>>, Fail> {
+fn call_in<'t, R: AllocGlobal + Abort>(rt: &R, text: &'t str) -> Option<Call<'t>> {
     let mut words = text.split(' ');
-    let (Some(verb), Some(handle)) = (words.next(), words.next()) else {
-        return Ok(None);
-    };
-    let Some(handle) = number_in(alloc, handle)? else {
-        return Ok(None);
-    };
+    let verb = words.next()?;
+    let handle = number_in(rt, words.next()?)?;
     let (has_key, has_value) = match verb {
         "open" | "size" => (false, false),
         "get" | "remove" => (true, false),
         "put" | "putifabsent" | "replace" => (true, true),
-        _ => return Ok(None),
+        _ => return None,
     };
-    let key = if has_key { words.next() } else { Some("") };
-    let number = if has_value { words.next() } else { Some("0") };
-    let (Some(key), Some(number), None) = (key, number, words.next()) else {
-        return Ok(None);
+    let key = if has_key { key_in(words.next()?)? } else { "" };
+    let value = if has_value {
+        value_in(rt, words.next()?)?
+    } else {
+        0
     };
-    let Ok(value) = number.parse::<i64>() else {
-        return Ok(None);
-    };
-    let spelled = format!(in alloc; "{value}")?;
-    let is_key = key.bytes().all(|byte| (0x21..=0x7e).contains(&byte));
-    if spelled.as_str() != number || !is_key || has_key == key.is_empty() || key.len() > 64 {
-        return Ok(None);
+    if words.next().is_some() {
+        return None;
     }
-    Ok(Some(Call {
+    Some(Call {
         verb,
         handle,
         key,
         value,
-    }))
-}
-
-/// The number that the text spells, if it does.
-fn number_in(alloc: Global, text: &str) -> Result<Option<u32>, Fail> {
-    let Ok(number) = text.parse::<u32>() else {
-        return Ok(None);
-    };
-    let spelled = format!(in alloc; "{number}")?;
-    Ok(if spelled.as_str() == text {
-        Some(number)
-    } else {
-        None
     })
 }
 
+/// The word, if it is a key.
+fn key_in(word: &str) -> Option<&str> {
+    let is_key = word.bytes().all(|byte| (0x21..=0x7e).contains(&byte));
+    if is_key && !word.is_empty() && word.len() <= 64 {
+        Some(word)
+    } else {
+        None
+    }
+}
+
+/// The number of a handle or a seat that the text spells, if it does.
+fn number_in<R: AllocGlobal + Abort>(rt: &R, text: &str) -> Option<u32> {
+    let number = text.parse::<u32>().ok()?;
+    let spelled = format!(in rt.alloc(); "{number}").expect(rt, "no room");
+    if spelled.as_str() == text {
+        Some(number)
+    } else {
+        None
+    }
+}
+
+/// The value that the text spells, if it does.
+fn value_in<R: AllocGlobal + Abort>(rt: &R, text: &str) -> Option<i64> {
+    let value = text.parse::<i64>().ok()?;
+    let spelled = format!(in rt.alloc(); "{value}").expect(rt, "no room");
+    if spelled.as_str() == text {
+        Some(value)
+    } else {
+        None
+    }
+}
+
 /// The text without the `\` before each `"` and `\`.
-fn unquoted(alloc: Global, text: &str) -> Result<String, Fail> {
-    let mut plain = String::new(alloc);
+fn unquoted<R: AllocGlobal + Abort>(rt: &R, text: &str) -> String {
+    let mut plain = String::new(rt.alloc());
     let mut is_escaped = false;
     for letter in text.chars() {
         is_escaped = letter == '\\' && !is_escaped;
         if !is_escaped {
-            plain.push(letter)?;
+            plain.push(letter).expect(rt, "no room");
         }
     }
-    Ok(plain)
+    plain
 }
 
 /// The text with a `\` before each `"` and `\`.
-fn quoted(alloc: Global, text: &str) -> Result<String, Fail> {
-    let mut escaped = String::new(alloc);
+fn quoted<R: AllocGlobal + Abort>(rt: &R, text: &str) -> String {
+    let mut escaped = String::new(rt.alloc());
     for letter in text.chars() {
         if letter == '"' || letter == '\\' {
-            escaped.push('\\')?;
+            escaped.push('\\').expect(rt, "no room");
         }
-        escaped.push(letter)?;
+        escaped.push(letter).expect(rt, "no room");
     }
-    Ok(escaped)
+    escaped
 }

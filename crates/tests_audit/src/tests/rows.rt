@@ -1,9 +1,8 @@
 //! Journals whose verdict is known from outside.
 use crate::tests::assert_told;
-use std::alloc::Global;
+use std::alloc::{AllocError, Global};
+use std::panic::Expect;
 use std::process::Abort;
-use std::test::Fail;
-use versions::NoMemory;
 
 /// A journal of four entries.
 pub(super) const FIRST: &[u8] = b"{\"call\":\"open 1\",\"entry\":1,\"reply\":\"ok\",\"seat\":0}
@@ -37,10 +36,10 @@ pub(super) const BULK: &[u8] = b"{\"call\":\"open 1\",\"entry\":1,\"reply\":\"ok
 type Row = (&'static [u8], &'static [u8], &'static str);
 
 #[test]
-fn legal_journals_are_legal(rt: HostRuntime) -> Result<(), Fail> {
-    assert_told(&rt, FIRST, "legal 4")?;
-    assert_told(&rt, BULK, "legal 16")?;
-    assert_told(&rt, b"{\"entries\":0}\n", "legal 0")
+fn legal_journals_are_legal(rt: HostRuntime) {
+    assert_told(&rt, FIRST, "legal 4");
+    assert_told(&rt, BULK, "legal 16");
+    assert_told(&rt, b"{\"entries\":0}\n", "legal 0");
 }
 
 /// How many newlines there are.
@@ -54,27 +53,21 @@ fn newlines(text: &[u8]) -> u64 {
     count
 }
 
-/// What is told of the beginning of a legal journal's text.
-fn cut(alloc: Global, beginning: &[u8]) -> Result<String, NoMemory> {
-    Ok(format!(in alloc; "bad {}", newlines(beginning).saturating_add(1))?)
-}
-
 /// The line that is cut spoils the text, or the one that is wanting.
-fn assert_cut<R: AllocGlobal + Abort>(rt: &R, beginning: &[u8]) -> Result<(), Fail> {
-    let wanted = cut(rt.alloc(), beginning)?;
-    assert_told(rt, beginning, wanted.as_str())
+fn assert_cut<R: AllocGlobal + Abort>(rt: &R, beginning: &[u8]) {
+    let wanted = format!(in rt.alloc(); "bad {}", newlines(beginning).saturating_add(1));
+    assert_told(rt, beginning, &wanted.expect(rt, "no room"));
 }
 
 /// Each beginning of the first journal, and every 37th of the second.
 #[test]
-fn beginnings_are_bad(rt: HostRuntime) -> Result<(), Fail> {
+fn beginnings_are_bad(rt: HostRuntime) {
     for end in 0..FIRST.len() {
-        assert_cut(&rt, &FIRST[..end])?;
+        assert_cut(&rt, &FIRST[..end]);
     }
     for end in (0..BULK.len()).step_by(37) {
-        assert_cut(&rt, &BULK[..end])?;
+        assert_cut(&rt, &BULK[..end]);
     }
-    Ok(())
 }
 
 /// Each line in the place of another one of the journal of four entries, and the line that it spoils.
@@ -145,8 +138,8 @@ const LINES: [Row; 34] = [
 ];
 
 #[test]
-fn wrong_lines_are_bad(rt: HostRuntime) -> Result<(), Fail> {
-    play(&rt, FIRST, &LINES)
+fn wrong_lines_are_bad(rt: HostRuntime) {
+    play(&rt, FIRST, &LINES);
 }
 
 /// Replies of the second journal that are others, and where they spoil it. Another pair that passes is as good.
@@ -176,8 +169,8 @@ const REPLIES: [Row; 14] = [
 ];
 
 #[test]
-fn wrong_replies_are_bad(rt: HostRuntime) -> Result<(), Fail> {
-    play(&rt, BULK, &REPLIES)
+fn wrong_replies_are_bad(rt: HostRuntime) {
+    play(&rt, BULK, &REPLIES);
 }
 
 /// A journal of a find, whose map is that of its freeze.
@@ -203,31 +196,36 @@ const PAIRS: [Row; 6] = [
 ];
 
 #[test]
-fn other_pairs_are_bad(rt: HostRuntime) -> Result<(), Fail> {
-    play(&rt, FOUND, &PAIRS)
+fn other_pairs_are_bad(rt: HostRuntime) {
+    play(&rt, FOUND, &PAIRS);
 }
 
 /// Each row is told as it has to be.
-fn play<R: AllocGlobal + Abort>(rt: &R, text: &[u8], rows: &[Row]) -> Result<(), Fail> {
+fn play<R: AllocGlobal + Abort>(rt: &R, text: &[u8], rows: &[Row]) {
     for row in rows {
         let (old, new, wanted) = *row;
-        let changed = turned(rt.alloc(), text, old, new)?;
-        assert_told(rt, &changed, wanted)?;
+        let (front, back) = parted(text, old).expect(rt, "no such bytes");
+        let changed = joined(rt.alloc(), front, new, back).expect(rt, "no text");
+        assert_told(rt, &changed, wanted);
     }
-    Ok(())
 }
 
-/// The text with the first place of some bytes turned to others.
-fn turned(alloc: Global, text: &[u8], old: &[u8], new: &[u8]) -> Result<Vec<u8>, NoMemory> {
-    let mut made = Vec::new(alloc);
+/// What stands before the first place of some bytes in the text, and what stands behind it.
+fn parted<'t>(text: &'t [u8], bytes: &[u8]) -> Option<(&'t [u8], &'t [u8])> {
     for place in 0..text.len() {
-        if text[place..].starts_with(old) {
-            made.extend_from_slice(&text[..place])?;
-            made.extend_from_slice(new)?;
-            made.extend_from_slice(&text[place + old.len()..])?;
-            return Ok(made);
+        let (front, rest) = text.split_at(place);
+        if let Some(back) = rest.strip_prefix(bytes) {
+            return Some((front, back));
         }
     }
+    None
+}
+
+/// The three one behind another.
+fn joined(alloc: Global, front: &[u8], new: &[u8], back: &[u8]) -> Result<Vec<u8>, AllocError> {
+    let mut made = Vec::from_slice(alloc, front)?;
+    made.extend_from_slice(new)?;
+    made.extend_from_slice(back)?;
     Ok(made)
 }
 
@@ -310,8 +308,8 @@ const TOLD_BY_VALUE: [Row; 7] = [
 ];
 
 #[test]
-fn maps_of_images_are_those_told(rt: HostRuntime) -> Result<(), Fail> {
-    play(&rt, IMAGES, &TOLD_IMAGES)?;
-    play(&rt, IMAGES, &TOLD_OF_ONE_KEY)?;
-    play(&rt, BY_VALUE, &TOLD_BY_VALUE)
+fn maps_of_images_are_those_told(rt: HostRuntime) {
+    play(&rt, IMAGES, &TOLD_IMAGES);
+    play(&rt, IMAGES, &TOLD_OF_ONE_KEY);
+    play(&rt, BY_VALUE, &TOLD_BY_VALUE);
 }
