@@ -52,6 +52,11 @@ fn put<R: Wait + Abort>(rt: &R, map: &Map, key: ChosenKey, value: u64) {
     map.put(rt, key, value).expect(rt, "not put");
 }
 
+// The value of the key, or none.
+fn at<R: Wait + Abort>(rt: &R, map: &Map, key: ChosenKey) -> Option<u64> {
+    plain(map.get(rt, &key).expect(rt, "not read"))
+}
+
 fn view_of<R: Wait + Abort>(rt: &R, map: &Map) -> Seen {
     map.view(rt).expect(rt, "no view")
 }

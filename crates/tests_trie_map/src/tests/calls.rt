@@ -1,7 +1,7 @@
 //! Calls by one thread.
 ghost use Rattle.trie_map.specs.Queries.{IsReady};
 
-use super::{Map, Seen, assert_is, empty, key, plain, put, snapshot_of, view_of};
+use super::{Map, Seen, assert_is, at, empty, key, plain, put, snapshot_of, view_of};
 use combiner::Sum;
 use std::alloc::Global;
 use std::process::Abort;
@@ -53,22 +53,17 @@ fn written_anew<R: Wait>(rt: &R, map: &Map) -> Result<[Option<u64>; 4], PutError
     ])
 }
 
-// The value that the map has.
-fn at<R: Wait>(rt: &R, map: &Map, key: ChosenKey) -> Result<Option<u64>, NoMemory> {
-    Ok(plain(map.get(rt, &key)?))
-}
-
 #[test]
 fn writes_of_one_key(rt: HostRuntime) {
     let map = empty(&rt);
     let answers = [None, None, Some(5), Some(6), Some(6), Some(8)];
     assert_is(&rt, written(&rt, &map), Ok(answers));
     assert_is(&rt, exchanged(&rt, &map), Ok([false, true, true]));
-    assert_is(&rt, at(&rt, &map, key(3, 0)), Ok(Some(9)));
+    assert_is(&rt, at(&rt, &map, key(3, 0)), Some(9));
     assert_is(&rt, removed(&rt, &map), Ok([false, true, false]));
     let answers = [None, None, Some(2), None];
     assert_is(&rt, written_anew(&rt, &map), Ok(answers));
-    assert!(rt; map.is_empty(&rt));
+    assert_is(&rt, map.is_empty(&rt), true);
 }
 
 // Puts two keys of each first digit, with the values 1 and 2.
@@ -92,7 +87,7 @@ fn assert_kept<R: Abort + Wait>(rt: &R, map: &Map, view: &Seen, snapshot: &Map) 
     for digit in 0..32 {
         assert_is(rt, map.contains_key(rt, &key(digit, 0)), false);
         assert_is(rt, seen(view, key(digit, 0)), Some(1));
-        assert_is(rt, at(rt, snapshot, key(digit, 1)), Ok(Some(2)));
+        assert_is(rt, at(rt, snapshot, key(digit, 1)), Some(2));
     }
 }
 
@@ -108,10 +103,8 @@ fn keys_of_every_first_digit(rt: HostRuntime) {
 }
 
 // What the map has at the first key of two stripes.
-fn at_two<R: Wait>(rt: &R, map: &Map) -> Result<(Option<u64>, Option<u64>), NoMemory> {
-    let first = plain(map.get(rt, &key(0, 0))?);
-    let last = plain(map.get(rt, &key(31, 0))?);
-    Ok((first, last))
+fn at_two<R: Wait + Abort>(rt: &R, map: &Map) -> (Option<u64>, Option<u64>) {
+    (at(rt, map, key(0, 0)), at(rt, map, key(31, 0)))
 }
 
 // Writes of a map, of its snapshot, and of the snapshot's.
@@ -130,9 +123,9 @@ fn a_snapshot_and_its_map_go_separate_ways(rt: HostRuntime) {
     let snapshot = snapshot_of(&rt, &map);
     let again = snapshot_of(&rt, &snapshot);
     assert_is(&rt, write_apart(&rt, &map, &snapshot, &again), Ok(()));
-    assert_is(&rt, at_two(&rt, &map), Ok((Some(10), Some(2))));
-    assert_is(&rt, at_two(&rt, &snapshot), Ok((Some(1), Some(20))));
-    assert_is(&rt, at_two(&rt, &again), Ok((None, Some(2))));
+    assert_is(&rt, at_two(&rt, &map), (Some(10), Some(2)));
+    assert_is(&rt, at_two(&rt, &snapshot), (Some(1), Some(20)));
+    assert_is(&rt, at_two(&rt, &again), (None, Some(2)));
 }
 
 // Writes after a view was taken.
@@ -157,8 +150,8 @@ fn a_view_stays_as_it_was(rt: HostRuntime) {
     put(&rt, &map, key(7, 0), 1);
     let view = view_of(&rt, &map);
     assert_is(&rt, write_after(&rt, &map), Ok(()));
-    assert_eq!(rt; seen(&view, key(7, 0)), Some(1));
-    assert!(rt; !view.contains_key(&key(8, 0)));
+    assert_is(&rt, seen(&view, key(7, 0)), Some(1));
+    assert_is(&rt, view.contains_key(&key(8, 0)), false);
 }
 
 #[test]
@@ -167,8 +160,8 @@ fn a_clone_of_a_view_has_its_pairs(rt: HostRuntime) {
     put(&rt, &map, key(7, 0), 1);
     assert_is(&rt, map.is_empty(&rt), false);
     let same = view_of(&rt, &map).try_clone().expect(&rt, "no clone");
-    assert_eq!(rt; (same.len(), same.plain().len()), (1, 1));
-    assert!(rt; !same.is_empty());
+    assert_is(&rt, (same.len(), same.plain().len()), (1, 1));
+    assert_is(&rt, same.is_empty(), false);
 }
 
 #[test]
@@ -177,7 +170,7 @@ fn a_view_shows_the_pairs_of_its_moment(rt: HostRuntime) {
     let before = view_of(&rt, &map);
     assert_is(&rt, write_after(&rt, &map), Ok(()));
     assert_is(&rt, walked_sum(&view_of(&rt, &map)), Ok(5));
-    assert!(rt; before.is_empty());
+    assert_is(&rt, before.is_empty(), true);
 }
 
 // The value of a text, which is made where it is absent, and how often the closure ran that makes it.
@@ -215,7 +208,7 @@ fn put_meanwhile<R: Wait>(rt: &R, map: &Map) -> Result<u64, PutError> {
 fn the_closure_may_put_the_key(rt: HostRuntime) {
     let map = empty(&rt);
     assert_is(&rt, put_meanwhile(&rt, &map), Ok(7));
-    assert_is(&rt, at(&rt, &map, key(1, 0)), Ok(Some(7)));
+    assert_is(&rt, at(&rt, &map, key(1, 0)), Some(7));
 }
 
 // Whether the value is even.

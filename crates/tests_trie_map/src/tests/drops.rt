@@ -74,33 +74,37 @@ fn lock_all<R: Wait>(rt: &R, map: &Values, signs: &Signs) {
     }
 }
 
-// The two threads: how many values were dropped while no lock was held, and how many while one was.
-fn dropped<R: AllocGlobal + Threads + Wait + Sync>(rt: &R) -> Result<(u32, u32), PutError> {
-    let made: Values = TrieMap::new(rt)?;
-    let map = &made;
-    let signs = Arc::new(
-        rt.alloc(),
-        Signs {
-            dropping: AtomicU32::new(0),
-            locked: AtomicU32::new(0),
-            free: AtomicU32::new(0),
-            held: AtomicU32::new(0),
-        },
-    )?;
-    let told = &signs;
-    let (cleared, _) = thread::join(
-        rt,
-        || put_and_clear(rt, map, told),
-        || lock_all(rt, map, told),
-    );
-    cleared?;
-    Ok((
-        signs.free.load(Ordering::SeqCst),
-        signs.held.load(Ordering::SeqCst),
-    ))
+// Signs none of which is set.
+fn no_signs(alloc: Global) -> Result<Arc<Signs, Global>, PutError> {
+    let signs = Signs {
+        dropping: AtomicU32::new(0),
+        locked: AtomicU32::new(0),
+        free: AtomicU32::new(0),
+        held: AtomicU32::new(0),
+    };
+    Ok(Arc::new(alloc, signs)?)
 }
 
+// The two threads: what the one that clears the map is answered.
+fn cleared<R: Threads + Wait + Sync>(
+    rt: &R,
+    map: &Values,
+    signs: &Arc<Signs, Global>,
+) -> Result<(), PutError> {
+    let (cleared, _) = thread::join(
+        rt,
+        || put_and_clear(rt, map, signs),
+        || lock_all(rt, map, signs),
+    );
+    cleared
+}
+
+// One value was dropped while no lock was held, and none while one was.
 #[test]
 fn cleared_pairs_are_dropped_when_no_lock_is_held(rt: HostRuntime) {
-    assert_is(&rt, dropped(&rt), Ok((1, 0)));
+    let map: Values = TrieMap::new(&rt).expect(&rt, "no map");
+    let signs = no_signs(rt.alloc()).expect(&rt, "no signs");
+    assert_is(&rt, cleared(&rt, &map, &signs), Ok(()));
+    assert_is(&rt, signs.free.load(Ordering::SeqCst), 1);
+    assert_is(&rt, signs.held.load(Ordering::SeqCst), 0);
 }

@@ -2,7 +2,6 @@
 use super::{Map, Seen, assert_is, empty, key, put, view_of};
 use std::process::Abort;
 use std::sync::Wait;
-use std::test::Fail;
 use test_keys::{ChosenKey, take_all};
 use trie_map::{NoMemory, Version, pairs_of};
 
@@ -114,14 +113,13 @@ fn a_map_that_is_made_is_written_apart(rt: HostRuntime) {
 }
 
 #[test]
-fn no_map_is_made_without_memory(rt: HostRuntime) -> Result<(), Fail> {
+fn no_map_is_made_without_memory(rt: HostRuntime) {
     let view = view_of(&rt, &six(&rt));
-    let taken = take_all(rt.alloc())?;
+    let taken = take_all(rt.alloc()).expect(&rt, "no list");
     let answers = [
         view.filter(|_, _| true).is_err(),
         view.map_values(|_, value| *value).is_err(),
     ];
     drop(taken);
-    assert_eq!(rt; answers, [true; 2]);
-    Ok(())
+    assert_is(&rt, answers, [true; 2]);
 }

@@ -1,10 +1,10 @@
 //! Calls with requests for memory refused.
-use super::{Map, key, plain};
+use super::{Map, assert_is, at, empty, key, plain, put};
 use std::alloc::{AllocError, Global};
+use std::process::Abort;
 use std::sync::Wait;
-use std::test::Fail;
 use test_keys::take_all;
-use trie_map::{PutError, TrieMap};
+use trie_map::PutError;
 
 // The sizes of what a put asks for: an `Arc` of its key or value, and the first room for the children of a branch.
 const SMALL: usize = 16;
@@ -27,7 +27,8 @@ fn without_memory<R: Wait>(rt: &R, map: &Map) -> [bool; 7] {
             .is_ok_and(|found| plain(found) == Some(1)),
         map.contains_key(rt, &key(1, 1)),
         map.len(rt) == 2,
-        matches!(map.put(rt, key(2, 0), 3), Err(PutError::NoMemory)),
+        map.put(rt, key(2, 0), 3)
+            .is_err_and(|e| e == PutError::NoMemory),
         map.clear(rt).is_err(),
         map.view(rt).is_err(),
         map.snapshot(rt).is_err(),
@@ -35,16 +36,15 @@ fn without_memory<R: Wait>(rt: &R, map: &Map) -> [bool; 7] {
 }
 
 #[test]
-fn reads_make_no_request_and_writes_are_refused(rt: HostRuntime) -> Result<(), Fail> {
-    let map: Map = TrieMap::new(&rt)?;
-    map.put(&rt, key(1, 0), 1)?;
-    map.put(&rt, key(1, 1), 2)?;
-    let taken = take_all(rt.alloc())?;
+fn reads_make_no_request_and_writes_are_refused(rt: HostRuntime) {
+    let map = empty(&rt);
+    put(&rt, &map, key(1, 0), 1);
+    put(&rt, &map, key(1, 1), 2);
+    let taken = take_all(rt.alloc()).expect(&rt, "no list");
     let answers = without_memory(&rt, &map);
     drop(taken);
-    assert_eq!(rt; answers, [true; 7]);
-    assert_eq!(rt; map.len(&rt), 2);
-    Ok(())
+    assert_is(&rt, answers, [true; 7]);
+    assert_is(&rt, map.len(&rt), 2);
 }
 
 // So many blocks of a size. Each that is dropped once all memory is taken is room for one request.
@@ -57,65 +57,50 @@ fn blocks(alloc: Global, count: usize, size: usize) -> Result<Vec<Vec<u8>>, Allo
 }
 
 // What a put of a second key answers where there is room for so many requests of each size alone.
-fn put_in_room<R: Wait>(
+fn put_in_room<R: Wait + Abort>(
     rt: &R,
     alloc: Global,
     map: &Map,
     small: usize,
     large: usize,
-) -> Result<Result<Option<u64>, PutError>, AllocError> {
-    let smalls = blocks(alloc, small, SMALL)?;
-    let larges = blocks(alloc, large, LARGE)?;
-    let taken = take_all(alloc)?;
+) -> Result<Option<u64>, PutError> {
+    let smalls = blocks(alloc, small, SMALL).expect(rt, "no blocks");
+    let larges = blocks(alloc, large, LARGE).expect(rt, "no blocks");
+    let taken = take_all(alloc).expect(rt, "no list");
     drop(smalls);
     drop(larges);
     let answer = map.put(rt, key(2, 0), 2);
     drop(taken);
-    match answer {
-        Ok(before) => Ok(Ok(plain(before))),
-        Err(refusal) => Ok(Err(refusal)),
-    }
+    Ok(plain(answer?))
 }
 
-// The values of the two keys.
-fn both<R: Wait>(rt: &R, map: &Map) -> Result<[Option<u64>; 2], PutError> {
-    Ok([
-        plain(map.get(rt, &key(1, 0))?),
-        plain(map.get(rt, &key(2, 0))?),
-    ])
-}
-
-// Puts a second key where there is room for so many requests of each size alone: whether it was put. Nothing where the
-// map is then another than it has to be.
-fn is_put_in_room<R: AllocGlobal + Wait>(
+// What a put of a second key is answered where there is room for so many requests of each size alone, and the values of
+// the two keys then.
+fn put_beside<R: AllocGlobal + Wait + Abort>(
     rt: &R,
     small: usize,
     large: usize,
-) -> Result<Option<bool>, PutError> {
-    let map: Map = TrieMap::new(rt)?;
-    map.put(rt, key(1, 0), 1)?;
-    let answer = put_in_room(rt, rt.alloc(), &map, small, large)?;
-    let values = both(rt, &map)?;
-    match answer {
-        Ok(None) if values == [Some(1), Some(2)] => Ok(Some(true)),
-        Err(PutError::NoMemory) if values == [Some(1), None] => Ok(Some(false)),
-        _ => Ok(None),
-    }
+) -> (Result<Option<u64>, PutError>, [Option<u64>; 2]) {
+    let map = empty(rt);
+    put(rt, &map, key(1, 0), 1);
+    let answer = put_in_room(rt, rt.alloc(), &map, small, large);
+    (answer, [at(rt, &map, key(1, 0)), at(rt, &map, key(2, 0))])
 }
 
 // A put is given any number of blocks of each size, so each of its requests is the first that is refused once.
 #[test]
-fn puts_are_refused_at_each_request(rt: HostRuntime) -> Result<(), Fail> {
+fn puts_are_refused_at_each_request(rt: HostRuntime) {
     let mut refused = 0u32;
     let mut granted = 0u32;
     for small in 0..MOST_SMALL {
         for large in 0..MOST_LARGE {
-            let put = is_put_in_room(&rt, small, large)?;
-            assert!(rt; put.is_some(), "{small} small, {large} large");
-            if put == Some(true) {
-                granted = granted.wrapping_add(1);
-            } else {
-                refused = refused.wrapping_add(1);
+            let (answer, values) = put_beside(&rt, small, large);
+            match answer {
+                Ok(None) if values == [Some(1), Some(2)] => granted = granted.wrapping_add(1),
+                Err(PutError::NoMemory) if values == [Some(1), None] => {
+                    refused = refused.wrapping_add(1);
+                }
+                _ => assert!(rt; false, "{small} small, {large} large"),
             }
         }
     }
@@ -123,7 +108,6 @@ fn puts_are_refused_at_each_request(rt: HostRuntime) -> Result<(), Fail> {
         4 <= refused && 1 <= granted,
         "{refused} refused, {granted} granted"
     );
-    Ok(())
 }
 
 // The calls that take all stripes.
@@ -144,47 +128,46 @@ fn is_granted<R: Wait>(rt: &R, map: &Map, call: Call) -> bool {
 }
 
 // Whether the call is granted where its requests are cut from one block of so many bytes.
-fn is_granted_in<R: Wait>(
+fn is_granted_in<R: Wait + Abort>(
     rt: &R,
     alloc: Global,
     map: &Map,
     call: Call,
     bytes: usize,
-) -> Result<bool, AllocError> {
-    let block: Vec<u8> = Vec::with_capacity(alloc, bytes)?;
-    let taken = take_all(alloc)?;
+) -> bool {
+    let block: Vec<u8> = Vec::with_capacity(alloc, bytes).expect(rt, "no block");
+    let taken = take_all(alloc).expect(rt, "no list");
     drop(block);
     let granted = is_granted(rt, map, call);
     drop(taken);
-    Ok(granted)
+    granted
 }
 
-// Puts a key of each first digit.
-fn fill<R: Wait>(rt: &R, map: &Map) -> Result<(), PutError> {
-    for digit in 0..32 {
-        map.put(rt, key(digit, 0), u64::from(digit))?;
+// How many of the blocks, each larger than the one before, are enough for the call. The map stays as it is.
+fn count_granted<R: AllocGlobal + Wait + Abort>(rt: &R, map: &Map, call: Call) -> u32 {
+    let mut granted = 0u32;
+    for step in 0..STEPS {
+        if is_granted_in(rt, rt.alloc(), map, call, 1_040 + 768 * step) {
+            granted = granted.wrapping_add(1);
+        }
+        assert_is(rt, map.len(rt), 32);
     }
-    Ok(())
+    granted
 }
 
 // A call is given one block, from which its requests are cut one after another until it is used up. The block grows, so
 // that each request is the first that is refused.
 #[test]
-fn calls_on_all_stripes_are_refused_at_each_request(rt: HostRuntime) -> Result<(), Fail> {
-    let map: Map = TrieMap::new(&rt)?;
-    fill(&rt, &map)?;
+fn calls_on_all_stripes_are_refused_at_each_request(rt: HostRuntime) {
+    let map = empty(&rt);
+    for digit in 0..32 {
+        put(&rt, &map, key(digit, 0), u64::from(digit));
+    }
     for call in [Call::View, Call::Snapshot, Call::SnapshotAndClear] {
-        let mut granted = 0u32;
-        for step in 0..STEPS {
-            if is_granted_in(&rt, rt.alloc(), &map, call, 1_040 + 768 * step)? {
-                granted = granted.wrapping_add(1);
-            }
-            assert_eq!(rt; map.len(&rt), 32);
-        }
+        let granted = count_granted(&rt, &map, call);
         assert!(rt;
             1 <= granted && granted < STEPS as u32,
             "{call:?}: {granted} granted"
         );
     }
-    Ok(())
 }

@@ -1,5 +1,5 @@
 //! What one thread sees of a map while another writes it: what was there at one moment.
-use super::{Map, key};
+use super::{Map, empty, key, put};
 use std::process::Abort;
 use std::sync::Wait;
 use std::sync::atomic::{AtomicU32, Ordering};
@@ -7,7 +7,7 @@ use std::thread;
 use std::thread::Threads;
 use std::time::{Clock, Duration};
 use test_keys::ChosenKey;
-use trie_map::{NoMemory, PutError, TrieMap};
+use trie_map::{NoMemory, PutError};
 
 // How often the writer writes. The reader looks until the writer is done.
 const TURNS: u32 = 5_000;
@@ -185,25 +185,23 @@ fn work<R: Wait + Clock + Abort>(
 // How often what was seen beside the writer was wrong.
 fn wrong_looks<R: AllocGlobal + Threads + Wait + Clock + Abort + Sync>(
     rt: &R,
+    map: &Map,
     writes: Writes,
-    first: ChosenKey,
-    second: ChosenKey,
-) -> Result<u32, PutError> {
-    let made: Map = TrieMap::new(rt)?;
-    let map = &made;
-    map.put(rt, first, 1)?;
+    keys: (ChosenKey, ChosenKey),
+) -> u32 {
     let flag = AtomicU32::new(0);
     let done = &flag;
     let mut wrong = 0u32;
-    for looks in thread::map_indices(
+    let all = thread::map_indices(
         rt,
         rt.alloc(),
         3,
-        &|number: usize| { work(rt, map, writes, (first, second), done, number) },
-    )? {
-        wrong = wrong.wrapping_add(looks?);
+        &|number: usize| { work(rt, map, writes, keys, done, number) },
+    );
+    for looks in all.expect(rt, "no threads") {
+        wrong = wrong.wrapping_add(looks.expect(rt, "a call was refused"));
     }
-    Ok(wrong)
+    wrong
 }
 
 #[test]
@@ -216,8 +214,10 @@ fn what_is_seen_was_there_at_one_moment(rt: HostRuntime) {
         Writes::Viewed,
     ] {
         for (first, second) in [(low, high), (high, low)] {
-            let wrong = wrong_looks(&rt, writes, first, second);
-            assert_eq!(rt; wrong, Ok(0), "{writes:?} {first:?}");
+            let map = empty(&rt);
+            put(&rt, &map, first, 1);
+            let wrong = wrong_looks(&rt, &map, writes, (first, second));
+            assert_eq!(rt; wrong, 0, "{writes:?} {first:?}");
         }
     }
 }

@@ -1,9 +1,10 @@
 //! Removals of the pairs that fail a test.
-use super::{Map, assert_is, empty, key, plain, put};
+use super::{Map, assert_is, at, empty, key, put, view_of};
+use std::process::Abort;
 use std::sync::Wait;
 use std::thread;
 use std::thread::Threads;
-use trie_map::{NoMemory, PutError, TrieMap};
+use trie_map::PutError;
 
 // How many threads there are, and how many keys.
 const THREADS: usize = 4;
@@ -11,12 +12,12 @@ const THREADS: usize = 4;
 const KEYS: u32 = 4_000;
 
 // The values of three keys.
-fn at_three<R: Wait>(rt: &R, map: &Map) -> Result<[Option<u64>; 3], NoMemory> {
-    Ok([
-        plain(map.get(rt, &key(0, 0))?),
-        plain(map.get(rt, &key(1, 1))?),
-        plain(map.get(rt, &key(1, 2))?),
-    ])
+fn at_three<R: Wait + Abort>(rt: &R, map: &Map) -> [Option<u64>; 3] {
+    [
+        at(rt, map, key(0, 0)),
+        at(rt, map, key(1, 1)),
+        at(rt, map, key(1, 2)),
+    ]
 }
 
 #[test]
@@ -26,7 +27,7 @@ fn pairs_that_fail_are_removed(rt: HostRuntime) {
     put(&rt, &map, key(1, 1), 6);
     put(&rt, &map, key(1, 2), 7);
     assert_is(&rt, map.retain(&rt, |_, value| *value == 6), Ok(2));
-    assert_is(&rt, at_three(&rt, &map), Ok([None, Some(6), None]));
+    assert_is(&rt, at_three(&rt, &map), [None, Some(6), None]);
     assert_is(&rt, map.retain(&rt, |key, _| key.id == 1), Ok(0));
     assert_is(&rt, map.len(&rt), 1);
 }
@@ -50,32 +51,29 @@ fn work<R: Wait>(rt: &R, map: &Map, thread: usize) -> Result<(), PutError> {
     put_share(rt, map, thread, 1)
 }
 
-// How many keys have the value 1, and how many pairs there are.
-fn ones<R: Wait>(rt: &R, map: &Map) -> Result<(u64, u64), NoMemory> {
-    let view = map.view(rt)?;
-    Ok((view.count(|_, value| *value == 1)?, view.len()))
-}
-
-// What there is once the threads have worked on a map each key of which had the value 0.
-fn left<R: AllocGlobal + Threads + Wait + Sync>(rt: &R) -> Result<(u64, u64), PutError> {
-    let made: Map = TrieMap::new(rt)?;
-    let map = &made;
-    for rest in 0..THREADS {
-        put_share(rt, map, rest, 0)?;
-    }
-    for done in thread::map_indices(
+// Has the threads work on the map.
+fn work_all<R: AllocGlobal + Threads + Wait + Abort + Sync>(rt: &R, map: &Map) {
+    let all = thread::map_indices(
         rt,
         rt.alloc(),
         THREADS,
         &|place: usize| { work(rt, map, place) },
-    )? {
-        done?;
+    );
+    for done in all.expect(rt, "no threads") {
+        assert_is(rt, done, Ok(()));
     }
-    Ok(ones(rt, map)?)
 }
 
-// A pair that was put meanwhile passes, so that it stays, whatever the view showed.
+// Each key has the value 0 before the threads work. A pair that was put meanwhile passes, so that it stays, whatever the
+// view showed.
 #[test]
 fn what_is_put_meanwhile_stays(rt: HostRuntime) {
-    assert_is(&rt, left(&rt), Ok((3_000, 3_000)));
+    let map = empty(&rt);
+    for rest in 0..THREADS {
+        assert_is(&rt, put_share(&rt, &map, rest, 0), Ok(()));
+    }
+    work_all(&rt, &map);
+    let view = view_of(&rt, &map);
+    assert_is(&rt, view.count(|_, value| *value == 1), Ok(3_000));
+    assert_is(&rt, view.len(), 3_000);
 }

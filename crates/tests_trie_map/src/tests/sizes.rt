@@ -1,5 +1,5 @@
 //! Maps of many pairs, and a stripe that is full.
-use super::{Map, assert_is, empty, key, plain};
+use super::{Map, Seen, assert_is, empty, key, plain, view_of};
 use std::alloc::Global;
 use std::sync::Wait;
 use test_keys::ChosenKey;
@@ -43,9 +43,8 @@ fn got<R: Wait>(rt: &R, map: &Map) -> Result<u64, NoMemory> {
     Ok(right)
 }
 
-// How many pairs a view says that it has, and how many a walk over it meets whose value is their key's number.
-fn viewed<R: Wait>(rt: &R, map: &Map) -> Result<(u64, u64), NoMemory> {
-    let view = map.view(rt)?;
+// How many pairs the view says that it has, and how many a walk over it meets whose value is their key's number.
+fn viewed(view: &Seen) -> Result<(u64, u64), NoMemory> {
     let mut right = 0u64;
     for (key, value) in view.pairs()? {
         if key.path == **value {
@@ -71,7 +70,7 @@ fn many_pairs(rt: HostRuntime) {
     let map = empty(&rt);
     assert_is(&rt, put_many(&rt, &map), Ok(0));
     assert_is(&rt, got(&rt, &map), Ok(MANY));
-    assert_is(&rt, viewed(&rt, &map), Ok((MANY, MANY)));
+    assert_is(&rt, viewed(&view_of(&rt, &map)), Ok((MANY, MANY)));
     assert_is(&rt, map.len(&rt), MANY);
     assert_is(&rt, removed(&rt, &map), Ok(MANY));
     assert_is(&rt, map.is_empty(&rt), true);

@@ -1,11 +1,11 @@
 //! Eight threads on one map.
-use super::{Map, Seen, key, plain};
+use super::{Map, Seen, assert_is, empty, key, plain};
+use std::process::Abort;
 use std::sync::Wait;
-use std::test::Fail;
 use std::thread;
 use std::thread::Threads;
 use test_keys::ChosenKey;
-use trie_map::{PutError, TrieMap};
+use trie_map::PutError;
 
 // How many threads there are, how many calls each makes, and how often all of it is done.
 const THREADS: u32 = 8;
@@ -177,28 +177,28 @@ fn work<R: Wait>(rt: &R, map: &Map, of: u32) -> Result<Counts, PutError> {
     Ok(counts)
 }
 
-// All of it once: the counts of all threads, and the size of the map at the end.
-fn one_round<R: AllocGlobal + Threads + Wait + Sync>(rt: &R) -> Result<(Counts, u64), PutError> {
-    let made: Map = TrieMap::new(rt)?;
-    let map = &made;
+// The counts of all threads on the map.
+fn counted<R: AllocGlobal + Threads + Wait + Abort + Sync>(rt: &R, map: &Map) -> Counts {
     let mut sum = none();
-    for counts in thread::map_indices(
+    let all = thread::map_indices(
         rt,
         rt.alloc(),
         THREADS as usize,
         &|place: usize| { work(rt, map, u32::try_from(place).unwrap_or(0)) },
-    )? {
-        sum.add(counts?);
+    );
+    for counts in all.expect(rt, "no threads") {
+        sum.add(counts.expect(rt, "a call was refused"));
     }
-    Ok((sum, map.len(rt)))
+    sum
 }
 
 #[test]
-fn eight_threads_write_and_read_one_map(rt: HostRuntime) -> Result<(), Fail> {
+fn eight_threads_write_and_read_one_map(rt: HostRuntime) {
     for _ in 0..TIMES {
-        let (counts, size) = one_round(&rt)?;
-        assert_eq!(rt; counts.wrong, 0);
-        assert_eq!(rt; counts.added.wrapping_sub(counts.removed), size);
+        let map = empty(&rt);
+        let counts = counted(&rt, &map);
+        assert_is(&rt, counts.wrong, 0);
+        let left = counts.added.wrapping_sub(counts.removed);
+        assert_is(&rt, left, map.len(&rt));
     }
-    Ok(())
 }

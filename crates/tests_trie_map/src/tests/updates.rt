@@ -1,10 +1,11 @@
 //! Updates of one key under its lock.
-use super::{Map, assert_is, empty, key, plain};
+use super::{Map, assert_is, at, empty, key, plain};
+use std::process::Abort;
 use std::sync::Wait;
 use std::thread;
 use std::thread::Threads;
 use test_keys::ChosenKey;
-use trie_map::{PutError, TrieMap};
+use trie_map::PutError;
 
 // How many threads count, and how often each does.
 const THREADS: usize = 4;
@@ -39,23 +40,22 @@ fn count<R: Wait>(rt: &R, counts: &Map, word: ChosenKey) -> Result<(), PutError>
     Ok(())
 }
 
-// The count of a word that all threads count.
-fn counted<R: AllocGlobal + Threads + Wait + Sync>(rt: &R) -> Result<Option<u64>, PutError> {
-    let made: Map = TrieMap::new(rt)?;
-    let counts = &made;
-    let word = key(5, 0);
-    for done in thread::map_indices(
+// Has all threads count the word.
+fn count_all<R: AllocGlobal + Threads + Wait + Abort + Sync>(rt: &R, map: &Map, word: ChosenKey) {
+    let all = thread::map_indices(
         rt,
         rt.alloc(),
         THREADS,
-        &|_: usize| { count(rt, counts, word) },
-    )? {
-        done?;
+        &|_: usize| { count(rt, map, word) },
+    );
+    for done in all.expect(rt, "no threads") {
+        assert_is(rt, done, Ok(()));
     }
-    Ok(plain(counts.get(rt, &word)?))
 }
 
 #[test]
 fn no_update_is_lost(rt: HostRuntime) {
-    assert_is(&rt, counted(&rt), Ok(Some(4_000)));
+    let map = empty(&rt);
+    count_all(&rt, &map, key(5, 0));
+    assert_is(&rt, at(&rt, &map, key(5, 0)), Some(4_000));
 }
