@@ -10,14 +10,14 @@ const USAGE: &str =
 const MOST_WORKERS: u32 = 16;
 
 /// How many pairs a map has, and how often each measurement is made.
-#[derive(Clone, Copy, Debug)]
+#[derive(Clone, Copy)]
 pub struct Load {
     pub pairs: u32,
     pub rounds: u32,
 }
 
 /// What is measured.
-#[derive(Clone, Copy, Debug)]
+#[derive(Clone, Copy)]
 pub enum Part {
     /// Gets and puts at keys of no order.
     Mixed(Load),

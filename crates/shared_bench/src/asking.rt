@@ -1,6 +1,6 @@
 //! The time that a crew takes for each question.
 
-use crate::maps::Map;
+use crate::maps::filled;
 use bench_kit::{
     Coarser, Fault, Question, Times, count, exists, filter, fold_sum, map_pairs, map_values,
 };
@@ -8,51 +8,84 @@ use combiner::Bulk;
 use std::rt::Runtime;
 use std::sync::Wait;
 use std::thread::Threads;
-use std::time::Instant;
+use std::time::{Clock, Instant};
 use trie_map::{Answer, ByteText, Crew, Version, View};
 
 /// How often each question is asked.
 const ROUNDS: u32 = 15;
 
-/// Asks each question of a view of the map, which has so many pairs.
+/// Asks each question of a view of a map, which has so many pairs.
 pub fn ask_all<R: Runtime + AllocGlobal + Threads + Wait + Sync>(
     rt: &R,
-    map: &Map,
     pairs: u32,
     workers: u32,
 ) -> Result<(), Fault> {
+    let map = filled(rt, pairs)?;
     let view = map.view(rt)?;
     let half = i64::from(pairs / 2);
-    ask_one(rt, workers, "crew_count", &view, &count(half))?;
-    ask_one(rt, workers, "crew_exists_absent", &view, &exists(0))?;
-    ask_one(rt, workers, "crew_fold_sum", &view, &fold_sum())?;
-    ask_one(rt, workers, "crew_filter", &view, &filter(half))?;
-    ask_one(rt, workers, "crew_map_values", &view, &map_values(1))?;
-    ask_one(rt, workers, "crew_map_pairs", &view, &map_pairs(rt.alloc()))
+    ask_for_numbers(rt, workers, &view, half)?;
+    ask_for_maps(rt, workers, &view, half)
 }
 
-/// Asks one question of the view. An answer is dropped once its time is counted.
+/// Asks each question whose answer is a number or a truth.
+fn ask_for_numbers<R: Runtime + AllocGlobal + Threads + Wait + Sync>(
+    rt: &R,
+    workers: u32,
+    view: &View<ByteText, i64>,
+    half: i64,
+) -> Result<(), Fault> {
+    ask_one(rt, workers, "crew_count", view, count(half))?;
+    ask_one(rt, workers, "crew_exists_absent", view, exists(0))?;
+    ask_one(rt, workers, "crew_fold_sum", view, fold_sum())
+}
+
+/// Asks each question whose answer is a map.
+fn ask_for_maps<R: Runtime + AllocGlobal + Threads + Wait + Sync>(
+    rt: &R,
+    workers: u32,
+    view: &View<ByteText, i64>,
+    half: i64,
+) -> Result<(), Fault> {
+    ask_one(rt, workers, "crew_filter", view, filter(half))?;
+    ask_one(rt, workers, "crew_map_values", view, map_values(1))?;
+    ask_one(rt, workers, "crew_map_pairs", view, map_pairs(rt.alloc()))
+}
+
+/// Asks one question of the view.
 fn ask_one<R: Runtime + AllocGlobal + Threads + Wait + Sync>(
     rt: &R,
     workers: u32,
     name: &str,
     view: &View<ByteText, i64>,
-    question: &Question<ByteText, Coarser>,
+    question: Question<ByteText, Coarser>,
 ) -> Result<(), Fault>
-    requires { ⟦<Question<ByteText, Coarser> as Bulk<ByteText, i64>>⟧.ready question.now }
+    requires { ⟦<Question<ByteText, Coarser> as Bulk<ByteText, i64>>⟧.ready question }
 {
     let mut times = Times::new(rt.alloc());
     let mut checksum = 0;
     for _ in 0..ROUNDS {
-        let start = Instant::now(rt)?;
-        let reply = ask(rt, view, question, workers)?;
-        times.count(start.elapsed(rt)?)?;
-        checksum = told(&reply);
+        checksum = one_round(rt, workers, view, &question, &mut times)?;
     }
     let median = times.spread()?.median;
     rt.eprintln(format_args!("tambyulo {name} {workers} {median}"))?;
     rt.println(format_args!("{name} {checksum}"))?;
     Ok(())
+}
+
+/// Asks it once, counts the time, and gives a number for the answer, which is dropped after.
+fn one_round<R: Clock + Threads + Wait + Sync>(
+    rt: &R,
+    workers: u32,
+    view: &View<ByteText, i64>,
+    question: &Question<ByteText, Coarser>,
+    times: &mut Times,
+) -> Result<i128, Fault>
+    requires { ⟦<Question<ByteText, Coarser> as Bulk<ByteText, i64>>⟧.ready question.now }
+{
+    let start = Instant::now(rt)?;
+    let reply = ask(rt, view, question, workers)?;
+    times.count(start.elapsed(rt)?)?;
+    Ok(told(&reply))
 }
 
 /// What is told of a whole view, and the map that was made where the question makes one.

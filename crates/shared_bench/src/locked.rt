@@ -58,8 +58,7 @@ pub fn locked_calls<R: Runtime + AllocGlobal + Threads + Wait + Sync>(
 /// One round on a table.
 fn table_round<R: Runtime + AllocGlobal>(rt: &R, keys: &[Arc<ByteText>]) -> Result<Round, Fault> {
     let alloc = rt.alloc();
-    let mut table = Table::new(alloc, LIMITS)?;
-    serve_all(alloc, &mut table, filling(alloc, keys)?)?;
+    let mut table = filled_table(alloc, keys)?;
     let calls = load(alloc, keys, CALLS)?;
     let start = Instant::now(rt)?;
     let sum = serve_all(alloc, &mut table, calls)?;
@@ -67,6 +66,13 @@ fn table_round<R: Runtime + AllocGlobal>(rt: &R, keys: &[Arc<ByteText>]) -> Resu
         time: start.elapsed(rt)?,
         sum,
     })
+}
+
+/// A table whose map has each key with its number.
+fn filled_table(alloc: Global, keys: &[Arc<ByteText>]) -> Result<Table<ByteText, i64>, Fault> {
+    let mut table = Table::new(alloc, LIMITS)?;
+    serve_all(alloc, &mut table, filling(alloc, keys)?)?;
+    Ok(table)
 }
 
 /// Makes the calls on a table, and answers the sum of the values that they were told.

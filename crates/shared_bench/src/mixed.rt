@@ -1,7 +1,8 @@
 //! Calls of several threads on one map, with their checksums: nine gets for each put.
 
-use crate::maps::Map;
-use bench_kit::{Best, Fault, copied};
+use crate::arguments::Load;
+use crate::maps::{Map, filled};
+use bench_kit::{Best, Fault, copied, text_keys};
 use keys::ByteText;
 use std::alloc::Global;
 use std::rt::Runtime;
@@ -19,21 +20,31 @@ pub const CALLS_OF_A_PUT: u32 = 10;
 /// Times the calls by one, two and four threads.
 pub fn mixed<R: Runtime + AllocGlobal + Threads + Wait + Sync>(
     rt: &R,
+    load: Load,
+) -> Result<(), Fault> {
+    let keys = text_keys(rt.alloc(), load.pairs)?;
+    let map = filled(rt, load.pairs)?;
+    calls_by(rt, &map, keys.as_slice(), load.rounds, 1)?;
+    calls_by(rt, &map, keys.as_slice(), load.rounds, 2)?;
+    calls_by(rt, &map, keys.as_slice(), load.rounds, 4)
+}
+
+/// The same by so many threads.
+fn calls_by<R: Runtime + AllocGlobal + Threads + Wait + Sync>(
+    rt: &R,
     map: &Map,
     keys: &[Arc<ByteText>],
     rounds: u32,
+    threads: u32,
 ) -> Result<(), Fault> {
-    for threads in [1, 2, 4] {
-        let mut best = Best::new();
-        let mut sum = 0i64;
-        for _ in 0..rounds {
-            let start = Instant::now(rt)?;
-            sum = one_round(rt, map, keys, threads)?;
-            best.count(start.elapsed(rt)?);
-        }
-        best.show_of(rt, "mixed", threads, CALLS, i128::from(sum))?;
+    let mut best = Best::new();
+    let mut sum = 0i64;
+    for _ in 0..rounds {
+        let start = Instant::now(rt)?;
+        sum = one_round(rt, map, keys, threads)?;
+        best.count(start.elapsed(rt)?);
     }
-    Ok(())
+    best.show_of(rt, "mixed", threads, CALLS, i128::from(sum))
 }
 
 /// The calls of one round, divided among the threads: the sum of the values that were read.

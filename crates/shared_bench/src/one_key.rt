@@ -1,6 +1,7 @@
 //! Calls of several threads at one key of a map, with their checksums: gets, and then puts.
 
-use crate::maps::Map;
+use crate::arguments::Load;
+use crate::maps::{Map, filled};
 use bench_kit::{Best, Fault, copied, text_key};
 use keys::ByteText;
 use std::alloc::Global;
@@ -23,19 +24,15 @@ enum Call {
 /// Times gets, and then puts, of the last key of the map, each by one and by four threads.
 pub fn one_key<R: Runtime + AllocGlobal + Threads + Wait + Sync>(
     rt: &R,
-    map: &Map,
-    pairs: u32,
-    rounds: u32,
+    load: Load,
 ) -> Result<(), Fault> {
-    let number = pairs.saturating_sub(1);
+    let map = filled(rt, load.pairs)?;
+    let number = load.pairs.saturating_sub(1);
     let key = text_key(rt.alloc(), number)?;
-    for threads in [1, 4] {
-        calls_by(rt, map, &key, number, rounds, threads, Call::Get)?;
-    }
-    for threads in [1, 4] {
-        calls_by(rt, map, &key, number, rounds, threads, Call::Put)?;
-    }
-    Ok(())
+    calls_by(rt, &map, &key, number, load.rounds, 1, Call::Get)?;
+    calls_by(rt, &map, &key, number, load.rounds, 4, Call::Get)?;
+    calls_by(rt, &map, &key, number, load.rounds, 1, Call::Put)?;
+    calls_by(rt, &map, &key, number, load.rounds, 4, Call::Put)
 }
 
 /// Times the calls by so many threads.
@@ -55,11 +52,15 @@ fn calls_by<R: Runtime + AllocGlobal + Threads + Wait + Sync>(
         sum = one_round(rt, map, key, number, threads, call)?;
         best.count(start.elapsed(rt)?);
     }
-    let name = match call {
+    best.show_of(rt, name_of(call), threads, CALLS, i128::from(sum))
+}
+
+/// The name of the measurement of such calls.
+fn name_of(call: Call) -> &'static str {
+    match call {
         Call::Get => "one_key_reads",
         Call::Put => "one_key_writes",
-    };
-    best.show_of(rt, name, threads, CALLS, i128::from(sum))
+    }
 }
 
 /// The calls of one round, divided among the threads: the sum of the values that they were told.

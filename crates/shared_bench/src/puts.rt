@@ -1,6 +1,6 @@
 //! The time that a put takes, alone and while a crew counts the map.
 
-use crate::maps::Map;
+use crate::maps::{Map, filled};
 use bench_kit::{Fault, Question, Spread, Times, count, text_key};
 use rand_core::utils::NextWord;
 use rand_pcg::Pcg32;
@@ -28,12 +28,12 @@ struct Written {
 /// Times puts on the map, alone and while a crew counts it.
 pub fn put_all<R: Runtime + AllocGlobal + Threads + Wait + Sync>(
     rt: &R,
-    map: &Map,
     pairs: u32,
 ) -> Result<(), Fault> {
-    let alone = write(rt, map, pairs)?;
+    let map = filled(rt, pairs)?;
+    let alone = write(rt, &map, pairs)?;
     show(rt, 0, alone)?;
-    let beside = write_beside_a_crew(rt, map, pairs)?;
+    let beside = write_beside_a_crew(rt, &map, pairs)?;
     show(rt, WORKERS, beside)
 }
 
@@ -45,15 +45,28 @@ fn write<R: Clock + AllocGlobal + Wait>(rt: &R, map: &Map, pairs: u32) -> Result
     for _ in 0..PUTS {
         let number = draws.next_word() % pairs.max(1);
         let own = text_key(rt.alloc(), number)?;
-        let start = Instant::now(rt)?;
-        let before = map.put(rt, own, i64::from(number))?;
-        times.count(start.elapsed(rt)?)?;
-        if let Some(value) = before {
-            sum = sum.wrapping_add(*value);
-        }
+        let before = put(rt, map, &mut times, own, i64::from(number))?;
+        sum = sum.wrapping_add(before);
     }
     let spread = times.spread()?;
     Ok(Written { spread, sum })
+}
+
+/// Makes one put, counts its time, and answers the value that was replaced, 0 where there was none.
+fn put<R: Clock + Wait>(
+    rt: &R,
+    map: &Map,
+    times: &mut Times,
+    own: ByteText,
+    value: i64,
+) -> Result<i64, Fault> {
+    let start = Instant::now(rt)?;
+    let before = map.put(rt, own, value)?;
+    times.count(start.elapsed(rt)?)?;
+    match before {
+        Some(before) => Ok(*before),
+        None => Ok(0),
+    }
 }
 
 /// Makes the puts on one thread while another has a crew count the map again and again.

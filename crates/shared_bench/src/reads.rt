@@ -89,6 +89,11 @@ fn one_round<R: Runtime + AllocGlobal + Threads + Wait + Sync>(
     };
     let visitors = visitors(alloc, meeting, readers)?;
     let (outs, _) = with_clients(rt, alloc, limits, visitors)?;
+    round_of(outs)
+}
+
+/// What the clients of a round came to together.
+fn round_of(outs: Vec<Result<Did, Fault>>) -> Result<Round, Fault> {
     let mut wrote = Duration::ZERO;
     let mut whole = Reading {
         began: Duration::MAX,
@@ -98,11 +103,7 @@ fn one_round<R: Runtime + AllocGlobal + Threads + Wait + Sync>(
     for out in outs {
         match out? {
             Did::Wrote(until) => wrote = until,
-            Did::Read(reading) => {
-                whole.began = whole.began.min(reading.began);
-                whole.ended = whole.ended.max(reading.ended);
-                whole.sum = whole.sum.wrapping_add(reading.sum);
-            }
+            Did::Read(reading) => whole = whole.with(reading),
         }
     }
     let time = whole.ended.saturating_sub(whole.began);

@@ -3,7 +3,6 @@
 use crate::arguments::{ALL, Load, Part, part_of};
 use crate::asking::ask_all;
 use crate::locked::locked_calls;
-use crate::maps::filled;
 use crate::mixed::mixed;
 use crate::one_key::one_key;
 use crate::puts::put_all;
@@ -16,7 +15,8 @@ use std::thread::Threads;
 
 /// Measures what the words after the program's name ask for.
 pub fn run<R: Runtime + AllocGlobal + Threads + Wait + Sync>(rt: &R) -> Result<(), Fault> {
-    match part_of(words_of(rt)?.as_slice())? {
+    let part = part_of(words_of(rt)?.as_slice())?;
+    match part {
         Some(part) => measure(rt, part),
         None => {
             for part in ALL {
@@ -33,21 +33,21 @@ fn measure<R: Runtime + AllocGlobal + Threads + Wait + Sync>(
     part: Part,
 ) -> Result<(), Fault> {
     match part {
-        Part::Mixed(Load { pairs, rounds }) => {
-            let keys = text_keys(rt.alloc(), pairs)?;
-            mixed(rt, &filled(rt, pairs)?, keys.as_slice(), rounds)
-        }
-        Part::OneKey(Load { pairs, rounds }) => one_key(rt, &filled(rt, pairs)?, pairs, rounds),
-        Part::Views { pairs } => {
-            let keys = text_keys(rt.alloc(), pairs)?;
-            views(rt, &filled(rt, pairs)?, keys.as_slice())
-        }
-        Part::Locked(Load { pairs, rounds }) => {
-            let keys = text_keys(rt.alloc(), pairs)?;
-            locked_calls(rt, rounds, keys.as_slice())?;
-            view_reads(rt, rounds, keys.as_slice())
-        }
-        Part::Crew { pairs, workers } => ask_all(rt, &filled(rt, pairs)?, pairs, workers),
-        Part::Puts { pairs } => put_all(rt, &filled(rt, pairs)?, pairs),
+        Part::Mixed(load) => mixed(rt, load),
+        Part::OneKey(load) => one_key(rt, load),
+        Part::Views { pairs } => views(rt, pairs),
+        Part::Locked(load) => locked(rt, load),
+        Part::Crew { pairs, workers } => ask_all(rt, pairs, workers),
+        Part::Puts { pairs } => put_all(rt, pairs),
     }
+}
+
+/// Calls on the map with a journal, and gets on views of it.
+fn locked<R: Runtime + AllocGlobal + Threads + Wait + Sync>(
+    rt: &R,
+    load: Load,
+) -> Result<(), Fault> {
+    let keys = text_keys(rt.alloc(), load.pairs)?;
+    locked_calls(rt, load.rounds, keys.as_slice())?;
+    view_reads(rt, load.rounds, keys.as_slice())
 }

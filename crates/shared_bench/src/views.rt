@@ -1,15 +1,15 @@
 //! Views of a map, with nobody writing and while others write.
 
-use crate::maps::Map;
+use crate::maps::{Map, filled};
 use crate::mixed::calls_of;
-use bench_kit::{Fault, Times};
+use bench_kit::{Fault, Times, text_keys};
 use keys::ByteText;
 use std::rt::Runtime;
 use std::sync::atomic::{AtomicBool, Ordering};
 use std::sync::{Arc, Wait};
 use std::thread;
 use std::thread::Threads;
-use std::time::{Clock, Instant};
+use std::time::{Clock, Duration, Instant};
 
 /// How many threads write while views are taken, and how many views are timed.
 const WRITERS: u32 = 4;
@@ -22,31 +22,30 @@ const CALLS_AT_A_TIME: u32 = 100;
 /// Times views with nobody writing, and while four threads write, and tells the median of each.
 pub fn views<R: Runtime + Clock + AllocGlobal + Threads + Wait + Sync>(
     rt: &R,
-    map: &Map,
-    keys: &[Arc<ByteText>],
+    pairs: u32,
 ) -> Result<(), Fault> {
-    let alone = median_of_views(rt, map)?;
-    show(rt, "view_alone", 1, alone, map.view(rt)?.len())?;
-    let beside = beside_writers(rt, map, keys)?;
-    show(
-        rt,
-        "view_under_writes",
-        WRITERS,
-        beside,
-        map.view(rt)?.len(),
-    )
+    let keys = text_keys(rt.alloc(), pairs)?;
+    let map = filled(rt, pairs)?;
+    let alone = median_of_views(rt, &map)?;
+    show(rt, "view_alone", 1, alone, &map)?;
+    let beside = beside_writers(rt, &map, keys.as_slice())?;
+    show(rt, "view_under_writes", WRITERS, beside, &map)
 }
 
 /// The median of the nanoseconds that a view takes.
 fn median_of_views<R: Clock + AllocGlobal + Wait>(rt: &R, map: &Map) -> Result<u64, Fault> {
     let mut times = Times::new(rt.alloc());
     for _ in 0..VIEWS {
-        let start = Instant::now(rt)?;
-        let view = map.view(rt)?;
-        times.count(start.elapsed(rt)?)?;
-        drop(view);
+        times.count(time_of_view(rt, map)?)?;
     }
     Ok(times.spread()?.median)
+}
+
+/// The time that a view takes. It is dropped once its time is counted.
+fn time_of_view<R: Clock + Wait>(rt: &R, map: &Map) -> Result<Duration, Fault> {
+    let start = Instant::now(rt)?;
+    let _view = map.view(rt)?;
+    Ok(start.elapsed(rt)?)
 }
 
 /// The same while four threads make calls, nine gets for each put.
@@ -97,13 +96,14 @@ fn write_until<R: AllocGlobal + Wait>(
 }
 
 /// Prints the median beside so many writers, and the number of pairs.
-fn show<R: Runtime>(
+fn show<R: Runtime + Wait>(
     rt: &R,
     name: &str,
     threads: u32,
     median: u64,
-    pairs: u64,
+    map: &Map,
 ) -> Result<(), Fault> {
+    let pairs = map.view(rt)?.len();
     rt.eprintln(format_args!("tambyulo {name} {threads} {median}"))?;
     rt.println(format_args!("{name} {pairs}"))?;
     Ok(())

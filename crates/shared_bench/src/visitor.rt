@@ -55,6 +55,17 @@ pub struct Reading {
     pub sum: i64,
 }
 
+impl Reading {
+    /// Both together: from when the first began until the last ended.
+    pub fn with(self, other: Reading) -> Reading {
+        Reading {
+            began: self.began.min(other.began),
+            ended: self.ended.max(other.ended),
+            sum: self.sum.wrapping_add(other.sum),
+        }
+    }
+}
+
 /// What a client did.
 #[derive(Clone, Copy)]
 pub enum Did {
