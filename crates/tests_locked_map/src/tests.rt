@@ -1,4 +1,7 @@
 //! What seats of a shared map are told, by hand and beside a plain program.
+ghost use Rattle.std.specs.Prelude.{◌≤◌};
+
+mod any_map;
 mod bulk;
 mod clients;
 mod ends;
@@ -16,15 +19,17 @@ mod random;
 mod replay;
 mod requests;
 mod rows;
+mod running;
 mod script;
 mod steps;
 mod torn;
 mod waiting;
 mod wanting;
 
-use handles::Limits;
+use handles::{Limits, MOST_ENTRIES};
 use std::fmt::Debug;
 use std::process::Abort;
+use versions::MOST_PAIRS;
 
 // The largest limits.
 const LARGEST: Limits = Limits {
@@ -42,4 +47,15 @@ const KEYS: [u64; 4] = [A, B, 99, 100];
 // What is seen is what is wanted. An assertion is proved wherever it is written out, so it stands here once.
 fn assert_is<T: PartialEq + Debug + Drop>(rt: &impl Abort, seen: T, want: T) {
     assert_eq!(rt; seen, want);
+}
+
+// A map may have these limits.
+fn assert_limits(rt: &impl Abort, limits: Limits)
+    ensures least_pairs { 1 ≤ limits.pairs }
+    ensures most_pairs { limits.pairs ≤ MOST_PAIRS }
+    ensures least_entries { 2 ≤ limits.entries }
+    ensures most_entries { limits.entries ≤ MOST_ENTRIES }
+{
+    assert!(rt; 1 <= limits.pairs && limits.pairs <= MOST_PAIRS);
+    assert!(rt; 2 <= limits.entries && limits.entries <= MOST_ENTRIES);
 }

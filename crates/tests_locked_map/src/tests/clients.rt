@@ -1,21 +1,18 @@
 //! Two clients, each on a thread of its own.
-ghost use Rattle.std.specs.Prelude.{⊤};
-
-use super::entries::{Entered, Exchange, TestClosed, entries_of, value_at};
+use super::any_map::AnyMap;
+use super::entries::{Entered, Exchange, TestClosed, value_at};
 use super::making::act;
-use super::model::assert_replayed;
+use super::model::replayed;
 use super::outcomes::Outcome;
-use super::questions::Query;
 use super::requests::Do::{Put, PutIfAbsent};
 use super::requests::Request::{On, Open};
 use super::requests::{Deed, Request};
+use super::running::{Playing, Plays, run_clients};
 use super::{A, LARGEST, assert_is};
-use locked_map::{Client, MOST_SEATS, Room, Seat, SharedMap, with_clients};
 use std::alloc::Global;
 use std::process::Abort;
 use std::sync::Wait;
 use std::thread::Threads;
-use test_keys::ChosenKey;
 use versions::Refusal;
 
 // How often two clients run.
@@ -27,19 +24,15 @@ struct Opener {
     then: Deed,
 }
 
-impl Client<ChosenKey, u64, Query> for Opener {
+impl Plays for Opener {
     type Out = (Outcome, Outcome);
 
-    ghost needs = { λ _. ⊤ };
-
-    ghost gives = { λ _ _ _. ⊤ };
-
-    fn run<J: Room, R: Threads + Wait + Sync>(
+    fn play<M: AnyMap, R: Threads + Wait + Sync>(
         self,
         rt: &R,
         alloc: Global,
-        map: &SharedMap<ChosenKey, u64, Query, J>,
-        seat: &mut Seat<ChosenKey, u64, Query, J>,
+        map: &M,
+        seat: &mut M::Seat,
     ) -> (Outcome, Outcome) {
         let mut tickets = Vec::new(alloc);
         let opened = act(rt, alloc, map, seat, &mut tickets, FIRST);
@@ -61,11 +54,9 @@ fn run_two<R: AllocGlobal + Abort + Threads + Wait + Sync>(
 ) -> (Two, TestClosed) {
     let mut clients = Vec::new(rt.alloc());
     for then in [first, second] {
-        clients.push(Opener { then }).expect(rt, "no room");
+        clients.push(Playing(Opener { then })).expect(rt, "no room");
     }
-    assert!(rt; clients.len() <= MOST_SEATS as usize);
-    let run = with_clients(rt, rt.alloc(), LARGEST, clients);
-    let (outs, closed) = run.expect(rt, "no journal");
+    let (outs, closed) = run_clients(rt, LARGEST, clients);
     let one = outs.first().copied().expect(rt, "no first client");
     let two = outs.get(1).copied().expect(rt, "no second client");
     ((one, two), closed)
@@ -105,12 +96,11 @@ fn assert_filed(rt: &impl Abort, entries: &[Entered], seat: u32, wanted: [Exchan
 
 // The journal has what both were told, and nothing else.
 fn assert_journal(rt: &impl Abort, alloc: Global, closed: &TestClosed, told: Two) {
-    let entries = entries_of(rt, alloc, closed);
+    let entries = replayed(rt, alloc, LARGEST, closed);
     assert_is(rt, entries.len(), 4);
     let (one, two) = told;
     assert_filed(rt, &entries, 0, [(Open(1), one.0), (PUT_ONE, one.1)]);
     assert_filed(rt, &entries, 1, [(Open(1), two.0), (ADD_TWO, two.1)]);
-    assert_replayed(rt, alloc, LARGEST, closed, &entries);
 }
 
 // Both open the handle. Then one puts a value, and the other one puts another if there is none.
@@ -138,7 +128,7 @@ fn two_clients_get_the_same_value(rt: HostRuntime) {
     for _ in 0..TIMES {
         let (first, second) = (Deed::GetOrStore(1, A, 1), Deed::GetOrStore(1, A, 2));
         let ((one, two), closed) = run_two(&rt, first, second);
-        let stored = value_at(&closed, 1, A);
+        let stored = value_at(closed.table.places(), 1, A);
         assert!(rt; stored == Some(1) || stored == Some(2));
         assert_is(&rt, (value_in(one.1), value_in(two.1)), (stored, stored));
     }

@@ -6,9 +6,13 @@ use locked_map::{Closed, Entry};
 use std::alloc::Global;
 use std::process::Abort;
 use test_keys::ChosenKey;
+use versions::Version;
 
 /// What is left of a map of the tests.
 pub type TestClosed = Closed<ChosenKey, u64, Query>;
+
+/// The version of a handle.
+pub type TestVersion = Version<ChosenKey, u64>;
 
 /// What a seat asked and was told.
 pub type Exchange = (Request, Outcome);
@@ -47,9 +51,9 @@ pub fn entries_of(rt: &impl Abort, alloc: Global, closed: &TestClosed) -> Vec<En
     entries
 }
 
-/// The value of the key on the handle, where it has one.
-pub fn value_at(closed: &TestClosed, handle: u32, key: u64) -> Option<u64> {
-    match closed.table.places().get(handle as usize)? {
+/// The value of the key on the handle whose place is among these, where it has one.
+pub fn value_at(places: &[Option<TestVersion>], handle: u32, key: u64) -> Option<u64> {
+    match places.get(handle as usize)? {
         Some(version) => Some(**version.get(&key_of(key))?),
         None => None,
     }

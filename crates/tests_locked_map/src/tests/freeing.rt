@@ -1,5 +1,6 @@
 //! When the values of a map that is dropped or cleared are dropped.
 ghost use Rattle.std.specs.Prelude.{⊤};
+ghost use Rattle.std.specs.Thread.{IsSync};
 
 use super::requests::shared_key;
 use super::waiting::wait_for;
@@ -133,9 +134,50 @@ impl PairFn<ChosenKey, Waiting, i128> for NoItem {
 
 type Signing = Query<ChosenKey, Waiting, NoTest, Signed, Sum, NoItem, NoImages>;
 
-type WaitingMap<J> = SharedMap<ChosenKey, Waiting, Signing, J>;
+// A map of such values by its calls alone, which tell whether they were answered.
+trait WaitingMap {
+    // A seat of the map.
+    type Seat;
 
-type WaitingSeat<J> = Seat<ChosenKey, Waiting, Signing, J>;
+    // Makes the call.
+    fn is_called<R: Wait>(
+        &self,
+        rt: &R,
+        seat: &mut Self::Seat,
+        call: Call<ChosenKey, Waiting>,
+    ) -> bool;
+
+    // Has a crew answer the query about handle 1.
+    fn is_asked<R: Threads + Wait + Sync>(
+        &self,
+        rt: &R,
+        seat: &mut Self::Seat,
+        query: Arc<Signing>,
+    ) -> bool
+        requires sync { IsSync R.row };
+}
+
+impl<J: Room> WaitingMap for SharedMap<ChosenKey, Waiting, Signing, J> {
+    type Seat = Seat<ChosenKey, Waiting, Signing, J>;
+
+    fn is_called<R: Wait>(
+        &self,
+        rt: &R,
+        seat: &mut Seat<ChosenKey, Waiting, Signing, J>,
+        call: Call<ChosenKey, Waiting>,
+    ) -> bool {
+        self.call(rt, seat, call).is_ok()
+    }
+
+    fn is_asked<R: Threads + Wait + Sync>(
+        &self,
+        rt: &R,
+        seat: &mut Seat<ChosenKey, Waiting, Signing, J>,
+        query: Arc<Signing>,
+    ) -> bool {
+        self.bulk(rt, seat, 1, query, Crew::of(1), &Free).is_ok()
+    }
+}
 
 // The map of new values, for handle 2.
 fn query_of(signs: Arc<Signs, Global>) -> Signing {
@@ -165,24 +207,29 @@ impl Client<ChosenKey, Waiting, Signing> for Freer {
         map: &SharedMap<ChosenKey, Waiting, Signing, J>,
         seat: &mut Seat<ChosenKey, Waiting, Signing, J>,
     ) -> bool {
-        match self {
-            Freer::Dropper(signs, clears) => {
-                put_one(rt, alloc, map, seat)
-                    && make_map(rt, alloc, map, seat, signs)
-                    && let_go(rt, map, seat, clears)
-            }
-            Freer::Opener(signs) => open(rt, map, seat, &signs),
+        play(rt, alloc, map, seat, self)
+    }
+}
+
+fn play<M: WaitingMap, R: Threads + Wait + Sync>(
+    rt: &R,
+    alloc: Global,
+    map: &M,
+    seat: &mut M::Seat,
+    freer: Freer,
+) -> bool {
+    match freer {
+        Freer::Dropper(signs, clears) => {
+            put_one(rt, alloc, map, seat)
+                && make_map(rt, alloc, map, seat, signs)
+                && let_go(rt, map, seat, clears)
         }
+        Freer::Opener(signs) => open(rt, map, seat, &signs),
     }
 }
 
 // Opens handle 1 and puts a pair.
-fn put_one<J: Room, R: Wait>(
-    rt: &R,
-    alloc: Global,
-    map: &WaitingMap<J>,
-    seat: &mut WaitingSeat<J>,
-) -> bool {
+fn put_one<M: WaitingMap, R: Wait>(rt: &R, alloc: Global, map: &M, seat: &mut M::Seat) -> bool {
     let value = Waiting {
         number: 0,
         signs: None,
@@ -193,56 +240,35 @@ fn put_one<J: Room, R: Wait>(
     let Ok(value) = Arc::new(alloc, value) else {
         return false;
     };
-    map.call(rt, seat, Call::Open(1)).is_ok()
-        && map
-            .call(rt, seat, Call::On(1, Command::Put(key, value)))
-            .is_ok()
+    map.is_called(rt, seat, Call::Open(1))
+        && map.is_called(rt, seat, Call::On(1, Command::Put(key, value)))
 }
 
 // Has a crew make a map of a new value for handle 2. The journal does not have that value.
-fn make_map<J: Room, R: Threads + Wait + Sync>(
+fn make_map<M: WaitingMap, R: Threads + Wait + Sync>(
     rt: &R,
     alloc: Global,
-    map: &WaitingMap<J>,
-    seat: &mut WaitingSeat<J>,
+    map: &M,
+    seat: &mut M::Seat,
     signs: Arc<Signs, Global>,
 ) -> bool {
     let Ok(query) = Arc::new(alloc, query_of(signs)) else {
         return false;
     };
-    ask(rt, map, seat, query)
+    map.is_asked(rt, seat, query)
 }
 
-fn ask<J: Room, R: Threads + Wait + Sync>(
-    rt: &R,
-    map: &WaitingMap<J>,
-    seat: &mut WaitingSeat<J>,
-    query: Arc<Signing>,
-) -> bool {
-    map.bulk(rt, seat, 1, query, Crew::of(1), &Free).is_ok()
-}
-
-fn let_go<J: Room, R: Wait>(
-    rt: &R,
-    map: &WaitingMap<J>,
-    seat: &mut WaitingSeat<J>,
-    clears: bool,
-) -> bool {
+fn let_go<M: WaitingMap, R: Wait>(rt: &R, map: &M, seat: &mut M::Seat, clears: bool) -> bool {
     let call = if clears {
         Call::On(2, Command::Clear)
     } else {
         Call::Drop(2)
     };
-    map.call(rt, seat, call).is_ok()
+    map.is_called(rt, seat, call)
 }
 
-fn open<J: Room, R: Wait>(
-    rt: &R,
-    map: &WaitingMap<J>,
-    seat: &mut WaitingSeat<J>,
-    signs: &Signs,
-) -> bool {
-    let is_opened = wait_for(&signs.dropping) && map.call(rt, seat, Call::Open(3)).is_ok();
+fn open<M: WaitingMap, R: Wait>(rt: &R, map: &M, seat: &mut M::Seat, signs: &Signs) -> bool {
+    let is_opened = wait_for(&signs.dropping) && map.is_called(rt, seat, Call::Open(3));
     signs.answered.store(1, Ordering::SeqCst);
     is_opened
 }

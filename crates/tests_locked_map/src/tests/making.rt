@@ -2,24 +2,17 @@
 //!
 //! Nothing here returns early, and what the test itself lacks is an outcome too, which no test wants: so no function
 //! has values to let go on the way.
-use super::outcomes::{Outcome, seen_in, told_of_answer, told_of_call, told_of_got, told_of_view};
-use super::questions::{Query, worked};
+use super::any_map::AnyMap;
+use super::outcomes::{Outcome, told_of_answer, told_of_call, told_of_got, told_of_view};
+use super::questions::Query;
 use super::requests::{Deed, Prepared, prepare};
+use super::waiting::TestGate;
 use handles::Call;
-use locked_map::{Crew, Free, Gate, Room, Seat, SharedMap, Ticket};
+use locked_map::Crew;
 use std::alloc::Global;
 use std::sync::{Arc, Wait};
 use std::thread::Threads;
 use test_keys::ChosenKey;
-
-/// A map of the tests.
-pub type TestMap<J> = SharedMap<ChosenKey, u64, Query, J>;
-
-/// A seat of such a map.
-pub type TestSeat<J> = Seat<ChosenKey, u64, Query, J>;
-
-/// A ticket of such a map.
-pub type TestTicket<J> = Ticket<ChosenKey, u64, Query, J>;
 
 /// How many workers answer a bulk call. They cut the map down to single pairs, and are in no hurry to end.
 pub const WORKERS: u32 = 2;
@@ -31,12 +24,12 @@ const CREW: Crew = Crew {
 };
 
 /// The seat does this. What opens a job adds its ticket to these, and the end of a job takes the ticket of its number.
-pub fn act<J: Room, R: Threads + Wait + Sync>(
+pub fn act<M: AnyMap, R: Threads + Wait + Sync>(
     rt: &R,
     alloc: Global,
-    map: &TestMap<J>,
-    seat: &mut TestSeat<J>,
-    tickets: &mut Vec<TestTicket<J>>,
+    map: &M,
+    seat: &mut M::Seat,
+    tickets: &mut Vec<M::Ticket>,
     deed: Deed,
 ) -> Outcome {
     match prepare(alloc, deed) {
@@ -47,12 +40,12 @@ pub fn act<J: Room, R: Threads + Wait + Sync>(
 
 /// The seat does what was prepared, any number of times. But for a finish, which works the job, it asks for no memory
 /// but what the map asks for, where the tickets have room, and gives none back.
-pub fn take<J: Room, R: Threads + Wait + Sync>(
+pub fn take<M: AnyMap, R: Threads + Wait + Sync>(
     rt: &R,
     alloc: Global,
-    map: &TestMap<J>,
-    seat: &mut TestSeat<J>,
-    tickets: &mut Vec<TestTicket<J>>,
+    map: &M,
+    seat: &mut M::Seat,
+    tickets: &mut Vec<M::Ticket>,
     prepared: &Prepared,
 ) -> Outcome {
     match prepared {
@@ -69,10 +62,10 @@ pub fn take<J: Room, R: Threads + Wait + Sync>(
 }
 
 // Makes the call, which shares its key and values.
-fn make_call<J: Room, R: Wait>(
+fn make_call<M: AnyMap, R: Wait>(
     rt: &R,
-    map: &TestMap<J>,
-    seat: &mut TestSeat<J>,
+    map: &M,
+    seat: &mut M::Seat,
     call: &Call<ChosenKey, u64>,
 ) -> Outcome {
     match call.try_clone::<Query>() {
@@ -81,11 +74,11 @@ fn make_call<J: Room, R: Wait>(
     }
 }
 
-fn freeze<J: Room, R: Wait>(
+fn freeze<M: AnyMap, R: Wait>(
     rt: &R,
-    map: &TestMap<J>,
-    seat: &mut TestSeat<J>,
-    tickets: &mut Vec<TestTicket<J>>,
+    map: &M,
+    seat: &mut M::Seat,
+    tickets: &mut Vec<M::Ticket>,
     handle: u32,
     query: &Arc<Query>,
 ) -> Outcome {
@@ -93,8 +86,8 @@ fn freeze<J: Room, R: Wait>(
         return Outcome::Lost;
     };
     match map.freeze(rt, seat, handle, query) {
-        Ok(ticket) => {
-            let told = Outcome::Frozen(ticket.job(), seen_in(ticket.view()));
+        Ok((ticket, seen)) => {
+            let told = Outcome::Frozen(M::job(&ticket), seen);
             kept(tickets, ticket, told)
         }
         Err(refusal) => Outcome::Refused(refusal),
@@ -102,11 +95,7 @@ fn freeze<J: Room, R: Wait>(
 }
 
 // Adds the ticket: what was told, unless the ticket is lost.
-fn kept<J: Room>(
-    tickets: &mut Vec<TestTicket<J>>,
-    ticket: TestTicket<J>,
-    told: Outcome,
-) -> Outcome {
+fn kept<T: Drop>(tickets: &mut Vec<T>, ticket: T, told: Outcome) -> Outcome {
     match tickets.push(ticket) {
         Ok(()) => told,
         Err(_) => Outcome::Lost,
@@ -114,18 +103,18 @@ fn kept<J: Room>(
 }
 
 // Finishes the job by the part of the whole map that was frozen.
-fn finish<J: Room, R: Wait>(
+fn finish<M: AnyMap, R: Wait>(
     rt: &R,
     alloc: Global,
-    map: &TestMap<J>,
-    seat: &mut TestSeat<J>,
-    tickets: &mut Vec<TestTicket<J>>,
+    map: &M,
+    seat: &mut M::Seat,
+    tickets: &mut Vec<M::Ticket>,
     job: u64,
 ) -> Outcome {
-    let Some(ticket) = taken(tickets, job) else {
+    let Some(ticket) = taken::<M>(tickets, job) else {
         return Outcome::Lost;
     };
-    let Ok(part) = worked(alloc, ticket.view(), ticket.query()) else {
+    let Ok(part) = M::work(alloc, &ticket) else {
         return Outcome::Lost;
     };
     match map.finish(rt, seat, ticket, part) {
@@ -134,14 +123,14 @@ fn finish<J: Room, R: Wait>(
     }
 }
 
-fn abandon<J: Room, R: Wait>(
+fn abandon<M: AnyMap, R: Wait>(
     rt: &R,
-    map: &TestMap<J>,
-    seat: &mut TestSeat<J>,
-    tickets: &mut Vec<TestTicket<J>>,
+    map: &M,
+    seat: &mut M::Seat,
+    tickets: &mut Vec<M::Ticket>,
     job: u64,
 ) -> Outcome {
-    let Some(ticket) = taken(tickets, job) else {
+    let Some(ticket) = taken::<M>(tickets, job) else {
         return Outcome::Lost;
     };
     match map.abandon(rt, seat, ticket) {
@@ -151,16 +140,16 @@ fn abandon<J: Room, R: Wait>(
 }
 
 /// Takes the ticket of the job out of these.
-pub fn taken<J: Room>(tickets: &mut Vec<TestTicket<J>>, job: u64) -> Option<TestTicket<J>> {
-    let place = tickets.iter().position(|ticket| ticket.job() == job)?;
+pub fn taken<M: AnyMap>(tickets: &mut Vec<M::Ticket>, job: u64) -> Option<M::Ticket> {
+    let place = tickets.iter().position(|ticket| M::job(ticket) == job)?;
     Some(tickets.swap_remove(place))
 }
 
 // Gets the key's value on the handle or stores this one.
-fn get_or_store<J: Room, R: Wait>(
+fn get_or_store<M: AnyMap, R: Wait>(
     rt: &R,
-    map: &TestMap<J>,
-    seat: &mut TestSeat<J>,
+    map: &M,
+    seat: &mut M::Seat,
     handle: u32,
     key: &Arc<ChosenKey>,
     value: u64,
@@ -176,29 +165,29 @@ fn get_or_store<J: Room, R: Wait>(
     told_of_got(is_made, &answer)
 }
 
-fn take_bulk<J: Room, R: Threads + Wait + Sync>(
+fn take_bulk<M: AnyMap, R: Threads + Wait + Sync>(
     rt: &R,
-    map: &TestMap<J>,
-    seat: &mut TestSeat<J>,
-    tickets: &mut Vec<TestTicket<J>>,
+    map: &M,
+    seat: &mut M::Seat,
+    tickets: &mut Vec<M::Ticket>,
     handle: u32,
     query: &Arc<Query>,
 ) -> Outcome {
     match Arc::try_clone(query) {
-        Ok(query) => bulk(rt, map, seat, tickets, handle, query, &Free),
+        Ok(query) => bulk(rt, map, seat, tickets, handle, query, &TestGate::Free),
         Err(_) => Outcome::Lost,
     }
 }
 
 /// Has a crew answer the query, which asks the gate before each piece. A ticket that comes back is added to these.
-pub fn bulk<J: Room, G: Gate + Sync, R: Threads + Wait + Sync>(
+pub fn bulk<M: AnyMap, R: Threads + Wait + Sync>(
     rt: &R,
-    map: &TestMap<J>,
-    seat: &mut TestSeat<J>,
-    tickets: &mut Vec<TestTicket<J>>,
+    map: &M,
+    seat: &mut M::Seat,
+    tickets: &mut Vec<M::Ticket>,
     handle: u32,
     query: Arc<Query>,
-    gate: &G,
+    gate: &TestGate<'_>,
 ) -> Outcome {
     match map.bulk(rt, seat, handle, query, CREW, gate) {
         Ok(answer) => told_of_answer(&answer),

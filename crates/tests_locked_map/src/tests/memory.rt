@@ -1,14 +1,12 @@
 //! How a seat does something with requests for memory refused: all of them, or the first, the second and so on.
-use super::making::{TestMap, TestSeat, TestTicket, take, taken};
+use super::any_map::{AnyMap, TestAnswer};
+use super::making::{take, taken};
 use super::outcomes::{Outcome, told_of_answer};
-use super::questions::worked;
 use super::requests::Prepared;
-use bulk_ops::{Answer, Asks};
-use locked_map::{Room, Seat, SharedMap, Ticket};
 use std::alloc::Global;
 use std::sync::Wait;
 use std::thread::Threads;
-use test_keys::{ChosenKey, Shortage};
+use test_keys::Shortage;
 use versions::Refusal;
 
 // How many bytes are given after each refusal.
@@ -21,12 +19,12 @@ const LARGE_STEP: usize = 4_096;
 const TRIES: u32 = 4_096;
 
 /// The seat does it with every request for memory refused.
-pub fn dry<J: Room, R: Threads + Wait + Sync>(
+pub fn dry<M: AnyMap, R: Threads + Wait + Sync>(
     rt: &R,
     alloc: Global,
-    map: &TestMap<J>,
-    seat: &mut TestSeat<J>,
-    tickets: &mut Vec<TestTicket<J>>,
+    map: &M,
+    seat: &mut M::Seat,
+    tickets: &mut Vec<M::Ticket>,
     prepared: &Prepared,
 ) -> Outcome {
     let Ok(shortage) = Shortage::new(alloc) else {
@@ -38,12 +36,12 @@ pub fn dry<J: Room, R: Threads + Wait + Sync>(
 }
 
 /// The seat does it with no memory, with a little, and so on, until memory is not wanting. It is wanting at least once.
-pub fn short<J: Room, R: Threads + Wait + Sync>(
+pub fn short<M: AnyMap, R: Threads + Wait + Sync>(
     rt: &R,
     alloc: Global,
-    map: &TestMap<J>,
-    seat: &mut TestSeat<J>,
-    tickets: &mut Vec<TestTicket<J>>,
+    map: &M,
+    seat: &mut M::Seat,
+    tickets: &mut Vec<M::Ticket>,
     prepared: &Prepared,
 ) -> Outcome {
     match prepared {
@@ -53,12 +51,12 @@ pub fn short<J: Room, R: Threads + Wait + Sync>(
 }
 
 // The same of what is no finish.
-fn short_of_all<J: Room, R: Threads + Wait + Sync>(
+fn short_of_all<M: AnyMap, R: Threads + Wait + Sync>(
     rt: &R,
     alloc: Global,
-    map: &TestMap<J>,
-    seat: &mut TestSeat<J>,
-    tickets: &mut Vec<TestTicket<J>>,
+    map: &M,
+    seat: &mut M::Seat,
+    tickets: &mut Vec<M::Ticket>,
     prepared: &Prepared,
 ) -> Outcome {
     let Ok(mut shortage) = Shortage::new(alloc) else {
@@ -93,18 +91,18 @@ fn bytes_after(told: Outcome, gets: usize) -> usize {
 }
 
 // The same of a finish. The job is worked before memory is wanting.
-fn short_finish<J: Room, R: Wait>(
+fn short_finish<M: AnyMap, R: Wait>(
     rt: &R,
     alloc: Global,
-    map: &TestMap<J>,
-    seat: &mut TestSeat<J>,
-    tickets: &mut Vec<TestTicket<J>>,
+    map: &M,
+    seat: &mut M::Seat,
+    tickets: &mut Vec<M::Ticket>,
     job: u64,
 ) -> Outcome {
-    let Some(ticket) = taken(tickets, job) else {
+    let Some(ticket) = taken::<M>(tickets, job) else {
         return Outcome::Lost;
     };
-    let Ok(part) = worked(alloc, ticket.view(), ticket.query()) else {
+    let Ok(part) = M::work(alloc, &ticket) else {
         return Outcome::Lost;
     };
     match finish(rt, alloc, map, seat, ticket, part) {
@@ -114,15 +112,15 @@ fn short_finish<J: Room, R: Wait>(
 }
 
 // The ticket and the part are handed back where memory was wanting, and used again. None where it never was.
-fn finish<Q: Asks<ChosenKey, u64> + Drop, J: Room, R: Wait>(
+fn finish<M: AnyMap, R: Wait>(
     rt: &R,
     alloc: Global,
-    map: &SharedMap<ChosenKey, u64, Q, J>,
-    seat: &mut Seat<ChosenKey, u64, Q, J>,
-    ticket: Ticket<ChosenKey, u64, Q, J>,
-    part: Q::Part,
-) -> Option<Answer<ChosenKey, u64, Q::Item>>
-    requires { Q.answers ticket.query ticket.frozen part }
+    map: &M,
+    seat: &mut M::Seat,
+    ticket: M::Ticket,
+    part: M::Part,
+) -> Option<TestAnswer>
+    requires { M.answers ticket part }
 {
     let mut ticket = ticket;
     let mut part = part;

@@ -1,6 +1,6 @@
 //! The machine of handles as a plain program over lists of pairs.
 use super::assert_is;
-use super::entries::{Entered, TestClosed};
+use super::entries::{Entered, TestClosed, TestVersion, entries_of};
 use super::outcomes::{NOTHING, Outcome, Seen, seen_in};
 use super::questions::Question;
 use super::requests::{Do, Request};
@@ -268,7 +268,13 @@ impl Machine {
 
     // The table has the same handles, each with the same pairs, and the same open jobs and number of entries.
     fn assert_like(&self, rt: &impl Abort, closed: &TestClosed) {
-        for (handle, place) in (0u32..).zip(closed.table.places()) {
+        self.assert_handles(rt, closed.table.places());
+        self.assert_jobs(rt, closed);
+        assert_is(rt, closed.table.entries(), self.entries);
+    }
+
+    fn assert_handles(&self, rt: &impl Abort, places: &[Option<TestVersion>]) {
+        for (handle, place) in (0u32..).zip(places) {
             let here = match place {
                 Some(version) => Some(seen_in(&version.view().expect(rt, "no view"))),
                 None => None,
@@ -276,22 +282,18 @@ impl Machine {
             let there = self.rows(handle).map(|rows| shown(rows));
             assert_is(rt, (handle, here), (handle, there));
         }
+    }
+
+    fn assert_jobs(&self, rt: &impl Abort, closed: &TestClosed) {
         for job in 0..=self.next {
             let is_open = closed.table.foresee_abandon(job).is_ok();
             assert_is(rt, (job, is_open), (job, self.is_open(job)));
         }
-        assert_is(rt, closed.table.entries(), self.entries);
     }
 }
 
-/// The plain program is told the same of each entry's request, one after another, and comes to the same table.
-pub fn assert_replayed(
-    rt: &impl Abort,
-    alloc: Global,
-    limits: Limits,
-    closed: &TestClosed,
-    entries: &[Entered],
-) {
+// The plain program after each entry's request, one after another, of which it is told the same.
+fn machine_after(rt: &impl Abort, alloc: Global, limits: Limits, entries: &[Entered]) -> Machine {
     let mut machine = Machine::new(alloc, limits);
     for entry in entries {
         let Entered {
@@ -306,5 +308,17 @@ pub fn assert_replayed(
             (request, outcome),
         );
     }
-    machine.assert_like(rt, closed);
+    machine
+}
+
+/// The entries of the journal. The plain program is told the same of each, and comes to the same table.
+pub fn replayed(
+    rt: &impl Abort,
+    alloc: Global,
+    limits: Limits,
+    closed: &TestClosed,
+) -> Vec<Entered> {
+    let entries = entries_of(rt, alloc, closed);
+    machine_after(rt, alloc, limits, &entries).assert_like(rt, closed);
+    entries
 }

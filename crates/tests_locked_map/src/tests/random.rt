@@ -1,18 +1,17 @@
 //! A client that makes random requests, and notes down what it is told.
-ghost use Rattle.std.specs.Prelude.{⊤};
-
 use super::KEYS;
+use super::any_map::AnyMap;
 use super::entries::Exchange;
-use super::making::{TestTicket, act};
+use super::making::act;
 use super::outcomes::Outcome;
-use super::questions::{ALL, EVEN, Passing, Query, Question};
+use super::questions::{ALL, EVEN, Passing, Question};
 use super::requests::{Deed, Do, Request};
-use locked_map::{Client, Room, Seat, SharedMap};
+use super::running::Plays;
 use std::alloc::Global;
 use std::sync::atomic::{AtomicU64, Ordering};
 use std::sync::{Arc, Wait};
 use std::thread::Threads;
-use test_keys::{ChosenKey, Random};
+use test_keys::Random;
 
 // How many calls a client makes.
 const CALLS: u32 = 500;
@@ -137,19 +136,15 @@ pub struct Player {
     pub notes: Vec<Note>,
 }
 
-impl Client<ChosenKey, u64, Query> for Player {
+impl Plays for Player {
     type Out = Vec<Note>;
 
-    ghost needs = { λ _. ⊤ };
-
-    ghost gives = { λ _ _ _. ⊤ };
-
-    fn run<J: Room, R: Threads + Wait + Sync>(
+    fn play<M: AnyMap, R: Threads + Wait + Sync>(
         self,
         rt: &R,
         alloc: Global,
-        map: &SharedMap<ChosenKey, u64, Query, J>,
-        seat: &mut Seat<ChosenKey, u64, Query, J>,
+        map: &M,
+        seat: &mut M::Seat,
     ) -> Vec<Note> {
         let Player {
             number,
@@ -160,7 +155,7 @@ impl Client<ChosenKey, u64, Query> for Player {
         } = self;
         let mut tickets = Vec::new(alloc);
         for call in 0..CALLS {
-            let deed = next_deed(&mut draws, &tickets, jobs, made_by(number, call));
+            let deed = next_deed::<M>(&mut draws, &tickets, jobs, made_by(number, call));
             let begun = clock.fetch_add(1, Ordering::SeqCst);
             let told = act(rt, alloc, map, seat, &mut tickets, deed);
             let ended = clock.fetch_add(1, Ordering::SeqCst);
@@ -177,13 +172,13 @@ fn made_by(number: u32, call: u32) -> u64 {
 }
 
 // Gets or stores a value, closes one of the jobs whose tickets these are, or does something else.
-fn next_deed<J: Room>(draws: &mut Draws, tickets: &[TestTicket<J>], jobs: u32, made: u64) -> Deed {
+fn next_deed<M: AnyMap>(draws: &mut Draws, tickets: &[M::Ticket], jobs: u32, made: u64) -> Deed {
     if draws.next(12) == 0 {
         return Deed::GetOrStore(draws.handle(), draws.key(), made);
     }
     let place = draws.next(jobs) as usize;
     match tickets.get(place) {
-        Some(ticket) => Deed::Ask(draws.end(ticket.job())),
+        Some(ticket) => Deed::Ask(draws.end(M::job(ticket))),
         None => Deed::Ask(draws.request()),
     }
 }

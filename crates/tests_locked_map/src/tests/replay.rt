@@ -1,18 +1,18 @@
 //! Eight clients of random calls, each journal beside a plain program.
-use super::entries::{Entered, entries_of};
-use super::model::assert_replayed;
+use super::entries::Entered;
+use super::model::replayed;
 use super::outcomes::Outcome;
 use super::random::{Draws, MOST_NOTES, Note, Player};
+use super::running::{Playing, run_clients};
 use super::{LARGEST, assert_is};
-use handles::{Limits, MOST_ENTRIES};
-use locked_map::{MOST_SEATS, with_clients};
+use handles::Limits;
 use std::alloc::Global;
 use std::process::Abort;
 use std::sync::atomic::AtomicU64;
 use std::sync::{Arc, Wait};
 use std::thread::Threads;
 use test_keys::Random;
-use versions::{MOST_PAIRS, Refusal};
+use versions::Refusal;
 
 // How many clients there are, and how often they run under each limits.
 const CLIENTS: u32 = 8;
@@ -41,7 +41,7 @@ const FEW_JOBS: u32 = 8;
 const MANY_JOBS: u32 = 400;
 
 // The clients of a round.
-fn clients_of(rt: &impl Abort, alloc: Global, round: u32, jobs: u32) -> Vec<Player> {
+fn clients_of(rt: &impl Abort, alloc: Global, round: u32, jobs: u32) -> Vec<Playing<Player>> {
     let clock = Arc::new(alloc, AtomicU64::new(0)).expect(rt, "no clock");
     let mut clients = Vec::new(alloc);
     for number in 0..CLIENTS {
@@ -53,7 +53,7 @@ fn clients_of(rt: &impl Abort, alloc: Global, round: u32, jobs: u32) -> Vec<Play
             clock: Arc::try_clone(&clock).expect(rt, "no clock"),
             notes: Vec::with_capacity(alloc, MOST_NOTES).expect(rt, "no room for notes"),
         };
-        clients.push(player).expect(rt, "no room");
+        clients.push(Playing(player)).expect(rt, "no room");
     }
     clients
 }
@@ -97,16 +97,11 @@ fn assert_noted(rt: &impl Abort, entries: &[Entered], notes: &[Vec<Note>]) {
 fn one_round<R: AllocGlobal + Abort + Threads + Wait + Sync>(
     rt: &R,
     limits: Limits,
-    clients: Vec<Player>,
+    clients: Vec<Playing<Player>>,
 ) -> Vec<Vec<Note>> {
-    assert!(rt; 1 <= limits.pairs && limits.pairs <= MOST_PAIRS);
-    assert!(rt; 2 <= limits.entries && limits.entries <= MOST_ENTRIES);
-    assert!(rt; clients.len() <= MOST_SEATS as usize);
-    let run = with_clients(rt, rt.alloc(), limits, clients);
-    let (notes, closed) = run.expect(rt, "no journal");
-    let entries = entries_of(rt, rt.alloc(), &closed);
+    let (notes, closed) = run_clients(rt, limits, clients);
+    let entries = replayed(rt, rt.alloc(), limits, &closed);
     assert_noted(rt, &entries, &notes);
-    assert_replayed(rt, rt.alloc(), limits, &closed, &entries);
     notes
 }
 

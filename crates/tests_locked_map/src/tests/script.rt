@@ -3,23 +3,24 @@
 //! Most tests are such a list, each step beside what it is told: a list is no work to prove.
 ghost use Rattle.std.specs.Prelude.{⊤};
 
-use super::assert_is;
-use super::entries::{Entered, TestClosed, entries_of};
-use super::making::{TestMap, TestSeat, TestTicket, act, take, taken};
+use super::any_map::AnyMap;
+use super::entries::{Entered, TestClosed};
+use super::making::{act, take, taken};
 use super::memory::{dry, short};
-use super::model::assert_replayed;
+use super::model::replayed;
 use super::outcomes::{Outcome, seen_in};
 use super::questions::Query;
 use super::requests::{Deed, Request, prepare};
 use super::steps::{Memory, Step, entry_in, told_in, turn_of};
-use handles::{Limits, MOST_ENTRIES};
+use super::{assert_is, assert_limits};
+use handles::Limits;
 use locked_map::{MOST_SEATS, Room, Seat, SharedMap, Use, with};
 use std::alloc::Global;
 use std::process::Abort;
 use std::sync::Wait;
 use std::thread::Threads;
 use test_keys::ChosenKey;
-use versions::{MOST_PAIRS, Refusal, View};
+use versions::{Refusal, View};
 
 /// The seats by which the map is closed.
 #[derive(Clone, Copy)]
@@ -64,30 +65,40 @@ impl Use<ChosenKey, u64, Query> for Script {
         map: &SharedMap<ChosenKey, u64, Query, J>,
         seats: &mut Vec<Seat<ChosenKey, u64, Query, J>>,
     ) -> Told {
-        let Script {
-            steps,
-            ending,
-            mut told,
-            mut views,
-        } = self;
-        let mut tickets = Vec::new(alloc);
-        let _ = tickets.reserve(TICKETS);
-        for step in steps {
-            let outcome = take_step(rt, alloc, map, seats, &mut tickets, &mut views, step);
-            // what is not noted is missed by the test
-            let _ = told.push(outcome);
-        }
-        arrange(seats, ending);
-        (told, views)
+        play(rt, alloc, map, seats, self)
     }
 }
 
-fn take_step<J: Room, R: Threads + Wait + Sync>(
+fn play<M: AnyMap, R: Threads + Wait + Sync>(
     rt: &R,
     alloc: Global,
-    map: &TestMap<J>,
-    seats: &mut Vec<TestSeat<J>>,
-    tickets: &mut Vec<TestTicket<J>>,
+    map: &M,
+    seats: &mut Vec<M::Seat>,
+    script: Script,
+) -> Told {
+    let Script {
+        steps,
+        ending,
+        mut told,
+        mut views,
+    } = script;
+    let mut tickets = Vec::new(alloc);
+    let _ = tickets.reserve(TICKETS);
+    for step in steps {
+        let outcome = take_step(rt, alloc, map, seats, &mut tickets, &mut views, step);
+        // what is not noted is missed by the test
+        let _ = told.push(outcome);
+    }
+    arrange(seats, ending);
+    (told, views)
+}
+
+fn take_step<M: AnyMap, R: Threads + Wait + Sync>(
+    rt: &R,
+    alloc: Global,
+    map: &M,
+    seats: &mut Vec<M::Seat>,
+    tickets: &mut Vec<M::Ticket>,
     views: &mut Vec<View<ChosenKey, u64>>,
     step: Step,
 ) -> Outcome {
@@ -100,12 +111,12 @@ fn take_step<J: Room, R: Threads + Wait + Sync>(
     }
 }
 
-fn take_turn<J: Room, R: Threads + Wait + Sync>(
+fn take_turn<M: AnyMap, R: Threads + Wait + Sync>(
     rt: &R,
     alloc: Global,
-    map: &TestMap<J>,
-    seat: &mut TestSeat<J>,
-    tickets: &mut Vec<TestTicket<J>>,
+    map: &M,
+    seat: &mut M::Seat,
+    tickets: &mut Vec<M::Ticket>,
     memory: Memory,
     deed: Deed,
 ) -> Outcome {
@@ -120,12 +131,12 @@ fn take_turn<J: Room, R: Threads + Wait + Sync>(
 }
 
 // A step that is no request. It is told `Unit` where it asks for nothing.
-fn take_other<J: Room, R: Threads + Wait + Sync>(
+fn take_other<M: AnyMap, R: Threads + Wait + Sync>(
     rt: &R,
     alloc: Global,
-    map: &TestMap<J>,
-    seats: &mut Vec<TestSeat<J>>,
-    tickets: &mut Vec<TestTicket<J>>,
+    map: &M,
+    seats: &mut Vec<M::Seat>,
+    tickets: &mut Vec<M::Ticket>,
     views: &mut Vec<View<ChosenKey, u64>>,
     step: Step,
 ) -> Outcome {
@@ -139,21 +150,21 @@ fn take_other<J: Room, R: Threads + Wait + Sync>(
             None => Outcome::Lost,
         },
         Step::Meet => {
-            meet(seats);
+            meet::<M>(seats);
             Outcome::Unit
         }
         Step::Lose(job) => {
-            drop(taken(tickets, job));
+            drop(taken::<M>(tickets, job));
             Outcome::Unit
         }
         _ => Outcome::Unit,
     }
 }
 
-fn keep<J: Room, R: Wait>(
+fn keep<M: AnyMap, R: Wait>(
     rt: &R,
-    map: &TestMap<J>,
-    seat: &mut TestSeat<J>,
+    map: &M,
+    seat: &mut M::Seat,
     views: &mut Vec<View<ChosenKey, u64>>,
     handle: u32,
 ) -> Outcome {
@@ -168,16 +179,16 @@ fn keep<J: Room, R: Wait>(
 }
 
 // Finishes each job: what is told of each, or what is told of one of which something else is.
-fn finish_all<J: Room, R: Threads + Wait + Sync>(
+fn finish_all<M: AnyMap, R: Threads + Wait + Sync>(
     rt: &R,
     alloc: Global,
-    map: &TestMap<J>,
-    seat: &mut TestSeat<J>,
-    tickets: &mut Vec<TestTicket<J>>,
+    map: &M,
+    seat: &mut M::Seat,
+    tickets: &mut Vec<M::Ticket>,
     told: Outcome,
 ) -> Outcome {
     for _ in 0..TICKETS {
-        let Some(job) = first_job(tickets) else {
+        let Some(job) = first_job::<M>(tickets) else {
             return told;
         };
         let outcome = act(
@@ -196,22 +207,22 @@ fn finish_all<J: Room, R: Threads + Wait + Sync>(
 }
 
 // The job of the first ticket.
-fn first_job<J: Room>(tickets: &[TestTicket<J>]) -> Option<u64> {
+fn first_job<M: AnyMap>(tickets: &[M::Ticket]) -> Option<u64> {
     match tickets.first() {
-        Some(ticket) => Some(ticket.job()),
+        Some(ticket) => Some(M::job(ticket)),
         None => None,
     }
 }
 
-fn meet<J: Room>(seats: &mut Vec<TestSeat<J>>) {
+fn meet<M: AnyMap>(seats: &mut Vec<M::Seat>) {
     if seats.len() >= 2 {
         let (one, two) = seats.split_at_mut(1);
-        one[0].meet(&mut two[0]);
+        M::meet(&mut one[0], &mut two[0]);
     }
 }
 
 // The seats by which the map is closed.
-fn arrange<J: Room>(seats: &mut Vec<TestSeat<J>>, ending: Ending) {
+fn arrange<S: Drop>(seats: &mut Vec<S>, ending: Ending) {
     match ending {
         Ending::All => (),
         Ending::Turned => seats.reverse(),
@@ -239,8 +250,7 @@ fn lent<R: AllocGlobal + Abort + Threads + Wait + Sync>(
     limits: Limits,
     script: Script,
 ) -> (Told, Option<TestClosed>) {
-    assert!(rt; 1 <= limits.pairs && limits.pairs <= MOST_PAIRS);
-    assert!(rt; 2 <= limits.entries && limits.entries <= MOST_ENTRIES);
+    assert_limits(rt, limits);
     assert!(rt; 1 <= seats && seats <= MOST_SEATS);
     match with(rt, rt.alloc(), seats, limits, script) {
         Ok((told, closed)) => (told, closed.ok()),
@@ -303,8 +313,7 @@ fn assert_closed(
     ends: &[End],
 ) -> Vec<Entered> {
     let mut closed = closed;
-    let entries = entries_of(rt, alloc, &closed);
-    assert_replayed(rt, alloc, limits, &closed, &entries);
+    let entries = replayed(rt, alloc, limits, &closed);
     for (job, refusal) in ends {
         assert_is(rt, closed.table.abandon(*job).err(), *refusal);
     }

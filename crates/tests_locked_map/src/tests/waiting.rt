@@ -1,31 +1,30 @@
 //! Work with no lock held that waits for another client: a value that is made, and a map that a crew counts.
-ghost use Rattle.std.specs.Prelude.{⊤};
-
-use super::entries::{Entered, entries_of};
-use super::making::{TestMap, TestSeat, WORKERS, act, bulk};
-use super::model::assert_replayed;
+use super::any_map::AnyMap;
+use super::entries::Entered;
+use super::making::{WORKERS, act, bulk};
+use super::model::replayed;
 use super::outcomes::{Outcome, Seen};
-use super::questions::{ALL, Query, Question, query_of};
+use super::questions::{ALL, Question, query_of};
 use super::requests::Do::{Get, Put, PutIfAbsent};
 use super::requests::Request::{Finish, Freeze, On, Open};
 use super::requests::{Deed, Request, shared_key};
+use super::running::{Playing, Plays, run_clients};
 use super::{A, LARGEST, assert_is};
 use hash_path::Bound;
-use locked_map::{Client, Gate, MOST_SEATS, Room, Seat, SharedMap, with_clients};
+use locked_map::Gate;
 use std::alloc::Global;
 use std::process::Abort;
 use std::sync::atomic::{AtomicU32, Ordering};
 use std::sync::{Arc, Wait};
 use std::thread;
 use std::thread::Threads;
-use test_keys::ChosenKey;
 
 // How often a thread lets others run before it gives up.
 const MOST_TURNS: u32 = 10_000_000;
 
-// What the threads of a test tell one another. Each number counts up from 0.
+/// What the threads of a test tell one another. Each number counts up from 0.
 #[derive(Drop)]
-struct Signs {
+pub struct Signs {
     // Values that are being made, or pieces that were begun, by whichever worker.
     begun: AtomicU32,
     // Pieces that were begun while the first was held.
@@ -74,6 +73,23 @@ impl Gate for Signs {
     }
 }
 
+/// What is asked before each piece of a bulk call.
+#[derive(Clone, Copy)]
+pub enum TestGate<'a> {
+    /// Nothing: every piece begins at once.
+    Free,
+    /// The signs of a test.
+    Held(&'a Signs),
+}
+
+impl Gate for TestGate<'_> {
+    fn before(&self, worker: u32, lo: Bound, hi: Bound) {
+        if let TestGate::Held(signs) = self {
+            signs.before(worker, lo, hi);
+        }
+    }
+}
+
 impl Signs {
     // A value that is made is held until the put has been answered.
     fn make(&self) -> u64 {
@@ -96,19 +112,15 @@ enum Meeter {
     Putter(Arc<Signs, Global>),
 }
 
-impl Client<ChosenKey, u64, Query> for Meeter {
+impl Plays for Meeter {
     type Out = Outcome;
 
-    ghost needs = { λ _. ⊤ };
-
-    ghost gives = { λ _ _ _. ⊤ };
-
-    fn run<J: Room, R: Threads + Wait + Sync>(
+    fn play<M: AnyMap, R: Threads + Wait + Sync>(
         self,
         rt: &R,
         alloc: Global,
-        map: &SharedMap<ChosenKey, u64, Query, J>,
-        seat: &mut Seat<ChosenKey, u64, Query, J>,
+        map: &M,
+        seat: &mut M::Seat,
     ) -> Outcome {
         match self {
             Meeter::Getter(signs) => play_getter(rt, alloc, map, seat, &signs),
@@ -118,11 +130,11 @@ impl Client<ChosenKey, u64, Query> for Meeter {
     }
 }
 
-fn play_getter<J: Room, R: Threads + Wait + Sync>(
+fn play_getter<M: AnyMap, R: Threads + Wait + Sync>(
     rt: &R,
     alloc: Global,
-    map: &TestMap<J>,
-    seat: &mut TestSeat<J>,
+    map: &M,
+    seat: &mut M::Seat,
     signs: &Signs,
 ) -> Outcome {
     let mut tickets = Vec::new(alloc);
@@ -139,11 +151,11 @@ fn play_getter<J: Room, R: Threads + Wait + Sync>(
 // How many keys are counted. Their path words count up from 0, and A is not among them.
 const PAIRS: u64 = 64;
 
-fn play_counter<J: Room, R: Threads + Wait + Sync>(
+fn play_counter<M: AnyMap, R: Threads + Wait + Sync>(
     rt: &R,
     alloc: Global,
-    map: &TestMap<J>,
-    seat: &mut TestSeat<J>,
+    map: &M,
+    seat: &mut M::Seat,
     signs: &Signs,
 ) -> Outcome {
     let mut tickets = Vec::new(alloc);
@@ -159,16 +171,24 @@ fn play_counter<J: Room, R: Threads + Wait + Sync>(
         );
     }
     match Arc::new(alloc, query_of(Question::Count(ALL))) {
-        Ok(query) => bulk(rt, map, seat, &mut tickets, 1, query, signs),
+        Ok(query) => bulk(
+            rt,
+            map,
+            seat,
+            &mut tickets,
+            1,
+            query,
+            &TestGate::Held(signs),
+        ),
         Err(_) => Outcome::Lost,
     }
 }
 
-fn play_putter<J: Room, R: Threads + Wait + Sync>(
+fn play_putter<M: AnyMap, R: Threads + Wait + Sync>(
     rt: &R,
     alloc: Global,
-    map: &TestMap<J>,
-    seat: &mut TestSeat<J>,
+    map: &M,
+    seat: &mut M::Seat,
     signs: &Signs,
 ) -> Outcome {
     let mut tickets = Vec::new(alloc);
@@ -193,7 +213,7 @@ fn two_clients(
     alloc: Global,
     signs: &Arc<Signs, Global>,
     counts: bool,
-) -> Vec<Meeter> {
+) -> Vec<Playing<Meeter>> {
     let mine = Arc::try_clone(signs).expect(rt, "no signs");
     let first = if counts {
         Meeter::Counter(mine)
@@ -202,8 +222,10 @@ fn two_clients(
     };
     let theirs = Arc::try_clone(signs).expect(rt, "no signs");
     let mut clients = Vec::new(alloc);
-    clients.push(first).expect(rt, "no room");
-    clients.push(Meeter::Putter(theirs)).expect(rt, "no room");
+    clients.push(Playing(first)).expect(rt, "no room");
+    clients
+        .push(Playing(Meeter::Putter(theirs)))
+        .expect(rt, "no room");
     clients
 }
 
@@ -214,11 +236,8 @@ fn run_pair<R: AllocGlobal + Abort + Threads + Wait + Sync>(rt: &R, counts: bool
     let alloc = rt.alloc();
     let signs = Arc::new(alloc, no_signs()).expect(rt, "no signs");
     let clients = two_clients(rt, alloc, &signs, counts);
-    assert!(rt; clients.len() <= MOST_SEATS as usize);
-    let run = with_clients(rt, alloc, LARGEST, clients);
-    let (told, closed) = run.expect(rt, "no journal");
-    let entries = entries_of(rt, alloc, &closed);
-    assert_replayed(rt, alloc, LARGEST, &closed, &entries);
+    let (told, closed) = run_clients(rt, LARGEST, clients);
+    let entries = replayed(rt, alloc, LARGEST, &closed);
     let ran_out = signs.ran_out.load(Ordering::SeqCst);
     let callers = signs.callers.load(Ordering::SeqCst);
     (told, ran_out, callers, entries)

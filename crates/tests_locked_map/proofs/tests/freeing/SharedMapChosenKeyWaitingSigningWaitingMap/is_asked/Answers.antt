@@ -2,7 +2,7 @@ use denote.Param.Send.{sendable}
 use Rattle.std.proofs.Crossing as heap
 use Rattle.tests_locked_map.proofs.Crossing.{part_send}
 use Rattle.test_queries.proofs.Ready.{always_ready}
-use Rattle.tests_locked_map.proofs.tests.freeing.ask.Goals as goal
+use Rattle.tests_locked_map.proofs.tests.freeing.SharedMapChosenKeyWaitingSigningWaitingMap.is_asked.Goals as goal
 
 -- the closure that makes values may be called on every pair
 pub bulk-requires-clause-ready : goal.bulk-requires-clause-ready
