@@ -24,12 +24,12 @@ use Rattle.script.specs.declared.statement.Statement.{Statement}
 use Rattle.script.specs.declared.statement.Statement.TheVariants.{GetOrElse}
 use Rattle.script.specs.declared.reply.LineReply.{LineReply}
 use Rattle.script.specs.declared.reply.LineReply.TheVariants.{Found, Refused}
-use Rattle.batch_cli.specs.Events.{Event, Ends, Makes}
+use Rattle.script_runs.specs.Events.{Event, Ends, Makes}
 use Rattle.questions.specs.Folds.{Item}
 use Rattle.questions.specs.Program.{ProgramAnswer, ProgramTold, ProgramRequest, ProgramOutcome, or_else_in, reply_to, request_for, told_reply}
 use Rattle.questions.specs.Queries.{ScriptQuestion}
 use Rattle.batch_cli.specs.Filing.{ProgramSeat, Files, FilesAnswer, FilesJob, FilesOrElse, FilesReply, FilesService, event_of, events_at}
-use Rattle.batch_cli.proofs.Ends.{missing_or_done}
+use Rattle.script_runs.proofs.Ends.{missing_or_done}
 
 -- the entry that a call adds is the one event filed
 with_one : (s : ProgramSeat) (r : ProgramRequest) (o : ProgramOutcome) (t : ProgramSeat) (place : ℕ) → t ≡ with_entry s r o place → Files s ((r, o) ∷ []) t
@@ -44,7 +44,7 @@ filed s r (refused NoMemory) t adds kept = cc
 filed s r (refused NoHandle) t (place, is) kept = with_one s r (refused NoHandle) t place is
 filed s r (refused Taken) t (place, is) kept = with_one s r (refused Taken) t place is
 filed s r (refused Full) t (place, is) kept = with_one s r (refused Full) t place is
-filed s r (refused NoWorker) t (place, is) kept = with_one s r (refused NoWorker) t place is
+filed s r (refused NoWorker) t adds kept = absurd adds
 filed s r (refused TooManyJobs) t (place, is) kept = with_one s r (refused TooManyJobs) t place is
 filed s r (refused BadNumber) t (place, is) kept = with_one s r (refused BadNumber) t place is
 filed s r made t (place, is) kept = with_one s r made t place is
@@ -116,7 +116,7 @@ module _ {P : Type 0} (answers : ScriptQuestion → Map (List ℕ) ℤ → P →
       let same : f ≡ e.0 = ap (λ (x : Refusal × Option (Ticketed (List ℕ) ℤ ScriptQuestion)). x.0) (sym both) in
       let adds : Adds s (freeze h q) (refused e.0) t = subst (λ x. Adds s (freeze h q) (refused x) t) same (subst (λ x. Adds s (freeze h q) (refused f) x) (sym stays) freezes) in
       served_at_once s t (freeze h q) result (refusal_filed s t (freeze h q) e.0 result adds kept shown)
-  refused_at_once_or_by_job s m t (Ok ticket) e result freezes (adds, back) kept shown =
+  refused_at_once_or_by_job s m t (Ok ticket) e result freezes (adds, back, why) kept shown =
       served_by_job s m t (freeze h q) ticket.job ticket.frozen result freezes (refusal_filed m t (finish ticket.job) e.0 result adds kept shown)
 
   pub bulk_refused : {E : Type 0} (s t : ProgramSeat) (e : Refusal × Option (Ticketed (List ℕ) ℤ ScriptQuestion)) (result : Result LineReply E) → AddsBulk answers answer_of h q s (Err e) t → OnOk result (is_entry e.0 ≡ true) → IfOk result (λ reply. reply ≡ Refused e.0)

@@ -1,10 +1,5 @@
-pub mod Ends
 pub mod Filing
 pub mod Lines
-pub mod OneRun
-pub mod Merging
-pub mod Assembled
 pub mod RunOf
-pub mod OneClient
 pub mod Statuses
-pub mod LegalTexts
+pub mod Crossing

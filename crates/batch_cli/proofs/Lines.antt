@@ -8,9 +8,9 @@ use Rattle.std.proofs.lemmas.Simd.{map-map}
 use Rattle.locked_map.specs.Seats.{pair, pairs}
 use Rattle.script.specs.declared.statement.CommandLine.{CommandLine}
 use Rattle.script.specs.declared.reply.LineReply.{LineReply}
-use Rattle.batch_cli.specs.Events.{Event, Makes}
+use Rattle.script_runs.specs.Events.{Event, Makes}
 use Rattle.batch_cli.specs.Filing.{ProgramSeat, FilesAnswer, events_at}
-use Rattle.batch_cli.specs.Runs.{EachMakes, LineAnswer, LinesMake, events_in, events_of, is_line_of, lines_by, replies_in}
+use Rattle.script_runs.specs.Runs.{EachMakes, LineAnswer, LinesMake, events_in, events_of, is_line_of, lines_by, replies_in}
 
 makes_more : (lines : List CommandLine) (answers : List LineAnswer) (line : CommandLine) (answer : LineAnswer) → EachMakes lines answers → Makes line.statement answer.events answer.reply → EachMakes (lines ++ line ∷ []) (answers ++ answer ∷ [])
 makes_more [] [] line answer h m = (m, tt)

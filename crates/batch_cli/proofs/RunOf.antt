@@ -6,14 +6,17 @@ use Rattle.std.proofs.lemmas.Bool.Decides.{nat_tests}
 use Rattle.std.proofs.lemmas.List.{get_or-map, length-map}
 use Rattle.std.proofs.lemmas.List.Elements.{All-head, All-more, All-tail}
 use Rattle.journal.specs.Journals.{IsLegal, own}
+use Rattle.locked_map.specs.Closings.{BearsOut}
+use Rattle.locked_map.specs.Seats.{pairs}
 use Rattle.script.specs.declared.statement.CommandLine.{CommandLine}
 use Rattle.script.specs.declared.reply.LineReply.{LineReply}
-use Rattle.batch_cli.specs.Events.{Event}
+use Rattle.script_runs.specs.Events.{Event}
+use Rattle.batch_cli.specs.Filing.{ProgramSeat}
 use Rattle.questions.specs.Program.{program, ProgramState}
-use Rattle.batch_cli.specs.Runs.{AreMerged, AreRepliesTo, EachMakes, IsRunOf, LineAnswer, LinesMake, ProgramEntry, events_in, lines_by, replies_in, text_for}
+use Rattle.script_runs.specs.Runs.{AreMerged, AreRepliesTo, EachMakes, IsRunOf, LineAnswer, LinesMake, ProgramEntry, events_in, lines_by, replies_in, text_for}
 use Rattle.questions.specs.Program.{largest}
 use Rattle.locked_map.proofs.Seating.{listed_more, some_of}
-use Rattle.batch_cli.proofs.Assembled.{assembled, no_events_of}
+use Rattle.script_runs.proofs.Assembled.{assembled, no_events_of}
 
 -- the clients of one line more are below a greater number
 pub known_more : (lines : List CommandLine) (i : ℕ) (count new : ℕ) (line : CommandLine) → i < length lines → line ≡ slice_index_or lines i line → line.client < new → count ≤ new → All (λ l. l.client < count) (take i lines) → All (λ l. l.client < new) (take (i + 1) lines)
@@ -36,20 +39,26 @@ told_of_lines n k asked lines events out number same h =
     subst (λ x. IfOk out (λ replies. LinesMake (lines_by x lines) events replies.items)) number
     (subst (λ xs. IfOk out (λ replies. LinesMake (lines_by n xs) events replies.items)) same h)
 
+-- what is told of the entries of a seat is told of those that the journal has of it
+told_of_own : {E : Type 0} (k : ℕ) (seat : ProgramSeat) (journal : List ProgramEntry) (end : ProgramState) (lines : List CommandLine) (out : Result (Vec LineReply Global) E) → BearsOut k seat journal end
+    → IfOk out (λ replies. LinesMake lines (events_in (pairs seat.list)) replies.items) → IfOk out (λ replies. LinesMake lines (events_in (own k 0 journal)) replies.items)
+told_of_own k seat journal end lines out borne made = subst (λ (entries : List (ℕ × ProgramEntry)). IfOk out (λ replies. LinesMake lines (events_in entries) replies.items)) (sym borne.entries) made
+
 -- where all clients ended well, each made the events of its lines, and has their replies
-pub each_made : {C E : Type 0} (number : C → ℕ) (asked : C → List CommandLine) (lines : List CommandLine) (journal : List ProgramEntry) (n : ℕ) (clients : List C) (all : List (Vec LineReply Global)) (outs : List (Result (Vec LineReply Global) E))
+pub each_made : {C E : Type 0} (number : C → ℕ) (asked : C → List CommandLine) (lines : List CommandLine) (journal : List ProgramEntry) (end : ProgramState) (n : ℕ) (clients : List C) (all : List (Vec LineReply Global)) (outs : List (Result (Vec LineReply Global) E))
     → length clients ≡ n → length all ≡ n → map (λ replies. Ok replies) all ≡ outs
     → ((k : ℕ) (c : C) → k < n → (number (slice_index_or clients k c) ≡ k) × (asked (slice_index_or clients k c) ≡ lines))
-    → ((k : ℕ) (c : C) (o : Result (Vec LineReply Global) E) → k < n → IfOk (slice_index_or outs k o) (λ replies. LinesMake (lines_by (number (slice_index_or clients k c)) (asked (slice_index_or clients k c))) (events_in (own k 0 journal)) replies.items))
+    → ((k : ℕ) (c : C) (o : Result (Vec LineReply Global) E) → k < n → (seat : ProgramSeat) × IfOk (slice_index_or outs k o) (λ replies. LinesMake (lines_by (number (slice_index_or clients k c)) (asked (slice_index_or clients k c))) (events_in (pairs seat.list)) replies.items) × BearsOut k seat journal end)
     → (k : ℕ) → k < length (map (λ replies. replies.items) all) → LinesMake (lines_by k lines) (events_in (own k 0 journal)) (slice_index_or (map (λ replies. replies.items) all) k [])
-each_made number asked lines journal n clients all outs begun ended is each gives k below =
+each_made number asked lines journal end n clients all outs begun ended is each gives k below =
     let there : k < length all = subst (λ m. k < m) (length-map all (λ replies. replies.items)) below in
     let c = some_of clients k (omega (arith, there, begun, ended)) in
     let d = some_of all k there in
     let inside : k < n = omega (arith, there, ended) in
     let whose = each k c inside in
+    let left = gives k c (Ok d) inside in
     let one : slice_index_or outs k (Ok d) ≡ Ok (slice_index_or all k d) = ap (λ xs. slice_index_or xs k (Ok d)) (sym is) ∙ get_or-map (λ replies. Ok replies) all k d (Ok d) there in
-    let out = told_of_lines (number (slice_index_or clients k c)) k (asked (slice_index_or clients k c)) lines (events_in (own k 0 journal)) (slice_index_or outs k (Ok d)) whose.0 whose.1 (gives k c (Ok d) inside) in
+    let out = told_of_lines (number (slice_index_or clients k c)) k (asked (slice_index_or clients k c)) lines (events_in (own k 0 journal)) (slice_index_or outs k (Ok d)) whose.0 whose.1 (told_of_own k left.0 journal end (lines_by (number (slice_index_or clients k c)) (asked (slice_index_or clients k c))) (slice_index_or outs k (Ok d)) left.2 left.1) in
     subst (LinesMake (lines_by k lines) (events_in (own k 0 journal))) (sym (get_or-map (λ replies. replies.items) all k d [] there))
     (subst (λ r. IfOk r (λ replies. LinesMake (lines_by k lines) (events_in (own k 0 journal)) replies.items)) one out)
 

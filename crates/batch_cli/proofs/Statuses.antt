@@ -1,6 +1,6 @@
 -- What the program's status and what it keeps say of a run.
 use Rattle.std.proofs.Common.{◌≡◌, ℕ, Bool, true, false, List, Some, None, refl, ap}
-use Rattle.batch_cli.specs.Runs.{IsKept, ProgramEntry}
+use Rattle.script_runs.specs.Runs.{IsKept, ProgramEntry}
 use Rattle.journal_text.specs.Entries.{text_of_journal}
 
 -- where no journal is asked for, none is kept

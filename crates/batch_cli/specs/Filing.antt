@@ -6,7 +6,7 @@ use Rattle.locked_map.specs.Seats.{Placed, Seated}
 use Rattle.script.specs.declared.statement.Statement.{Statement}
 use Rattle.script.specs.declared.statement.Statement.TheVariants.{GetOrElse}
 use Rattle.script.specs.declared.reply.LineReply.{LineReply}
-use Rattle.batch_cli.specs.Events.{Event, Makes}
+use Rattle.script_runs.specs.Events.{Event, Makes}
 use Rattle.questions.specs.Program.{ProgramTold, ProgramRequest, ProgramOutcome, reply_to}
 use Rattle.questions.specs.Queries.{ScriptQuestion}
 

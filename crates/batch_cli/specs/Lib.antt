@@ -1,6 +1,6 @@
-pub mod Events
+pub use Rattle.script_runs.specs.Events
 pub mod Filing
-pub mod Runs
+pub use Rattle.script_runs.specs.Runs
 pub use Rattle.command_line.specs.CommandLine
 pub mod Audits
-pub mod Legality
+pub use Rattle.script_runs.specs.Legality

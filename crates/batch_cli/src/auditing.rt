@@ -3,9 +3,8 @@
 ghost use Rattle.std.specs.Prelude.{◌≡◌, ◌≢◌, ◌≤◌, IfOk, string_bytes};
 ghost use Rattle.batch_cli.specs.Audits.{TellsVerdict, status_for, verdict_line};
 
-use crate::run::RunFault;
-use crate::status::{DONE, failed};
 use audit::{Verdict, audit};
+use program_io::{DONE, RunFault, failed};
 use std::alloc::{AllocError, Global};
 use std::io::Write;
 

@@ -23,15 +23,16 @@ pub struct ScriptClient<'a, G> {
 
 impl<'a, G: LineGate> Client<ByteText, i64, ScriptQuery> for ScriptClient<'a, G> {
     ghost use Rattle.std.specs.Prelude.{IfOk};
+    ghost use Rattle.locked_map.specs.Seats.{pairs};
     ghost use Rattle.batch_cli.specs.CommandLine.{AreInRange};
-    ghost use Rattle.batch_cli.specs.Runs.{LinesMake, events_in, lines_by};
+    ghost use Rattle.script_runs.specs.Runs.{LinesMake, events_in, lines_by};
 
     /// The replies of its lines, in their order.
     type Out = Result<Vec<LineReply>, NoMemory>;
 
     ghost needs = { λ c. AreInRange c.crew.workers c.crew.grain };
 
-    ghost gives = { λ c entries out. IfOk out (λ replies. LinesMake (lines_by c.number c.lines.now) (events_in entries) replies.items) };
+    ghost gives = { λ c seat out. IfOk out (λ replies. LinesMake (lines_by c.number c.lines.now) (events_in (pairs seat.list)) replies.items) };
 
     fn run<J: Room, R: Threads + Wait + Sync>(
         self,

@@ -4,38 +4,27 @@ ghost use Rattle.std.specs.Prelude.{◌≡◌, ◌<◌, ◌≤◌, All, IfOk, Is
 ghost use Rattle.std.specs.Io.KnownBytes.{Appends, Keeps};
 ghost use Rattle.script.specs.Statements.{IsLawfulLine};
 ghost use Rattle.batch_cli.specs.CommandLine.{AreInRange};
-ghost use Rattle.batch_cli.specs.Runs.{IsRunOf};
+ghost use Rattle.script_runs.specs.Runs.{IsRunOf};
 
 use crate::client::ScriptClient;
 use crate::gate::LineGate;
-use crate::merge::{all_of, replies_in_order};
 use handles::{Limits, MOST_ENTRIES};
 use keys::ByteText;
 use locked_map::{MOST_SEATS, NoJournal, with_clients};
+use program_io::RunFault;
 use questions::ScriptQuery;
+use reply_order::{all_of, replies_in_order};
 use script::{CommandLine, Script};
 use std::alloc::{AllocError, Global};
 use std::io::Write;
 use std::sync::Wait;
 use std::thread::Threads;
 use task_pool::Crew;
-use thiserror::Error;
 use versions::MOST_PAIRS;
 
 /// The journal of a run: what each client asked and was told, in the order in which it was done. A freeze holds the
 /// question of its line.
 pub type Journal = locked_map::Journal<ByteText, i64, ScriptQuery, Option<i128>>;
-
-/// Why a run failed.
-#[derive(Debug, Drop, Error)]
-pub enum RunFault {
-    /// Memory was refused. No reply was written.
-    #[error("out of memory")]
-    Memory,
-    /// The writer failed. Some of the replies may have been written.
-    #[error("cannot write output")]
-    Write,
-}
 
 // How much the maps and the journal of a script may hold.
 const LARGEST: Limits = Limits {

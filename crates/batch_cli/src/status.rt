@@ -4,7 +4,7 @@ ghost use Rattle.std.specs.Prelude.{◌≡◌, ◌≢◌, ◌≤◌, IfErr, IfOk
 ghost use Rattle.std.specs.Io.KnownBytes.{Appends, Keeps};
 ghost use Rattle.batch_cli.specs.Audits.{TellsVerdict};
 ghost use Rattle.batch_cli.specs.CommandLine.{AreInRange};
-ghost use Rattle.batch_cli.specs.Runs.{HasRun, IsRunOf, RunsText};
+ghost use Rattle.script_runs.specs.Runs.{HasRun, IsRunOf, RunsText};
 ghost use Rattle.script.specs.Scripts.{HasFault};
 
 use crate::auditing::audited;
@@ -12,22 +12,13 @@ use crate::gate::Free;
 use crate::journaling::kept;
 use crate::run::{Journal, run_script};
 use command_line::Options;
+use program_io::{REFUSED, failed};
 use script::{Script, ScriptFault, parse_script};
 use std::alloc::Global;
-use std::fmt::Display;
 use std::io::Write;
 use std::sync::Wait;
 use std::thread::Threads;
 use task_pool::Crew;
-
-/// Done.
-pub const DONE: u8 = 0;
-
-/// Memory, the output or a file failed.
-const FAILED: u8 = 1;
-
-/// The script was refused.
-const REFUSED: u8 = 2;
 
 /// So many rounds of a worker find no piece before it ends.
 const PATIENCE: u32 = 1_000;
@@ -118,13 +109,4 @@ fn run<R: Threads + Wait + Sync, W: Write, E: Write>(
         Ok(journal) => Ok(journal),
         Err(fault) => Err(failed(err, &fault)),
     }
-}
-
-/// Writes why the program failed, behind its name, and gives the status. Where standard error fails there is nowhere to
-/// say so.
-pub fn failed<E: Write, D: Display>(err: &mut E, reason: &D) -> u8
-    ensures { result ≡ 1 }
-{
-    let _ = writeln!(err, "trierun: {reason}");
-    FAILED
 }

@@ -8,7 +8,7 @@ use Rattle.clap.proofs.OnLiterals.{clap_on_literals}
 use Rattle.command_line.specs.CommandLine.{audit_in, command_line, file_in, given_in, grain_in, journal_in, workers_in, faults_in, IsArgFaultOf, Tells}
 use Rattle.command_line.specs.declared.arguments.ArgFault.{ArgFault}
 use Rattle.command_line.specs.declared.arguments.ArgFault.TheVariants.{Help, Parser, NotText, AuditJournal, Memory}
-use Rattle.clap.specs.declared.error.kind.ErrorKind.TheVariants.{UnknownArgument, DisplayHelp, ValueValidation}
+use Rattle.clap.specs.declared.error.kind.ErrorKind.TheVariants.{UnknownArgument, DisplayHelp, DisplayVersion, ValueValidation}
 
 -- what the matches have is what the words give
 pub rows_are : (m : ArgMatches) (a : App) (all words : List Text) → a ≡ command_line → all ≡ codes "trierun" ∷ words → HasMatchesOf a all m → rows_of (found_of m) ≡ given_in words
@@ -31,12 +31,13 @@ pub told : (words : List Text) (e : Error) (fault : ArgFault) → HasKind (fault
 told words e Memory has tells = tt
 told words e NotText has tells = tells
 told words e AuditJournal has tells = absurd tells
-told words e (Help text) (inl memory) tells = cc
-told words e (Help text) (inr among) tells = rw tells at among
+told words e (Help text) (inl memory) (inl help) = cc
+told words e (Help text) (inl memory) (inr version) = cc
+told words e (Help text) (inr among) tells = (kind_of e, tells, among)
 told words e (Parser text) (inl memory) tells = absurd (tells.1 memory)
 told words e (Parser text) (inr among) tells = (kind_of e, tells.0, among)
 
--- no word, a word, options, a call for help, a word too many, numbers out of their ranges
+-- no word, a word, options, a call for help or for the version, a word too many, numbers out of their ranges
 no_file : file_in [] ≡ None
 unfolding clap_on_literals
 no_file = refl
@@ -80,6 +81,14 @@ no_workers = refl
 help_asked : faults_in (codes "--help" ∷ []) ≡ DisplayHelp ∷ []
 unfolding clap_on_literals
 help_asked = refl
+
+version_asked : faults_in (codes "--version" ∷ []) ≡ DisplayVersion ∷ []
+unfolding clap_on_literals
+version_asked = refl
+
+version_in_short : faults_in (codes "-V" ∷ codes "a" ∷ []) ≡ DisplayVersion ∷ []
+unfolding clap_on_literals
+version_in_short = refl
 
 two_files : faults_in (codes "a" ∷ codes "b" ∷ []) ≡ UnknownArgument ∷ []
 unfolding clap_on_literals

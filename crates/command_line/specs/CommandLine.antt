@@ -1,13 +1,14 @@
 -- The program's command line, in the words of clap's grammar.
-use Rattle.std.specs.Prelude.{◌≡◌, ◌≢◌, ◌≤◌, ℕ, Bool, true, false, List, [], ◌∷◌, Option, Some, codes, is_some, option_map, pos, string_bytes}
+use Rattle.std.specs.Prelude.{◌≡◌, ◌≢◌, ◌≤◌, ◌⊎◌, ℕ, Bool, true, false, List, [], ◌∷◌, Option, Some, codes, is_some, option_map, pos, string_bytes}
 use Rattle.std.specs.Option.{option_map_or}
 use Rattle.std.specs.Str.{bytes_eq}
 use Rattle.std.specs.Str.Parse.{digits_value, without_leading_plus}
+use Rattle.clap.specs.Simple.{on_top}
 use Rattle.clap.specs.Words.{App, Text, Kinds, IsAmong, Row, fault_of, first_of, matches_of, new_app, new_rule, one_of, with_rule, Rule}
 use Rattle.clap.specs.declared.builder.action.ArgAction.TheVariants.{SetTrue}
 use Rattle.clap.specs.declared.builder.value_parser.ValueParser.TheVariants.{Signed}
 use Rattle.clap.specs.declared.error.kind.ErrorKind.{ErrorKind}
-use Rattle.clap.specs.declared.error.kind.ErrorKind.TheVariants.{DisplayHelp, OutOfMemory}
+use Rattle.clap.specs.declared.error.kind.ErrorKind.TheVariants.{DisplayHelp, DisplayVersion, OutOfMemory}
 use Rattle.command_line.specs.declared.arguments.ArgFault.{ArgFault}
 use Rattle.command_line.specs.declared.arguments.ArgFault.TheVariants.{Help, Parser, NotText, AuditJournal, Memory}
 use Rattle.command_line.specs.declared.arguments.Options.{Options}
@@ -34,9 +35,13 @@ audit_rule = record (new_rule (codes "audit")) { long = Some (codes "audit"); ac
 abbrev pub file_rule : Rule
 file_rule = record (new_rule (codes "file")) { value_names = 1 }
 
--- the program with its options and that word; clap adds the flag for help
+-- the program, which has a version
+abbrev pub trierun : App
+trierun = on_top (λ s. record s { has_version = true }) (new_app (codes "trierun"))
+
+-- the program with its options and that word; clap adds the flags for help and for the version
 abbrev pub command_line : App
-command_line = with_rule (with_rule (with_rule (with_rule (with_rule (new_app (codes "trierun")) workers_rule) grain_rule) journal_rule) audit_rule) file_rule
+command_line = with_rule (with_rule (with_rule (with_rule (with_rule trierun workers_rule) grain_rule) journal_rule) audit_rule) file_rule
 
 -- what the words after the program's name give
 abbrev pub given_in : List Text → List Row
@@ -89,18 +94,22 @@ pub record AreInRange (workers grain : ℕ) : Type 0 where
   pub least_grain : 1 ≤ grain
   pub most_grain : grain ≤ 65536
 
--- the words ask for help, or have an error of another kind, or ask for an audit with a journal; words that were read are text; want of memory says nothing of them
+-- what is asked for by words of this kind is shown: help, or the version
+abbrev pub IsShown : ErrorKind → Type 0
+IsShown kind = (kind ≡ DisplayHelp) ⊎ (kind ≡ DisplayVersion)
+
+-- the words ask for help or for the version, or have an error of another kind, or ask for an audit with a journal; words that were read are text; want of memory says nothing of them
 abbrev pub IsArgFaultOf : List Text → ArgFault → Type 0
-IsArgFaultOf words (Help text) = IsAmong DisplayHelp (faults_in words)
-IsArgFaultOf words (Parser text) = (kind : ErrorKind) × (kind ≢ DisplayHelp) × IsAmong kind (faults_in words)
+IsArgFaultOf words (Help text) = (kind : ErrorKind) × IsShown kind × IsAmong kind (faults_in words)
+IsArgFaultOf words (Parser text) = (kind : ErrorKind) × (¬ IsShown kind) × IsAmong kind (faults_in words)
 IsArgFaultOf words NotText = ⊥
 IsArgFaultOf words AuditJournal = (faults_in words ≡ []) × (audit_in words ≡ true) × (is_some (journal_in words) ≡ true)
 IsArgFaultOf words Memory = Unit {0}
 
 -- the fault tells of an error of this kind
 abbrev pub Tells : ErrorKind → ArgFault → Type 0
-Tells kind (Help text) = kind ≡ DisplayHelp
-Tells kind (Parser text) = (kind ≢ DisplayHelp) × (kind ≢ OutOfMemory)
+Tells kind (Help text) = IsShown kind
+Tells kind (Parser text) = (¬ IsShown kind) × (kind ≢ OutOfMemory)
 Tells kind NotText = ⊥
 Tells kind AuditJournal = ⊥
 Tells kind Memory = Unit {0}

@@ -20,7 +20,7 @@ pub struct Options {
 /// Why the words of a command line give no options. It shows as the text that is printed for it.
 #[derive(Debug, Drop, Error)]
 pub enum ArgFault {
-    /// Help was asked for: its text, for standard output.
+    /// Help or the version was asked for: its text, for standard output.
     #[error("{0}")]
     Help(String),
     /// The words were refused: the text that says why, for standard error.

@@ -7,6 +7,9 @@ ghost use Rattle.command_line.specs.CommandLine.{audit_rule, command_line, file_
 use clap::{Arg, ArgAction, Command, value_parser};
 use std::alloc::{AllocError, Global};
 
+/// The version of the program, which `--version` shows.
+const VERSION: &str = "0.1.0";
+
 /// How many workers a crew has, where the words do not say.
 pub const USUAL_WORKERS: u32 = 4;
 
@@ -18,6 +21,7 @@ pub fn grammar<'a>(alloc: Global) -> Result<Command<'a>, AllocError>
     ensures { IfOk result (λ command. app_of command ≡ command_line) }
 {
     Command::new(alloc, "trierun")
+        .version(VERSION)
         .about("Runs a script of clients on a table of maps, and prints the reply to each line")
         .arg(workers(alloc))?
         .arg(grain(alloc))?
@@ -49,7 +53,7 @@ fn grain<'a>(alloc: Global) -> Arg<'a>
         .value_name("N")
         .value_parser(value_parser!(u32).range(1..=65_536))
         .default_value("1024")
-        .help("How many pairs a thread takes at once, from 1 to 65536")
+        .help("How many pairs a thread takes at once, from 1 to 65536; 1 is slow on large maps")
 }
 
 /// The file for the journal.

@@ -16,7 +16,7 @@ use std::alloc::{AllocError, Global};
 ///
 /// # Errors
 ///
-/// Help was asked for, the words were refused, or memory was; or they ask for an audit and for a journal.
+/// Help or the version was asked for, the words were refused, or memory was; or they ask for an audit and for a journal.
 pub fn options(alloc: Global, words: &[&str]) -> Result<Options, ArgFault>
     ensures given { IfOk result (IsGiven (map (λ word. word.now) words.now)) }
     ensures ranges { IfOk result (λ options. AreInRange options.workers options.grain) }
@@ -100,7 +100,7 @@ fn fault_of(alloc: Global, error: &Error) -> ArgFault
     };
     match error.kind() {
         ErrorKind::OutOfMemory => ArgFault::Memory,
-        ErrorKind::DisplayHelp => ArgFault::Help(text),
+        ErrorKind::DisplayHelp | ErrorKind::DisplayVersion => ArgFault::Help(text),
         _ => ArgFault::Parser(text),
     }
 }

@@ -1,5 +1,5 @@
 -- What a core shows of the parts of its workers, and which steps change them.
-use Rattle.std.specs.Prelude.{◌≡◌, ℕ, List, [], Option, unwrap_or, slice_get, slice_set}
+use Rattle.std.specs.Prelude.{◌≡◌, ℕ, List, [], ◌∷◌, Option, unwrap_or, slice_get, slice_set}
 use Rattle.std.specs.Ordering.{nat_cmp}
 use Rattle.versions.specs.Map.{Map, value_at, with_pair, without}
 use Rattle.handles.specs.declared.limits.Limits.{Limits}
@@ -42,3 +42,9 @@ module _ {P : Type 0} where
   PartsStep ps (to_client made) (of_client (abandon j)) qs = qs ≡ without nat_cmp ps j
   PartsStep ps (to_worker y) (of_worker j x) qs = PartsTurn ps j x y qs
   PartsStep ps y x qs = qs ≡ ps
+
+  -- the parts after steps that were answered so, one after another
+  abbrev pub PartsRun : {K V Q B : Type 0} → Map ℕ (List P) → List (Asked K V Q) → List (Told K V B) → Map ℕ (List P) → Type 0
+  PartsRun ps [] [] qs = ps ≡ qs
+  PartsRun ps (x ∷ xs) (y ∷ ys) qs = (rs : Map ℕ (List P)) × PartsStep ps y x rs × PartsRun rs xs ys qs
+  PartsRun ps _ _ qs = ⊥

@@ -14,7 +14,7 @@ use Rattle.handles.specs.Views.{request_of, call_outcome}
 use Rattle.iter.specs.Intervals.{AreApart}
 use Rattle.core_steps.specs.Boards.{taking, stealing, splitting, working}
 use Rattle.core_steps.specs.Cores.{CoreState, Asked, of_client, of_worker, Told, to_client, to_worker, no_turn, Division, IsUnfinished, CoreStep, refusal_of}
-use Rattle.core_steps.specs.Parts.{CoreValue, PartsStep}
+use Rattle.core_steps.specs.Parts.{CoreValue, PartsStep, PartsRun}
 use Rattle.core_steps.specs.Moves.{moves_without_memory}
 use Rattle.core_steps.specs.Traces.{client_requests, client_outcomes, covered, CoreRun}
 use Rattle.core_steps.specs.Views.{turn_of}
@@ -108,15 +108,16 @@ module _ {K V Q I : Type 0} where
   AllShow (x ∷ xs) (o ∷ os) (y ∷ ys) = Shows x o y × AllShow xs os ys
   AllShow _ _ _ = ⊥
 
-module _ {K V Q I A : Type 0} (kind : Kind K V Q A (plain.Told K V I)) (division : Division K V Q) where
-  -- steps of the core, one after another, of which the outcomes show what is told: one outcome for each step
-  pub record HasRun (s : CoreState K V Q) (xs : List (Asked K V Q)) (os : List (Outcome K V I)) (t : CoreState K V Q) : Type 0 where
+module _ {K V Q P I A : Type 0} (kind : Kind K V Q A (plain.Told K V I)) (division : Division K V Q) where
+  -- steps of the core, one after another, of which the outcomes show what is told: one outcome for each step; at each of them each worker keeps its part, but for one that has worked a piece
+  pub record HasRun (s : CoreValue K V Q P) (xs : List (Asked K V Q)) (os : List (Outcome K V I)) (t : CoreValue K V Q P) : Type 0 where
     pub told : List (Told K V (plain.Told K V I))
     pub shown : AllShow xs os told
-    pub run : CoreRun kind division s xs told t
+    pub run : CoreRun kind division s.state xs told t.state
+    pub parts : PartsRun s.parts xs told t.parts
 
   -- the same; what clients see of it is a run of the machine, and of no job a position was worked twice
-  pub record Ran (s : CoreState K V Q) (xs : List (Asked K V Q)) (os : List (Outcome K V I)) (t : CoreState K V Q) : Type 0 where
+  pub record Ran (s : CoreValue K V Q P) (xs : List (Asked K V Q)) (os : List (Outcome K V I)) (t : CoreValue K V Q P) : Type 0 where
     pub steps : HasRun s xs os t
-    pub machine : Run kind s.machine (client_requests xs) (client_outcomes steps.told) t.machine
+    pub machine : Run kind s.state.machine (client_requests xs) (client_outcomes steps.told) t.state.machine
     pub apart : (j : ℕ) → AreApart (covered j xs steps.told)

@@ -118,7 +118,7 @@ impl<K: PathKey + Drop, V: Eq + Drop, Q: Asks<K, V> + Drop> Core<K, V, Q> {
     }
 
     /// Makes the steps in order, and gives their outcomes. What clients see of them is a run of the machine of handles,
-    /// and no position of a job is worked twice.
+    /// and no position of a job is worked twice. Each step leaves the parts that `step` leaves.
     ///
     /// Where memory is wanting, the outcomes are those of the steps before, and the core is as after those.
     pub fn run(
@@ -127,9 +127,9 @@ impl<K: PathKey + Drop, V: Eq + Drop, Q: Asks<K, V> + Drop> Core<K, V, Q> {
         steps: &[Step<K, V, Q>],
     ) -> Result<Trace<K, V, Q::Item>, (Trace<K, V, Q::Item>, NoMemory)>
         requires { All (λ step. CanAsk Q.ready (asked_by step)) steps.now }
-        ensures run { IfOk result (λ trace. Ran (asked K.cmp V.eq Q.target_of Q.answered) (divided K.path_of Q.decides) self.old.state (map asked_by steps.now) trace.outcomes.items self.new.state) }
+        ensures run { IfOk result (λ trace. Ran (asked K.cmp V.eq Q.target_of Q.answered) (divided K.path_of Q.decides) self.old (map asked_by steps.now) trace.outcomes.items self.new) }
         ensures short { IfErr result (λ e. length e.0.outcomes.items < length steps.now) }
-        ensures err { IfErr result (λ e. Ran (asked K.cmp V.eq Q.target_of Q.answered) (divided K.path_of Q.decides) self.old.state (map asked_by (take (length e.0.outcomes.items) steps.now)) e.0.outcomes.items self.new.state) }
+        ensures err { IfErr result (λ e. Ran (asked K.cmp V.eq Q.target_of Q.answered) (divided K.path_of Q.decides) self.old (map asked_by (take (length e.0.outcomes.items) steps.now)) e.0.outcomes.items self.new) }
         ensures core { IsCore self.new.state }
     {
         law_of_coverings::<K, V, Q>();

@@ -65,7 +65,7 @@ pub fn made_since(second: u64) -> Question
 /// how many it removed.
 pub fn expire<R: Wait>(rt: &R, cache: &Cache, second: u64) -> Result<u64, NoMemory> {
     let mut removed = 0u64;
-    for (number, entry) in cache.view(rt)?.pairs()? {
+    for (number, entry) in cache.view(rt)?.pairs() {
         if entry.second < second && cache.remove_if(rt, number, entry)? {
             removed = removed.wrapping_add(1);
         }

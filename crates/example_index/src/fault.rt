@@ -2,7 +2,7 @@
 
 use std::alloc::{AllocError, AllocFailed};
 use std::{fmt, io};
-use tambyulo::clients::{NoJournal, Refusal};
+use tambyulo_clients::{NoJournal, Refusal};
 
 /// Why the program stops before its end.
 #[derive(Debug, Drop)]

@@ -4,7 +4,7 @@ ghost use Rattle.std.specs.Prelude.{⊤};
 use std::alloc::Global;
 use std::sync::{Arc, Wait};
 use std::thread::Threads;
-use tambyulo::clients::{
+use tambyulo_clients::{
     ByteText, Call, CallReply, Client, Command, NoQuery, Refusal, Reply, Room, Seat, SharedMap,
 };
 

@@ -6,7 +6,7 @@ use std::alloc::{AllocError, Global};
 use std::rt::Runtime;
 use std::sync::{Arc, Wait};
 use std::thread::Threads;
-use tambyulo::clients::{
+use tambyulo_clients::{
     Asked, ByteText, Call, CallReply, Closed, Command, Limits, NoQuery, Reply, Told, with_clients,
 };
 

@@ -51,8 +51,8 @@ fn tour<R: AllocGlobal + Threads + Wait + Sync>(rt: &R) -> Result<Told, PutError
     leases.put(rt, 5, Lease { port: 8_443 })?;
     let port = leases.get(rt, &5)?.map_or(0, |lease| lease.port);
     let view = leases.view(rt)?;
-    let secure = view.count_by(rt, |_, lease| lease.port == 443, Crew::of(4))?;
-    let sum = view.fold(&Sum, |_, lease| i128::from(lease.port))?;
+    let secure = view.par_count(rt, |_, lease| lease.port == 443, Crew::of(4))?;
+    let sum = view.fold(&Sum, |_, lease| i128::from(lease.port));
     let before = leases.snapshot(rt)?;
     leases.clear(rt)?;
     let (now, then) = (leases.len(rt), before.len(rt));

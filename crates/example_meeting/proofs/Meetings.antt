@@ -5,15 +5,15 @@ use Rattle.std.specs.List.{Contains}
 use Rattle.std.proofs.Math.Nat.{le-max_right}
 use Rattle.std.proofs.lemmas.List.{get_or-map, length-map, map-append}
 use Rattle.std.proofs.lemmas.List.Elements.{All-contains, Contains-push}
-use Rattle.tambyulo.specs.Clients.Commands.{get, put}
-use Rattle.tambyulo.specs.Clients.CallReply.{CallReply}
-use Rattle.tambyulo.specs.Clients.CallReply.TheVariants as call_replies
-use Rattle.tambyulo.specs.Clients.Limits.{Limits}
-use Rattle.tambyulo.specs.Clients.Machine.{Kind, Outcome, Request, State, on}
-use Rattle.tambyulo.specs.Clients.Views.{call_outcome}
-use Rattle.tambyulo.specs.Clients.Journals.{Entered, own}
-use Rattle.tambyulo.specs.Clients.Closings.{IsClosedWith}
-use Rattle.tambyulo.specs.Clients.Seats.{Adds, Placed, Seated, met, pair, pairs, with_entry}
+use Rattle.tambyulo_clients.specs.Commands.{get, put}
+use Rattle.tambyulo_clients.specs.CallReply.{CallReply}
+use Rattle.tambyulo_clients.specs.CallReply.TheVariants as call_replies
+use Rattle.tambyulo_clients.specs.Limits.{Limits}
+use Rattle.tambyulo_clients.specs.Machine.{Kind, Outcome, Request, State, on}
+use Rattle.tambyulo_clients.specs.Views.{call_outcome}
+use Rattle.tambyulo_clients.specs.Journals.{Entered, own}
+use Rattle.tambyulo_clients.specs.Closings.{IsClosedWith}
+use Rattle.tambyulo_clients.specs.Seats.{Adds, Placed, Seated, met, pair, pairs, with_entry}
 use Rattle.example_meeting.specs.Meetings.{AreMet, PutBeforeGet, PutThenGot, entry_of}
 
 -- what is in a list is in its image

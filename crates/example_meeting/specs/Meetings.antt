@@ -1,10 +1,10 @@
 -- A put of one seat and a get of another, between which the two meet.
 use Rattle.std.specs.Prelude.{◌≡◌, ◌<◌, ℕ, List, length, slice_index_or}
 use Rattle.std.specs.List.{Contains}
-use Rattle.tambyulo.specs.Clients.Commands.{get, put}
-use Rattle.tambyulo.specs.Clients.Machine.{Outcome, Request, on}
-use Rattle.tambyulo.specs.Clients.Journals.{Entered, own}
-use Rattle.tambyulo.specs.Clients.Seats.{Placed, Seated, pairs}
+use Rattle.tambyulo_clients.specs.Commands.{get, put}
+use Rattle.tambyulo_clients.specs.Machine.{Outcome, Request, on}
+use Rattle.tambyulo_clients.specs.Journals.{Entered, own}
+use Rattle.tambyulo_clients.specs.Seats.{Placed, Seated, pairs}
 
 module _ {K V Q B : Type 0} where
   -- an entry of the seat of the number

@@ -2,7 +2,7 @@
 
 use std::alloc::AllocFailed;
 use std::{fmt, io};
-use tambyulo::clients::{Refusal, Torn};
+use tambyulo_clients::{Refusal, Torn};
 
 /// Why the program stops before its end.
 #[derive(Debug, Drop)]

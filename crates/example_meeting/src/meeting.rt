@@ -6,7 +6,7 @@ use crate::fault::Fault;
 use std::alloc::Global;
 use std::sync::{Arc, Wait};
 use std::thread::Threads;
-use tambyulo::clients::{
+use tambyulo_clients::{
     Call, Closed, Command, Limits, NoQuery, Refusal, Room, Seat, SharedMap, Use, with,
 };
 

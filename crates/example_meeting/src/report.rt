@@ -5,7 +5,7 @@ use crate::meeting::met;
 use std::rt::Runtime;
 use std::sync::{Arc, Wait};
 use std::thread::Threads;
-use tambyulo::clients::{Asked, Call, CallReply, Command, Reply, Told};
+use tambyulo_clients::{Asked, Call, CallReply, Command, Reply, Told};
 
 /// The key that the two seats speak of, and the value that the first gives it.
 const KEY: u64 = 7;

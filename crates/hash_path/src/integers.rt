@@ -2,6 +2,22 @@
 
 use crate::{Path, PathKey};
 
+impl PathKey for u32 {
+    ghost use Rattle.hash_path.specs.Integers.{bytes_path, bytes_path-below};
+    ghost use Rattle.std.proofs.lemmas.Map.Lookups.{exact_unsigned};
+    ghost use Rattle.std.specs.Int.{w32};
+
+    ghost path_of = { bytes_path w32 };
+
+    ghost exact = { exact_unsigned };
+
+    ghost small = { bytes_path-below w32 };
+
+    fn path(&self) -> Path {
+        Path::fnv1a(&self.to_le_bytes())
+    }
+}
+
 impl PathKey for u64 {
     ghost use Rattle.hash_path.specs.Integers.{unsigned_path, unsigned_path-below};
     ghost use Rattle.std.proofs.lemmas.Map.Lookups.{exact_unsigned};
@@ -11,6 +27,38 @@ impl PathKey for u64 {
     ghost exact = { exact_unsigned };
 
     ghost small = { unsigned_path-below };
+
+    fn path(&self) -> Path {
+        Path::fnv1a(&self.to_le_bytes())
+    }
+}
+
+impl PathKey for u128 {
+    ghost use Rattle.hash_path.specs.Integers.{bytes_path, bytes_path-below};
+    ghost use Rattle.std.proofs.lemmas.Map.Lookups.{exact_unsigned};
+    ghost use Rattle.std.specs.Int.{w128};
+
+    ghost path_of = { bytes_path w128 };
+
+    ghost exact = { exact_unsigned };
+
+    ghost small = { bytes_path-below w128 };
+
+    fn path(&self) -> Path {
+        Path::fnv1a(&self.to_le_bytes())
+    }
+}
+
+impl PathKey for i32 {
+    ghost use Rattle.hash_path.specs.Integers.{signed_bytes_path, signed_bytes_path-below};
+    ghost use Rattle.std.proofs.lemmas.Map.Lookups.{exact_signed};
+    ghost use Rattle.std.specs.Int.{w32};
+
+    ghost path_of = { signed_bytes_path w32 };
+
+    ghost exact = { exact_signed };
+
+    ghost small = { signed_bytes_path-below w32 };
 
     fn path(&self) -> Path {
         Path::fnv1a(&self.to_le_bytes())

@@ -130,3 +130,52 @@ fn integers_are_keys(rt: HostRuntime) {
     assert_eq!(rt; seen(&-1i64, &0), (Path(0x8cf5_1a8b_fca3_883d), true));
     assert_eq!(rt; seen(&i64::MIN, &-1), (Path(0xa8c7_7832_2819_6045), true));
 }
+
+/// The hashes of the four bytes, and of the sixteen, were computed by another program of FNV-1a, in Python.
+#[test]
+fn integers_of_other_widths_are_keys(rt: HostRuntime) {
+    assert_eq!(rt; seen(&0u32, &1), (Path(0x4d25_767f_9dce_13f5), true));
+    assert_eq!(rt;
+        seen(&0x0102_0304u32, &1),
+        (Path(0xb345_225e_3644_edb5), false)
+    );
+    assert_eq!(rt; seen(&-1i32, &0), (Path(0x994f_7665_3e2a_3951), true));
+    assert_eq!(rt; seen(&i32::MIN, &-1), (Path(0x4d24_f67f_9dcd_3a75), true));
+    assert_eq!(rt; seen(&1u128, &0), (Path(0x3922_09f1_4dea_4c24), false));
+    assert_eq!(rt;
+        seen(&0x0102_0304_0506_0708_090a_0b0c_0d0e_0f10u128, &u128::MAX),
+        (Path(0xef3b_2954_838f_d245), true)
+    );
+}
+
+/// The same program computed the hashes of the sixteen bytes of both words, and that of 16 bytes.
+#[test]
+fn pairs_and_arrays_are_keys(rt: HostRuntime) {
+    assert_eq!(rt;
+        seen(&(0u64, 1u64), &(1, 0)),
+        (Path(0xc5ff_bd62_1291_b2a0), true)
+    );
+    assert_eq!(rt;
+        seen(&(1u64, 0u64), &(0, 1)),
+        (Path(0x2660_0d45_0bd9_2cd4), false)
+    );
+    assert_eq!(rt;
+        seen(&(7u32, -1i64), &(7, 0)),
+        (Path(0xd14c_972f_2b50_9a58), true)
+    );
+    assert_eq!(rt;
+        seen(&((1u64, 2u64), 3u32), &((1, 2), 3)),
+        (Path(0xab4a_15cf_ef80_c63c), false)
+    );
+    assert_eq!(rt;
+        seen(b"foobar", b"fooba0"),
+        (Path(0x8594_4171_f739_67e8), false)
+    );
+    assert_eq!(rt;
+        seen(
+            &[0u8, 1, 2, 3, 4, 5, 6, 7, 8, 9, 10, 11, 12, 13, 14, 15],
+            &[1; 16]
+        ),
+        (Path(0x7c84_dc94_7785_1775), true)
+    );
+}

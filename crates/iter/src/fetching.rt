@@ -1,7 +1,8 @@
 //! Reads that change nothing: the processor fetches what is read, and goes on meanwhile.
 //!
-//! What lies behind a child is reached by three reads, each of which tells where the next one goes: the branch's head, its
-//! slots' block, the value. Behind several children they do not wait for one another, so they go first.
+//! What lies behind a child is reached by reads of which each tells where the next one goes: of a leaf its value; of a branch
+//! the first place of its row, and the value there. Behind several children they do not wait for one another, so they go
+//! first.
 ghost use Rattle.trie_shape.specs.Shape.{Fits};
 ghost use Rattle.trie_shape.specs.View.{tree};
 
@@ -20,7 +21,7 @@ pub(crate) fn fetch_below<K, V>(node: &Node<K, V>)
     }
 }
 
-/// Of a leaf the count of its value; of a branch its head, its first slot, and the same of a leaf that stands there.
+/// Of a leaf the count of its value; of a branch the first place of its row, and the same of a leaf that stands there.
 fn fetch_first_value<K, V>(node: &Node<K, V>)
     requires fits { Fits (tree node.now) }
 {

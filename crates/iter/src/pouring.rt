@@ -15,7 +15,7 @@ use trie_node::{
 };
 
 /// How many pairs a bunch has at most.
-pub(crate) const MOST_OF_BUNCH: usize = 256;
+pub(crate) const MOST_OF_BUNCH: usize = 512;
 
 /// Pairs where they lie in their nodes, in the order of a walk. A bunch has room of its own and asks for no memory; its
 /// places hold options, since each place has to hold something from the start.

@@ -47,6 +47,20 @@ module _ {K V Q A B : Type 0} (kind : Kind K V Q A B) where
   made_step s t r shown (Err NoMemory) step has = cc
   made_step s t r shown (Err BadNumber) step has = (refused BadNumber, step)
 
+  -- a call that lacks memory leaves the state as it was
+  pub stays_where_lacking : {T : Type 0} (s t : State K V Q) (r : Request K V Q) (shown : T → Outcome K V B) (b : Result T Refusal) → IsStep kind s r shown b t → lacks_memory b ≡ true → t ≡ s
+  stays_where_lacking s t r shown (Ok x) step lacks = cc
+  stays_where_lacking s t r shown (Err NoMemory) step lacks = step
+  stays_where_lacking s t r shown (Err NoHandle) step lacks = cc
+  stays_where_lacking s t r shown (Err Taken) step lacks = cc
+  stays_where_lacking s t r shown (Err Full) step lacks = cc
+  stays_where_lacking s t r shown (Err NoJob) step lacks = cc
+  stays_where_lacking s t r shown (Err Unfinished) step lacks = cc
+  stays_where_lacking s t r shown (Err NoWorker) step lacks = cc
+  stays_where_lacking s t r shown (Err TooManyJobs) step lacks = cc
+  stays_where_lacking s t r shown (Err JournalFull) step lacks = cc
+  stays_where_lacking s t r shown (Err BadNumber) step lacks = cc
+
   -- the step that a call made has the outcome that was foreseen
   pub step_as_foreseen : {T : Type 0} (s t : State K V Q) (r : Request K V Q) (shown : T → Outcome K V B) (a b : Result T Refusal)
       → ForeseenIsStep kind → is_settled_by_state r ≡ true → Foresees kind s r shown a → is_counted a ≡ true

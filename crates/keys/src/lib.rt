@@ -1,13 +1,15 @@
 //! Keys of a trie map that a user takes as they are.
 //!
-//! `ByteText` is a key of any bytes. The integers `u64` and `i64` are keys themselves, in their own order: `hash_path`
-//! has their impls, since a crate may give a foreign trait to its own types alone.
-//!
-//! A key's path word is the FNV-1a hash of its bytes; an integer's bytes are its eight, little-endian.
+//! `ByteText` is a key of any bytes, looked up by a `&ByteText`, a `&[u8]` or a `&str`. Its path word is the FNV-1a hash
+//! of its bytes. Integers, arrays of bytes and pairs of keys are keys themselves: `hash_path` has their impls, since a
+//! crate may give a foreign trait to its own types alone.
 #![tactic(auto)]
 
+mod short;
+mod sought;
 mod text;
 
+pub use short::MOST_IN_PLACE;
 pub use text::ByteText;
 
 #[cfg(test)]

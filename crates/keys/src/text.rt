@@ -1,18 +1,30 @@
 //! The byte text.
 
-ghost use Rattle.std.specs.Prelude.{◌≡◌, IfOk};
+ghost use Rattle.std.specs.Prelude.{◌≡◌, ◌≤◌, length, IfOk, IsOk, MatchOption};
+ghost use Rattle.std.specs.Str.{IsUtf8};
 
+use crate::short::{MOST_IN_PLACE, Short};
 use hash_path::{Path, PathKey};
 use std::alloc::{AllocError, Global};
 use std::cmp::Ordering;
 use std::marker::Model;
+use std::{fmt, str};
 
 /// A key of any bytes, in the order of a dictionary. Its path word is the FNV-1a hash of the bytes.
 ///
+/// Up to `MOST_IN_PLACE` bytes lie in the key itself, and more in memory of their own.
+///
 /// Contracts see it as the list of its bytes.
-#[derive(Debug, Drop)]
+#[derive(Drop)]
 pub struct ByteText {
-    bytes: Vec<u8>,
+    bytes: Bytes,
+}
+
+/// Where the bytes lie.
+#[derive(Drop)]
+enum Bytes {
+    InPlace(Short),
+    Apart(Vec<u8>),
 }
 
 impl Model for ByteText {
@@ -20,35 +32,55 @@ impl Model for ByteText {
 
     ghost Value = { List ℕ };
 
-    ghost view = { λ text. text.bytes.items };
+    ghost use Rattle.keys.specs.Held.{held, IsPlaced};
+
+    ghost view = { λ text. held text.bytes };
+
+    ghost invariant = { λ text. IsPlaced text.bytes };
 }
 
 impl ByteText {
-    /// The key that has these bytes and keeps them where they are.
+    /// The key that has these bytes: in place where there are so few, and else where they are. It requests no memory.
     pub fn new(bytes: Vec<u8>) -> ByteText
         ensures { result ≡ bytes.items }
     {
-        ByteText { bytes }
+        if bytes.len() <= MOST_IN_PLACE {
+            return ByteText {
+                bytes: Bytes::InPlace(Short::new(bytes.as_slice())),
+            };
+        }
+        ByteText {
+            bytes: Bytes::Apart(bytes),
+        }
     }
 
     /// The key that has a copy of these bytes.
     ///
     /// # Errors
     ///
-    /// Memory for the copy was refused.
+    /// Memory for the copy was refused. None is requested where the bytes lie in place.
     pub fn from_slice(alloc: Global, bytes: &[u8]) -> Result<ByteText, AllocError>
-        ensures { IfOk result (λ key. key ≡ bytes.now) }
+        ensures bytes { IfOk result (λ key. key ≡ bytes.now) }
+        ensures in_place { length bytes.now ≤ MOST_IN_PLACE → IsOk result }
     {
-        Ok(ByteText::new(Vec::from_slice(alloc, bytes)?))
+        if bytes.len() <= MOST_IN_PLACE {
+            return Ok(ByteText {
+                bytes: Bytes::InPlace(Short::new(bytes)),
+            });
+        }
+        Ok(ByteText {
+            bytes: Bytes::Apart(Vec::from_slice(alloc, bytes)?),
+        })
     }
 
     /// The key that has a copy of this text's bytes.
     ///
     /// # Errors
     ///
-    /// Memory for the copy was refused.
+    /// Memory for the copy was refused. None is requested where the bytes lie in place.
     pub fn from_text(alloc: Global, text: &str) -> Result<ByteText, AllocError>
-        ensures { IfOk result (λ key. key ≡ text.now) }
+        ensures bytes { IfOk result (λ key. key ≡ text.now) }
+        ensures in_place { length text.now ≤ MOST_IN_PLACE → IsOk result }
     {
         ByteText::from_slice(alloc, text.as_bytes())
     }
@@ -57,7 +89,69 @@ impl ByteText {
     pub fn as_bytes(&self) -> &[u8]
         ensures { result.now ≡ self.now }
     {
-        self.bytes.as_slice()
+        match &self.bytes {
+            Bytes::InPlace(short) => short.as_slice(),
+            Bytes::Apart(vec) => vec.as_slice(),
+        }
+    }
+
+    /// The key's bytes as a text, or none if they are not UTF-8.
+    pub fn as_str(&self) -> Option<&str>
+        ensures { MatchOption result (¬ (IsUtf8 self.now)) (λ text. (text.now ≡ self.now) × IsUtf8 self.now) }
+    {
+        str::from_utf8(self.as_bytes()).ok()
+    }
+
+    /// The key that has a copy of this one's bytes.
+    ///
+    /// # Errors
+    ///
+    /// Memory for the copy was refused. None is requested where the bytes lie in place.
+    pub fn try_clone(&self, alloc: Global) -> Result<ByteText, AllocError>
+        ensures bytes { IfOk result (λ key. key ≡ self.now) }
+        ensures in_place { length self.now ≤ MOST_IN_PLACE → IsOk result }
+    {
+        ByteText::from_slice(alloc, self.as_bytes())
+    }
+}
+
+impl fmt::Debug for ByteText {
+    fn fmt<W: fmt::Write>(&self, f: &mut fmt::Formatter<W>) -> fmt::Result {
+        f.debug_struct("ByteText")
+            .field("bytes", &self.as_bytes())
+            .finish()
+    }
+}
+
+/// Writes the bytes as a text, with U+FFFD in place of each sequence that is not UTF-8, as `String::from_utf8_lossy` does.
+impl fmt::Display for ByteText {
+    fn fmt<W: fmt::Write>(&self, f: &mut fmt::Formatter<W>) -> fmt::Result {
+        for chunk in self.as_bytes().utf8_chunks() {
+            f.write_str(chunk.valid())?;
+            if !chunk.invalid().is_empty() {
+                f.write_char('\u{FFFD}')?;
+            }
+        }
+        Ok(())
+    }
+}
+
+/// A clone requests memory only where the bytes do not lie in place.
+impl Clone for ByteText {
+    ghost use Rattle.std.specs.Prelude.{◌≡◌, ◌≤◌, length};
+
+    ghost is_clone = { λ text clone. clone ≡ text };
+
+    ghost use Rattle.keys.specs.declared.short.TheConstants.{MOST_IN_PLACE};
+
+    ghost is_infallible = { λ text. length text ≤ MOST_IN_PLACE };
+
+    fn clone(&self) -> Result<ByteText, AllocError> {
+        let bytes = match &self.bytes {
+            Bytes::InPlace(short) => Bytes::InPlace(short.copied()),
+            Bytes::Apart(vec) => Bytes::Apart(Vec::from_slice(*vec.allocator(), vec.as_slice())?),
+        };
+        Ok(ByteText { bytes })
     }
 }
 

@@ -1,4 +1,5 @@
 pub mod Walk
+pub mod Dues
 pub mod Adding
 pub mod Tickets
 pub mod Seating

@@ -1,5 +1,5 @@
 -- Seats of clients, before and after they ran.
-use Rattle.std.proofs.Common.{◌≡◌, ℕ, zero, suc, ◌<◌, length, arith, List, [], ◌∷◌, ◌++◌, ap, subst, ◌∙◌, map, slice_index_or}
+use Rattle.std.proofs.Common.{◌≡◌, ℕ, zero, suc, ◌<◌, length, arith, List, [], ◌∷◌, ◌++◌, ap, subst, sym, ◌∙◌, map, slice_index_or}
 use Rattle.std.proofs.lemmas.List.{map-append}
 use Rattle.locked_map.specs.Seats.{Seated, AllFresh, fresh}
 
@@ -16,6 +16,10 @@ maps_more f xs ys y is = ap (map f) is ∙ map-append f xs (y ∷ [])
 -- one seat more
 pub fresh_more : {K V Q B : Type 0} (seats : List (Seated K V Q B)) (s : Seated K V Q B) → s ≡ fresh (length seats) → AllFresh seats → AllFresh (seats ++ s ∷ [])
 fresh_more seats s is all = listed_more (λ k x. x ≡ fresh k) seats s is all
+
+-- a seat that has filed nothing has the number that it has
+pub fresh_by_number : {K V Q B : Type 0} (s : Seated K V Q B) (k : ℕ) → s ≡ fresh k → s ≡ fresh s.number
+fresh_by_number {K} {V} {Q} {B} s k is = is ∙ ap fresh (sym (ap (λ (x : Seated K V Q B). x.number) is))
 
 -- three things may be exchanged for equal ones
 pub moved : {A B C : Type 0} (P : A → B → C → Type 0) (a a' : A) (b b' : B) (c c' : C) → a ≡ a' → b ≡ b' → c ≡ c' → P a b c → P a' b' c'

@@ -13,3 +13,10 @@ pub record IsClosedWith {K V Q A B : Type 0} (kind : Kind K V Q A B) (limits : L
   pub floors : (k : ℕ) (s : Seated K V Q B) → k < length seats → AboveFloors (slice_index_or seats k s).list
   pub full : (k : ℕ) (s : Seated K V Q B) → k < length seats → (slice_index_or seats k s).full ≡ true → room t < 2
   pub unknown : (k : ℕ) (s : Seated K V Q B) → k < length seats → (j : ℕ) → (slice_index_or seats k s).unknown ≡ Some j → job_at t j ≡ None
+
+-- the journal and the state that a map leaves bear out the seat of this number: its entries are what it filed, none of them below the floor beside it; where it is marked full the room is below 2, and no job that it is marked with is open
+pub record BearsOut {K V Q B : Type 0} (k : ℕ) (s : Seated K V Q B) (journal : List (Entered K V Q B)) (t : State K V Q) : Type 0 where
+  pub entries : own k 0 journal ≡ pairs s.list
+  pub floors : AboveFloors s.list
+  pub full : s.full ≡ true → room t < 2
+  pub unknown : (j : ℕ) → s.unknown ≡ Some j → job_at t j ≡ None

@@ -1,10 +1,10 @@
 -- Seats: what one has filed, and what a call adds to it.
-use Rattle.std.specs.Prelude.{◌≡◌, ℕ, ◌+◌, ◌≤◌, ◌<◌, Bool, true, false, List, [], ◌∷◌, ◌++◌, map, All, max, length, slice_index_or, Option, Some, None}
+use Rattle.std.specs.Prelude.{◌≡◌, ℕ, ◌+◌, ◌≤◌, ◌<◌, Bool, true, false, List, [], ◌∷◌, ◌++◌, map, All, max, length, slice_index_or, Option, Some, None, IsSome}
 use Rattle.boxcar.specs.Table.{Shelves, Shows}
 use Rattle.bulk_ops.specs.Answers as plain
 use Rattle.versions.specs.declared.refusal.Refusal.{Refusal}
-use Rattle.versions.specs.declared.refusal.Refusal.TheVariants.{NoJob, JournalFull, NoMemory}
-use Rattle.handles.specs.Machine.{Request, job_of, Outcome, refused}
+use Rattle.versions.specs.declared.refusal.Refusal.TheVariants.{NoJob, Unfinished, NoWorker, JournalFull, NoMemory}
+use Rattle.handles.specs.Machine.{Request, job_of, needs_room, Outcome, unfinished, refused, worked}
 use Rattle.journal.specs.Journals.{Entered}
 use Rattle.journal.specs.Tokens.{entry_at}
 use Rattle.locked_map.specs.declared.filed.Filed.{Filed}
@@ -78,11 +78,15 @@ module _ {K V Q B : Type 0} where
   marked_by s NoJob j = marked_unknown s j
   marked_by s e j = s
 
-  -- what a call adds to the seat that makes it: its entry; or a mark, where it is answered JournalFull or NoJob; or nothing, where memory was wanting
+  -- what a call adds to the seat that makes it: its entry; or a mark, where it needs room and is answered JournalFull, or ends a job and is answered NoJob; or nothing, where memory was wanting. No call is answered as unfinished, as of no worker, or as a worker's step
   abbrev pub Adds : Seated K V Q B → Request K V Q → Outcome K V B → Seated K V Q B → Type 0
-  Adds s r (refused JournalFull) t = t ≡ marked_full s
-  Adds s r (refused NoJob) t = t ≡ marked_unknown s (job_of r)
+  Adds s r (refused JournalFull) t = (needs_room r ≡ true) × (t ≡ marked_full s)
+  Adds s r (refused NoJob) t = IsSome (job_of r) × (t ≡ marked_unknown s (job_of r))
   Adds s r (refused NoMemory) t = t ≡ s
+  Adds s r (refused Unfinished) t = ⊥
+  Adds s r (refused NoWorker) t = ⊥
+  Adds s r unfinished t = ⊥
+  Adds s r worked t = ⊥
   Adds s r o t = (place : ℕ) × (t ≡ with_entry s r o place)
 
   -- two seats that met: each has the greater floor, and nothing else is changed

@@ -1,9 +1,10 @@
 //! Clients of one map, each on a thread of its own.
-ghost use Rattle.std.specs.Prelude.{◌≡◌, ℕ, ◌<◌, ◌≤◌, [], All, List, IfOk, map, slice_index_or, vec_len};
+ghost use Rattle.std.specs.Prelude.{◌≡◌, ℕ, ◌<◌, ◌≤◌, All, IfOk, map, slice_index_or, vec_len};
 ghost use Rattle.std.specs.Thread.{IsSync};
 ghost use Rattle.handles.specs.Views.{machine};
-ghost use Rattle.journal.specs.Journals.{Entered, IsLegal, own};
-ghost use Rattle.locked_map.specs.Seats.{AllFresh, fresh, pairs};
+ghost use Rattle.journal.specs.Journals.{IsLegal};
+ghost use Rattle.locked_map.specs.Closings.{BearsOut};
+ghost use Rattle.locked_map.specs.Seats.{AllFresh, Seated, fresh};
 
 use crate::closed::Closed;
 use crate::lending::{MOST_SEATS, closed_under};
@@ -39,8 +40,8 @@ pub trait Client<K: PathKey, V: Eq, Q: Asks<K, V>> {
     /// What it asks of its caller.
     ghost needs: { Self → Type 0 };
 
-    /// What it tells its caller of its entries, each with its place in the journal, and of what it comes to.
-    ghost gives: { Self → List (ℕ × Entered K V Q (plain.Told K V Q.Item)) → Self.Out → Type 0 };
+    /// What it tells its caller of the seat that it leaves, with its entries, floors and marks, and of what it comes to.
+    ghost gives: { Self → Seated K V Q (plain.Told K V Q.Item) → Self.Out → Type 0 };
 
     /// Makes its calls on its seat, which has filed nothing yet.
     fn run<J: Room, R: Threads + Wait + Sync>(
@@ -52,8 +53,8 @@ pub trait Client<K: PathKey, V: Eq, Q: Asks<K, V>> {
     ) -> Self::Out
         requires sync { IsSync R.row }
         requires needs { needs self }
-        requires fresh { seat.old.list ≡ [] }
-        ensures gives { gives self (pairs seat.new.list) result };
+        requires fresh { seat.old ≡ fresh seat.old.number }
+        ensures gives { gives self seat.new result };
 }
 
 /// Why there is no journal of the clients' calls.
@@ -83,6 +84,7 @@ impl From<AllocError> for NoJournal {
 
 /// Runs the clients over a new map, each on a thread of its own and with the seat of its number, and closes the map
 /// once all have ended. It gives what each came to, in their order, and the journal with the table that it leads to.
+/// What a client tells of the seat that it leaves holds, and the journal and the table bear that seat out.
 ///
 /// A client whose thread cannot be started is run by the caller's thread when those before it have ended.
 ///
@@ -112,7 +114,7 @@ where
     ensures legal { IfOk result (λ r. IsLegal (machine K.cmp V.eq Q.target_of Q.answered) limits r.1.journal r.1.table) }
     ensures len { IfOk result (λ r. vec_len r.0 ≡ vec_len clients) }
     ensures seats { IfOk result (λ r. All (λ e. e.seat < vec_len clients) r.1.journal) }
-    ensures each { IfOk result (λ r. (k : ℕ) (c : C) (o : C.Out) → k < vec_len clients → C.gives (slice_index_or clients.items k c) (own k 0 r.1.journal) (slice_index_or r.0.items k o)) }
+    ensures each { IfOk result (λ r. (k : ℕ) (c : C) (o : C.Out) → k < vec_len clients → (seat : _) × C.gives (slice_index_or clients.items k c) seat (slice_index_or r.0.items k o) × BearsOut k seat r.1.journal r.1.table) }
 {
     let entries = Entries::new(alloc)?;
     run_in::<K, V, Q, Brand, C, R>(rt, alloc, entries, limits, clients)
@@ -160,7 +162,7 @@ where
     ensures legal { IfOk result (λ r. IsLegal (machine K.cmp V.eq Q.target_of Q.answered) limits r.1.journal r.1.table) }
     ensures len { IfOk result (λ r. vec_len r.0 ≡ vec_len clients) }
     ensures seats { IfOk result (λ r. All (λ e. e.seat < vec_len clients) r.1.journal) }
-    ensures each { IfOk result (λ r. (k : ℕ) (c : C) (o : C.Out) → k < vec_len clients → C.gives (slice_index_or clients.items k c) (own k 0 r.1.journal) (slice_index_or r.0.items k o)) }
+    ensures each { IfOk result (λ r. (k : ℕ) (c : C) (o : C.Out) → k < vec_len clients → (seat : _) × C.gives (slice_index_or clients.items k c) seat (slice_index_or r.0.items k o) × BearsOut k seat r.1.journal r.1.table) }
 {
     let map = SharedMap::<K, V, Q, J>::new(alloc, entries, limits)?;
     let jobs = seated::<K, V, Q, J, C>(alloc, clients)?;
@@ -228,9 +230,9 @@ where
     C: Client<K, V, Q> + Drop + Send + Sync,
     C::Out: Drop + Send,
     R: Threads + Wait + Sync,
-    requires { All (λ b. C.needs b.client × (b.seat.list ≡ [])) jobs.items }
+    requires { All (λ b. C.needs b.client × (b.seat ≡ fresh b.seat.number)) jobs.items }
     ensures len { IfOk result (λ v. vec_len v ≡ vec_len jobs) }
-    ensures each { IfOk result (λ v. (k : ℕ) (b : _) (e : _) → k < vec_len jobs → C.gives (slice_index_or jobs.items k b).client (pairs (slice_index_or v.items k e).seat.list) (slice_index_or v.items k e).out) }
+    ensures each { IfOk result (λ v. (k : ℕ) (b : _) (e : _) → k < vec_len jobs → C.gives (slice_index_or jobs.items k b).client (slice_index_or v.items k e).seat (slice_index_or v.items k e).out) }
 {
     let running = Running {
         rt,
@@ -261,9 +263,9 @@ where
 
     type Out = Ended<K, V, Q, C::Out, J>;
 
-    ghost needs = { λ _ job. IsSync R.row × C.needs job.client × (job.seat.list ≡ []) };
+    ghost needs = { λ _ job. IsSync R.row × C.needs job.client × (job.seat ≡ fresh job.seat.number) };
 
-    ghost gives = { λ _ job result. C.gives job.client (pairs result.seat.list) result.out };
+    ghost gives = { λ _ job result. C.gives job.client result.seat result.out };
 
     fn run(&self, job: Begun<K, V, Q, C, J>) -> Ended<K, V, Q, C::Out, J> {
         run_one(self.rt, self.map, job)
@@ -283,8 +285,8 @@ where
     C: Client<K, V, Q>,
     R: Threads + Wait + Sync,
     requires sync { IsSync R.row }
-    requires needs { C.needs job.client × (job.seat.list ≡ []) }
-    ensures { C.gives job.client (pairs result.seat.list) result.out }
+    requires needs { C.needs job.client × (job.seat ≡ fresh job.seat.number) }
+    ensures { C.gives job.client result.seat result.out }
 {
     let Begun { client, mut seat } = job;
     let out = client.run(rt, map.alloc, map, &mut seat);

@@ -1,5 +1,5 @@
 //! The map that seats share.
-ghost use Rattle.std.specs.Prelude.{◌≡◌, ◌<◌, ◌≤◌, ℕ, All, IfErr, IfOk, None, Some, slice_index_or, true, vec_len};
+ghost use Rattle.std.specs.Prelude.{◌≡◌, ◌<◌, ◌≤◌, ◌⊎◌, ℕ, All, IfErr, IfOk, None, Some, slice_index_or, true, vec_len};
 ghost use Rattle.bulk_ops.specs.Answers as plain;
 ghost use Rattle.bulk_ops.specs.Told.{told_of};
 ghost use Rattle.handles.specs.Machine.{abandon, finish, freeze, job_at, room, view};
@@ -29,7 +29,8 @@ use versions::{MOST_PAIRS, NoMemory, Refusal, View};
 /// A table of maps under one lock, with its journal, that seats share by reference.
 ///
 /// Each call takes a seat. It waits for the lock, makes one step of the machine and one entry of the journal, and adds
-/// that entry to the seat's list. A call that is refused as `JournalFull`, `NoJob` or `NoMemory` makes no entry.
+/// that entry to the seat's list. A call that is refused as `JournalFull`, `NoJob` or `NoMemory` makes no entry. Only
+/// `finish`, `abandon` and `bulk` are refused as `NoJob`; `finish` and `abandon` are never refused as `JournalFull`.
 #[derive(Drop)]
 pub struct SharedMap<K: PathKey, V: Eq, Q: Asks<K, V>, J: Room> {
     pub(crate) alloc: Global,
@@ -153,6 +154,7 @@ impl<K: PathKey + Drop, V: Eq + Drop, Q: Asks<K, V> + Drop, J: Room> SharedMap<K
     ) -> Result<(), (Refusal, Ticket<K, V, Q, J>)>
         ensures adds { Adds seat.old (abandon ticket.job) (answered_or unit_outcome (λ e. e.0) result) seat.new }
         ensures ticket { IfErr result (λ e. e.1 ≡ ticket) }
+        ensures why { IfErr result (λ e. (e.0 ≡ Refusal.NoJob) ⊎ (e.0 ≡ Refusal.NoMemory)) }
     {
         let caller = Caller::new(seat.number, &mut seat.list);
         let made = self
@@ -188,6 +190,7 @@ impl<K: PathKey + Drop, V: Eq + Drop, Q: Asks<K, V> + Drop, J: Room> SharedMap<K
         ensures told { IfOk result (λ answer. told_of answer ≡ plain.told (Q.answer_of part)) }
         ensures ticket { IfErr result (λ e. e.1 ≡ ticket) }
         ensures part { IfErr result (λ e. e.2 ≡ part) }
+        ensures why { IfErr result (λ e. (e.0 ≡ Refusal.NoJob) ⊎ (e.0 ≡ Refusal.NoMemory)) }
     {
         let caller = Caller::new(seat.number, &mut seat.list);
         let made = self

@@ -103,7 +103,7 @@ fn ask<R: Threads + Wait + Sync>(
     if workers == 0 {
         Ok(view.query(question)?)
     } else {
-        Ok(view.query_by(rt, question, Crew::of(workers))?)
+        Ok(view.par_query(rt, question, Crew::of(workers))?)
     }
 }
 

@@ -17,16 +17,28 @@ const CALLS: u32 = 400_000;
 /// How many of them are one put and gets else.
 pub const CALLS_OF_A_PUT: u32 = 10;
 
-/// Times the calls by one, two and four threads.
+/// How a key's value is read.
+#[derive(Clone, Copy)]
+pub enum Reads {
+    /// By `get`, which clones a handle on it.
+    Got,
+    /// By `get_copied`, which copies it under the lock, as dashmap's guard lets a caller do.
+    Copied,
+}
+
+/// Times the calls by one, two and four threads, which read by `get`, and then by `get_copied`.
 pub fn mixed<R: Runtime + AllocGlobal + Threads + Wait + Sync>(
     rt: &R,
     load: Load,
 ) -> Result<(), Fault> {
     let keys = text_keys(rt.alloc(), load.pairs)?;
     let map = filled(rt, load.pairs)?;
-    calls_by(rt, &map, keys.as_slice(), load.rounds, 1)?;
-    calls_by(rt, &map, keys.as_slice(), load.rounds, 2)?;
-    calls_by(rt, &map, keys.as_slice(), load.rounds, 4)
+    for reads in [Reads::Got, Reads::Copied] {
+        calls_by(rt, &map, keys.as_slice(), load.rounds, 1, reads)?;
+        calls_by(rt, &map, keys.as_slice(), load.rounds, 2, reads)?;
+        calls_by(rt, &map, keys.as_slice(), load.rounds, 4, reads)?;
+    }
+    Ok(())
 }
 
 /// The same by so many threads.
@@ -36,15 +48,24 @@ fn calls_by<R: Runtime + AllocGlobal + Threads + Wait + Sync>(
     keys: &[Arc<ByteText>],
     rounds: u32,
     threads: u32,
+    reads: Reads,
 ) -> Result<(), Fault> {
     let mut best = Best::new();
     let mut sum = 0i64;
     for _ in 0..rounds {
         let start = Instant::now(rt)?;
-        sum = one_round(rt, map, keys, threads)?;
+        sum = one_round(rt, map, keys, threads, reads)?;
         best.count(start.elapsed(rt)?);
     }
-    best.show_of(rt, "mixed", threads, CALLS, i128::from(sum))
+    best.show_of(rt, name_of(reads), threads, CALLS, i128::from(sum))
+}
+
+/// The name of the measurement of calls that read so.
+fn name_of(reads: Reads) -> &'static str {
+    match reads {
+        Reads::Got => "mixed",
+        Reads::Copied => "mixed_copied",
+    }
 }
 
 /// The calls of one round, divided among the threads: the sum of the values that were read.
@@ -53,6 +74,7 @@ fn one_round<R: Runtime + AllocGlobal + Threads + Wait + Sync>(
     map: &Map,
     keys: &[Arc<ByteText>],
     threads: u32,
+    reads: Reads,
 ) -> Result<i64, Fault> {
     let calls = CALLS / threads.max(1);
     let mut sum = 0i64;
@@ -60,7 +82,7 @@ fn one_round<R: Runtime + AllocGlobal + Threads + Wait + Sync>(
         rt,
         rt.alloc(),
         threads as usize,
-        &|thread: usize| { calls_of(rt, rt.alloc(), map, keys, calls, thread as u64) },
+        &|thread: usize| { calls_of(rt, rt.alloc(), map, keys, calls, thread as u64, reads) },
     )? {
         sum = sum.wrapping_add(read?);
     }
@@ -82,6 +104,7 @@ pub fn calls_of<R: Wait>(
     keys: &[Arc<ByteText>],
     calls: u32,
     thread: u64,
+    reads: Reads,
 ) -> Result<i64, Fault> {
     let mut sum = 0i64;
     let mut state = thread.wrapping_add(1);
@@ -93,9 +116,17 @@ pub fn calls_of<R: Wait>(
         };
         if call % CALLS_OF_A_PUT == 0 {
             map.put(rt, copied(alloc, key)?, place as i64)?;
-        } else if let Some(value) = map.get(rt, key)? {
-            sum = sum.wrapping_add(*value);
+        } else {
+            sum = sum.wrapping_add(read(rt, map, key, reads)?);
         }
     }
     Ok(sum)
+}
+
+/// The value of the key, 0 where it has none.
+fn read<R: Wait>(rt: &R, map: &Map, key: &ByteText, reads: Reads) -> Result<i64, Fault> {
+    match reads {
+        Reads::Got => Ok(map.get(rt, key)?.map_or(0, |value| *value)),
+        Reads::Copied => Ok(map.get_copied(rt, key).unwrap_or(0)),
+    }
 }

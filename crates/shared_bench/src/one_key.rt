@@ -1,4 +1,4 @@
-//! Calls of several threads at one key of a map, with their checksums: gets, and then puts.
+//! Calls of several threads at one key of a map, with their checksums: gets, copies, and then puts.
 
 use crate::arguments::Load;
 use crate::maps::{Map, filled};
@@ -18,10 +18,11 @@ const CALLS: u32 = 400_000;
 #[derive(Clone, Copy)]
 enum Call {
     Get,
+    Copy,
     Put,
 }
 
-/// Times gets, and then puts, of the last key of the map, each by one and by four threads.
+/// Times gets, copies of the value, and then puts, of the last key of the map, each by one and by four threads.
 pub fn one_key<R: Runtime + AllocGlobal + Threads + Wait + Sync>(
     rt: &R,
     load: Load,
@@ -31,6 +32,8 @@ pub fn one_key<R: Runtime + AllocGlobal + Threads + Wait + Sync>(
     let key = text_key(rt.alloc(), number)?;
     calls_by(rt, &map, &key, number, load.rounds, 1, Call::Get)?;
     calls_by(rt, &map, &key, number, load.rounds, 4, Call::Get)?;
+    calls_by(rt, &map, &key, number, load.rounds, 1, Call::Copy)?;
+    calls_by(rt, &map, &key, number, load.rounds, 4, Call::Copy)?;
     calls_by(rt, &map, &key, number, load.rounds, 1, Call::Put)?;
     calls_by(rt, &map, &key, number, load.rounds, 4, Call::Put)
 }
@@ -59,6 +62,7 @@ fn calls_by<R: Runtime + AllocGlobal + Threads + Wait + Sync>(
 fn name_of(call: Call) -> &'static str {
     match call {
         Call::Get => "one_key_reads",
+        Call::Copy => "one_key_copies",
         Call::Put => "one_key_writes",
     }
 }
@@ -81,6 +85,7 @@ fn one_round<R: Runtime + AllocGlobal + Threads + Wait + Sync>(
         &|_: usize| {
             match call {
                 Call::Get => gets(rt, map, key, calls),
+                Call::Copy => Ok(copies(rt, map, key, calls)),
                 Call::Put => puts(rt, rt.alloc(), map, key, number, calls),
             }
         },
@@ -99,6 +104,15 @@ fn gets<R: Wait>(rt: &R, map: &Map, key: &ByteText, calls: u32) -> Result<i64, F
         }
     }
     Ok(sum)
+}
+
+/// The copies of one thread.
+fn copies<R: Wait>(rt: &R, map: &Map, key: &ByteText, calls: u32) -> i64 {
+    let mut sum = 0i64;
+    for _ in 0..calls {
+        sum = sum.wrapping_add(map.get_copied(rt, key).unwrap_or(0));
+    }
+    sum
 }
 
 /// The puts of one thread. Each gives the key the value that it has, so that the sum is the same in each run.

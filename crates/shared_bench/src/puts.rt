@@ -117,7 +117,7 @@ fn count_until<R: Threads + Wait + Sync>(
         if over.load(Ordering::SeqCst) {
             break;
         }
-        drop(map.query_by(rt, &question, Crew::of(WORKERS))?);
+        drop(map.par_query(rt, &question, Crew::of(WORKERS))?);
     }
     Ok(())
 }

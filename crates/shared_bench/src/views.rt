@@ -1,7 +1,7 @@
 //! Views of a map, with nobody writing and while others write.
 
 use crate::maps::{Map, filled};
-use crate::mixed::calls_of;
+use crate::mixed::{Reads, calls_of};
 use bench_kit::{Fault, Times, text_keys};
 use keys::ByteText;
 use std::rt::Runtime;
@@ -89,7 +89,7 @@ fn write_until<R: AllocGlobal + Wait>(
         if over.load(Ordering::SeqCst) {
             break;
         }
-        calls_of(rt, rt.alloc(), map, keys, CALLS_AT_A_TIME, seed)?;
+        calls_of(rt, rt.alloc(), map, keys, CALLS_AT_A_TIME, seed, Reads::Got)?;
         seed = seed.wrapping_add(u64::from(WRITERS));
     }
     Ok(())

@@ -1,18 +1,23 @@
 -- Some children of a branch as a branch of their own.
-use Rattle.std.proofs.Common.{◌≡◌, ℕ, zero, suc, ◌+◌, ◌^◌, ◌<◌, ◌≤◌, true, List, [], ◌∷◌, ◌++◌, length, get_or, take, drop, is_some, refl, sym, ap, ◌∙◌, subst, arith, length-drop, length-take}
-use Rattle.std.proofs.lemmas.List.{append-nil}
+use Rattle.std.proofs.Common.{◌≡◌, ℕ, zero, suc, ◌+◌, ◌^◌, ◌<◌, ◌≤◌, true, List, [], ◌∷◌, ◌++◌, length, map, get_or, take, drop, is_some, refl, sym, ap, ◌∙◌, subst, arith, length-drop, length-take}
+use Rattle.std.proofs.lemmas.List.{append-nil, length-map}
 use Rattle.std.specs.declared.cmp.Ordering.{Ordering}
 use Rattle.std.specs.declared.cmp.Ordering.TheVariants.{Equal}
 use Rattle.std.specs.Cmp.{IsTotalOrder}
 use Rattle.std.specs.FinMap.{find}
+use Rattle.std.specs.Int.RustNames.{count_ones}
 use Rattle.hash_path.specs.Digits.{digit, fan_out, last_level}
 use Rattle.trie_shape.specs.Looks.{Shows}
 use Rattle.trie_shape.specs.Outline.{children, list_of}
 use Rattle.trie_shape.specs.Tree.{Tree, branch, bucket, Trees, no_trees, more_trees, trees, entries, entries_of_all, digits_of, AreTries, IsTrie, HasTwoWords}
+use Rattle.trie_shape.specs.View.{tree}
 use Rattle.trie_shape.specs.declared.looks.Look.TheVariants.{Branch, Pairs}
+use Rattle.trie_shape.specs.declared.node.Node.{Node}
+use Rattle.trie_shape.proofs.Bits.{length-digits_of}
 use Rattle.trie_shape.proofs.Counts.{has_pair}
 use Rattle.trie_shape.proofs.Finds.{found_first}
 use Rattle.trie_shape.proofs.Passing.{found_before, found_after}
+use Rattle.trie_shape.proofs.Ways.{are_tries_long}
 use Rattle.iter.specs.Subtries.{children_between, pairs_of_all}
 use Rattle.splitter.proofs.Divisions.{one_of}
 use Rattle.splitter.proofs.Rows.{Rises, digits_of_rise, rises_drop, rises_take}
@@ -60,6 +65,12 @@ module _ {K V : Type 0} (R : K → K → Ordering) (path : K → ℕ) (level : �
         subst (IsTrie R path level) (sym is) (deep, omega (arith, few, bitmap_small t b trie shown), count ∙ sym (ap length all), row, λ up. subst (HasTwoWords R path) (sym all) (two up)),
         ap entries is ∙ all,
       )
+
+  -- as many as the bitmap of their digits has
+  pub alone_long : (t : Tree K V) (b from to bits : ℕ) (ns : List (Node K V)) → IsTrie R path level t → Shows (Branch b) t → bits ≤ b → digits_of bits ≡ drop from (take to (digits_of b)) → map tree ns ≡ children_between t from to → length ns ≡ count_ones bits
+  alone_long t b from to bits ns trie shown few digits same =
+      let row = subst (λ ds. AreTries R path level ds (trees (children_between t from to))) (sym digits) (tries_between t b from to trie shown) in
+      sym (length-map ns tree) ∙ ap length same ∙ are_tries_long R path level (digits_of bits) (children_between t from to) row ∙ length-digits_of bits (omega (arith, few, bitmap_small t b trie shown))
 
   module _ (total : IsTotalOrder R) (exact : (x y : K) → R x y ≡ Equal → x ≡ y) where
     a_key : (t : Tree K V) → IsTrie R path (level + 1) t → (q : K) × (is_some (find R q (entries t)) ≡ true)

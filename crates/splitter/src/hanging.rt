@@ -25,7 +25,7 @@ pub(crate) fn above<K: Drop, V: Drop>(
     let count = size(&node);
     let mut row = Vec::with_capacity(alloc, 1)?;
     row.push(node)?;
-    make_branch(alloc, Stamp::LOOSE, count, 1 << digit, row)
+    make_branch(alloc, Stamp::LOOSE, count, 1 << digit, row.as_mut_slice())
 }
 
 /// The root of the pairs of a subtrie of two words or more: a branch of one child for each level above, by the digits

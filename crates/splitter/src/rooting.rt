@@ -52,8 +52,8 @@ impl<'a, K: PathKey + Drop, V: Drop> Spot<'a, K, V> {
     {
         trie_follows_digits::<K, V>();
         let bitmap = digits_between(self.bitmap, self.from, self.to);
-        let row = self.row(alloc)?;
-        make_branch(alloc, Stamp::LOOSE, count, bitmap, row)
+        let mut row = self.row(alloc)?;
+        make_branch(alloc, Stamp::LOOSE, count, bitmap, row.as_mut_slice())
     }
 
     /// The leaf or bucket that is the only child, where the branch is not a root's. In a root of its pairs it hangs

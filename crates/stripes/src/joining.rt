@@ -1,5 +1,6 @@
 //! The pairs of all stripes together.
-ghost use Rattle.std.specs.Prelude.{◌≡◌, ◌<◌, ◌≤◌, ◌+◌, ◌*◌, ◌^◌, IfOk, IsTrue, length};
+ghost use Rattle.std.specs.Prelude.{◌≡◌, ◌<◌, ◌≤◌, ◌+◌, ◌*◌, ◌^◌, [], IfOk, IsTrue, length, map};
+ghost use Rattle.std.specs.Sync.Mutex.{mutex_guard_value};
 ghost use Rattle.hash_path.specs.Digits.{fan_out};
 ghost use Rattle.stripes.specs.Rules.{AllKeep, first_digit};
 ghost use Rattle.stripes.specs.Stripes.{all_differ, digits_of, map_of_digit, maps_of, unions};
@@ -8,6 +9,7 @@ ghost use Rattle.versions.specs.Map.{union, value_at};
 ghost use Rattle.versions.specs.declared.version.TheConstants.{MOST_PAIRS};
 
 use crate::keeps::Keeps;
+use crate::row::Held;
 use crate::stripe::{MOST_PAIRS_OF_STRIPE, Stripe};
 use hash_path::PathKey;
 use std::alloc::Global;
@@ -15,37 +17,58 @@ use trie_node::{NoMemory, union_of_maps};
 use united_roots::RootRow;
 use versions::{MOST_PAIRS, Version, law_of_equal_maps};
 
-/// The map of the pairs of all stripes. At each key it has exactly what the stripe of the key's first digit has. Each
-/// pair keeps the rule.
+/// The map of the pairs of all stripes that are held, which are let go before its root is made. At each key it has
+/// exactly what the stripe of the key's first digit has. Each pair keeps the rule.
 ///
 /// Stripes of different digits share no subtrie below the root, so their map's root has the children of their roots:
-/// this makes one branch, however many pairs there are.
+/// this makes one branch, however many pairs there are. While the stripes are held it makes no request for memory, since
+/// `room` has it; but the clone of a handle may be refused.
 pub fn joined<K: PathKey + Drop, V: Drop, P: Keeps<K, V>>(
     alloc: Global,
-    stripes: &[Stripe<K, V, P>],
+    room: RootRow<K, V>,
+    held: Held<'_, K, V, P>,
 ) -> Result<Version<K, V>, NoMemory>
-    requires few { length stripes.now ≤ fan_out }
-    requires differ { IsTrue (all_differ (digits_of stripes.now)) }
-    ensures at_key { IfOk result (λ map. (key : K) → value_at K.cmp map.entries key ≡ value_at K.cmp (map_of_digit (first_digit K.path_of key) stripes.now) key) }
-    ensures entries { IfOk result (λ map. map.entries ≡ unions K.cmp (maps_of stripes.now)) }
-    ensures limit { IfOk result (λ map. map.limit ≡ MOST_PAIRS) }
-    ensures few { IfOk result (λ map. length map.entries ≤ length stripes.now * MOST_PAIRS_OF_STRIPE) }
-    ensures kept { IfOk result (λ map. AllKeep K.cmp P.holds map.entries) }
+    requires empty { room.entries ≡ [] }
+    requires few { length held.items ≤ fan_out }
+    requires differ { IsTrue (all_differ (digits_of (map mutex_guard_value held.items))) }
+    ensures at_key { IfOk result (λ joint. (key : K) → value_at K.cmp joint.entries key ≡ value_at K.cmp (map_of_digit (first_digit K.path_of key) (map mutex_guard_value held.entry.items)) key) }
+    ensures entries { IfOk result (λ joint. joint.entries ≡ unions K.cmp (maps_of (map mutex_guard_value held.entry.items))) }
+    ensures limit { IfOk result (λ joint. joint.limit ≡ MOST_PAIRS) }
+    ensures few { IfOk result (λ joint. length joint.entries ≤ length held.entry.items * MOST_PAIRS_OF_STRIPE) }
+    ensures kept { IfOk result (λ joint. AllKeep K.cmp P.holds joint.entries) }
+{
+    let row = children(room, &held)?;
+    drop(held);
+    map_of_row(alloc, row)
+}
+
+// The children of the roots of all stripes that are held.
+fn children<K: PathKey + Drop, V: Drop, P: Keeps<K, V>>(
+    mut row: RootRow<K, V>,
+    held: &Held<'_, K, V, P>,
+) -> Result<RootRow<K, V>, NoMemory>
+    requires empty { row.entries ≡ [] }
+    requires few { length held.now.items ≤ fan_out }
+    requires differ { IsTrue (all_differ (digits_of (map mutex_guard_value held.now.items))) }
+    ensures at_key { IfOk result (λ all. (key : K) → value_at K.cmp all.entries key ≡ value_at K.cmp (map_of_digit (first_digit K.path_of key) (map mutex_guard_value held.now.items)) key) }
+    ensures entries { IfOk result (λ all. all.entries ≡ unions K.cmp (maps_of (map mutex_guard_value held.now.items))) }
+    ensures few { IfOk result (λ all. length all.entries ≤ length held.now.items * MOST_PAIRS_OF_STRIPE) }
+    ensures kept { IfOk result (λ all. AllKeep K.cmp P.holds all.entries) }
 {
     union_of_maps::<K, V>();
     law_of_equal_maps::<K, V>();
-    let mut row = RootRow::new(alloc)?;
-    for stripe in stripes {
+    for guard in held {
+        let stripe: &Stripe<K, V, P> = &**guard;
         stripe.law();
         stripe.len();
         row.len();
         row = with_stripe(row, stripe)?;
     }
     row.len();
-    map_of_row(alloc, row)
+    Ok(row)
 }
 
-// The row once it has the stripe's pairs too. A function that drops less than `joined` would has less to prove.
+// The row once it has the stripe's pairs too. A function that drops less than `children` would has less to prove.
 fn with_stripe<K: PathKey + Drop, V: Drop, P: Keeps<K, V>>(
     mut row: RootRow<K, V>,
     stripe: &Stripe<K, V, P>,
@@ -55,7 +78,7 @@ fn with_stripe<K: PathKey + Drop, V: Drop, P: Keeps<K, V>>(
     ensures { IfOk result (λ more. more.entries ≡ union K.cmp stripe.now.entries row.entries) }
 {
     stripe.law();
-    let part = stripe.widened()?;
+    let part = stripe.whole();
     row.take(part.root(), stripe.first_digit(), part.stamp())?;
     Ok(row)
 }

@@ -8,6 +8,7 @@
 mod blank;
 mod joining;
 mod keeps;
+mod locks;
 mod row;
 mod stripe;
 

@@ -6,20 +6,24 @@ ghost use Rattle.stripes.specs.Stripes.{digits_of, up_to};
 
 use crate::blank::Blank;
 use crate::keeps::Keeps;
+use crate::locks::Locks;
 use crate::stripe::{MOST_PAIRS_OF_STRIPE, STRIPES, Stripe};
-use crossbeam_utils::CachePadded;
+use crossbeam_utils::{Backoff, CachePadded};
 use hash_path::{Path, PathKey};
 use std::alloc::Global;
 use std::sync::{Mutex, MutexGuard, Wait};
 use trie_node::NoMemory;
+
+// How often a thread that finds a lock taken tries again before it sleeps until the lock is free.
+const TRIES: u32 = 20;
 
 /// The stripes of a map, each under a lock of its own that shares no cache line with another.
 ///
 /// No lock tells which stripe it keeps, so a thread that has taken one looks.
 #[derive(Drop)]
 pub struct Row<K: PathKey, V, P: Keeps<K, V>> {
-    locks: Vec<CachePadded<Mutex<Stripe<K, V, P>>>>,
-    ghost whole: { length locks.items ≡ fan_out },
+    locks: Locks<K, V, P>,
+    ghost whole: { locks ≡ fan_out },
 }
 
 /// Stripes that are all locked.
@@ -34,14 +38,25 @@ impl<K: PathKey + Drop, V: Drop, P: Keeps<K, V>> Row<K, V, P> {
         for stripe in stripes {
             locks.push(CachePadded::new(Mutex::new(stripe)))?;
         }
-        Ok(Row { locks })
+        Ok(Row {
+            locks: Locks::new(locks),
+        })
     }
 
-    // What the lock of this place keeps.
+    // What the lock of this place keeps. A lock is mostly held for less time than a thread takes to fall asleep, so a
+    // thread that finds it taken tries again, after pauses that grow, before it sleeps.
     fn lock_at<R: Wait>(&self, rt: &R, place: u32) -> MutexGuard<'_, Stripe<K, V, P>>
         requires { place < fan_out }
     {
-        self.locks[place as usize].lock(rt)
+        let lock = &self.locks.as_slice()[place as usize];
+        let pauses = Backoff::new();
+        for _ in 0..TRIES {
+            if let Some(stripe) = lock.try_lock() {
+                return stripe;
+            }
+            pauses.snooze();
+        }
+        lock.lock(rt)
     }
 
     /// The stripe of the digit, which no other thread has until the guard is dropped.
@@ -74,6 +89,26 @@ impl<K: PathKey + Drop, V: Drop, P: Keeps<K, V>> Row<K, V, P> {
             held = pushed(held, self.locked(rt, digit))?;
         }
         Ok(held)
+    }
+
+    /// How many pairs the stripes have, each when it is locked: no two are held at once.
+    pub fn approx_len<R: Wait>(&self, rt: &R) -> u64
+        ensures { result ≤ fan_out * MOST_PAIRS_OF_STRIPE }
+    {
+        let mut pairs = 0u64;
+        for digit in 0..STRIPES {
+            pairs += self.lock_at(rt, digit).len();
+        }
+        pairs
+    }
+
+    /// How many pairs the stripes have, each when it is looked at, or none where one of them is locked. It never waits.
+    pub fn try_len(&self) -> Option<u64> {
+        let mut pairs = 0u64;
+        for lock in self.locks.as_slice() {
+            pairs = pairs.saturating_add(lock.try_lock()?.len());
+        }
+        Some(pairs)
     }
 
     /// How many pairs the stripes from the digit on have, at one moment when all of them are held.
@@ -131,14 +166,15 @@ pub fn clear_all<K: PathKey + Drop, V: Drop, P: Keeps<K, V>>(
     }
 }
 
-/// A fork of each stripe, in order.
+/// A fork of each stripe, in order. Where `copies` has room for them it makes no request for memory, but the clone of a
+/// handle may be refused.
 pub fn forks<K: PathKey + Drop, V: Drop, P: Keeps<K, V>>(
-    alloc: Global,
+    mut copies: Vec<Stripe<K, V, P>>,
     held: &Held<'_, K, V, P>,
 ) -> Result<Vec<Stripe<K, V, P>>, NoMemory>
+    requires { copies.items ≡ [] }
     ensures { IfOk result (λ stripes. stripes.items ≡ map mutex_guard_value held.now.items) }
 {
-    let mut copies = Vec::with_capacity(alloc, held.len())?;
     for stripe in held {
         copies.push(stripe.fork()?)?;
     }

@@ -8,10 +8,11 @@ ghost use Rattle.versions.specs.Puts.{FullExactly};
 ghost use Rattle.versions.specs.declared.version.TheConstants.{MOST_PAIRS};
 
 mod deciding;
+mod reading;
 
 use crate::blank::Blank;
 use crate::keeps::{Anything, Keeps};
-use hash_path::{FAN_OUT, Path, PathKey};
+use hash_path::{FAN_OUT, Path, PathKey, Sought};
 use std::alloc::Global;
 use std::marker::{Model, PhantomData};
 use std::sync::Arc;
@@ -66,11 +67,11 @@ impl<K: PathKey + Drop, V: Drop, P: Keeps<K, V>> Stripe<K, V, P> {
     }
 
     /// The value of the key, or none.
-    pub fn get(&self, key: &K, path: Path) -> Option<&Arc<V>>
-        requires path { path.0 ≡ K.path_of key.now }
-        requires place { digit_of K.path_of key.now ≡ self.now.digit }
-        ensures value { option_map (λ value. value.now.value) result ≡ value_at K.cmp self.now.entries key.now }
-        ensures kept { IfSome result (λ value. P.holds key.now value.now.value) }
+    pub fn get<Q: Sought<K>>(&self, key: Q, path: Path) -> Option<&Arc<V>>
+        requires path { path.0 ≡ K.path_of (Q.key_of key) }
+        requires place { digit_of K.path_of (Q.key_of key) ≡ self.now.digit }
+        ensures value { option_map (λ value. value.now.value) result ≡ value_at K.cmp self.now.entries (Q.key_of key) }
+        ensures kept { IfSome result (λ value. P.holds (Q.key_of key) value.now.value) }
     {
         self.version.get_along(key, path)
     }
@@ -207,14 +208,11 @@ impl<K: PathKey + Drop, V: Drop, P: Keeps<K, V>> Stripe<K, V, P> {
         })
     }
 
-    /// The stripe's pairs as a map that may hold those of all stripes. It makes no request for memory, but the clone
-    /// of a handle may be refused.
-    pub fn widened(&self) -> Result<Version<K, V>, NoMemory>
-        ensures entries { IfOk result (λ map. map.entries ≡ self.now.entries) }
-        ensures limit { IfOk result (λ map. map.limit ≡ MOST_PAIRS) }
+    /// The map that it keeps.
+    pub(crate) fn whole(&self) -> &Version<K, V>
+        ensures { result.now.entries ≡ self.now.entries }
     {
-        self.len();
-        shared(&self.version, MOST_PAIRS)
+        &self.version
     }
 }
 

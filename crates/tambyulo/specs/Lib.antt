@@ -1,9 +1,10 @@
 pub use Rattle.hash_path.specs.Fnv
 pub use Rattle.bulk_ops.specs.Answers
+pub use Rattle.trie_map.specs.Iterables
 pub use Rattle.trie_map.specs.Map
 pub use Rattle.trie_map.specs.Meanings
 pub use Rattle.trie_map.specs.Queries
 pub use Rattle.trie_map.specs.Questions
 pub use Rattle.trie_map.specs.Rules
 pub use Rattle.trie_map.specs.Told
-pub mod Clients
+pub use Rattle.trie_map.specs.Updates

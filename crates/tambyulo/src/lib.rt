@@ -1,13 +1,13 @@
-//! One name for what a service uses: the map that threads share, its views, and what they are asked; and in `clients`
-//! a table of maps under one lock, with its journal.
+//! One name for what a service uses: the map that threads share, its views, and what they are asked.
+//!
+//! Whoever uses the table of maps under one lock, with its journal, takes `tambyulo_clients`.
 #![tactic(auto)]
 
-pub mod clients;
 mod test;
 #[cfg(test)]
 mod tests;
 
-pub use hash_path::Path;
+pub use hash_path::{Path, Sought};
 pub use test::{Passes, Tested, test_by};
 pub use trie_map::{
     Answer, Anything, Asks, Both, ByteText, Crew, Greatest, ImageFn, Keeps, Keys, Least,

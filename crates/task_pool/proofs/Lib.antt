@@ -1,5 +1,7 @@
 pub mod Covering
-pub mod Trays
+pub mod Partials
 pub mod Halving
 pub mod Reporting
+pub mod Places
+pub mod Balances
 pub mod Crossing

@@ -1,6 +1,7 @@
 -- How a report is put together.
-use Rattle.std.proofs.Common.{◌≡◌, ℕ, ◌+◌, ◌⊎◌, List, [], ◌∷◌, ◌++◌, length, map, sym, ap, subst, ◌∙◌, length-append}
-use Rattle.std.proofs.lemmas.List.{map-append, length-map}
+use Rattle.std.proofs.Common.{◌≡◌, ℕ, ◌+◌, ◌-◌, ◌≤◌, ◌⊎◌, List, [], ◌∷◌, ◌++◌, length, map, sym, ap, subst, ◌∙◌, length-append, arith}
+use Rattle.std.proofs.lemmas.List.{append-nil, map-append, length-map}
+use Rattle.std.proofs.lemmas.List.Concat.{flat_map-append}
 use Rattle.trie_shape.specs.Map.{Map}
 use Rattle.iter.specs.declared.interval.Interval.{Interval}
 use Rattle.iter.specs.Intervals.{AreApart, Tile, parts, whole}
@@ -18,12 +19,20 @@ counted f ls ms l n e is = length-map ms f ∙ ap length e ∙ length-append ls 
 
 -- the report of what was worked
 pub made : {K V P : Type 0} (path : K → ℕ) (answers : Map K V → P → Type 0) (decides : Map K V → Type 0) (m : Map K V) (grain workers : ℕ) (part : P) (lists : List (List Interval)) (all : List Interval)
-    → all_of lists ≡ all → length lists ≡ workers + 1 → answers m part → AreApart all → Uncut path m grain all → Tile all whole ⊎ decides (parts path m all)
+    → all_of lists ≡ all → length lists ≡ workers + 1 → answers m part → AreApart all → Uncut path m grain all → Tile all whole ⊎ (decides (parts path m all) × decides m)
     → IsReport path answers decides m grain workers part lists
 made path answers decides m grain workers part lists all is count has apart uncut ended = record {
   answered = has;
   count = count;
   apart = subst AreApart (sym is) apart;
   uncut = subst (Uncut path m grain) (sym is) uncut;
-  ended = subst (λ xs. Tile xs whole ⊎ decides (parts path m xs)) (sym is) ended;
+  ended = subst (λ xs. Tile xs whole ⊎ (decides (parts path m xs) × decides m)) (sym is) ended;
 }
+
+-- lists of nothing behind them, for those that never began
+pub padded : {X : Type 0} (f : X → List Interval) (ls rs ms : List X) (ts : List (List Interval)) → ms ≡ ls ++ rs → map f ls ≡ ts → all_of (map f rs) ≡ [] → all_of (map f ms) ≡ all_of ts
+padded f ls rs ms ts e is none =
+    ap (λ xs. all_of (map f xs)) e ∙ ap all_of (map-append f ls rs) ∙ flat_map-append (λ x. x) (map f ls) (map f rs) ∙ (λ k. all_of (is k) ++ none k) ∙ append-nil (all_of ts)
+
+pub as_many : {X : Type 0} (f : X → List Interval) (ls rs ms : List X) (ts : List (List Interval)) (n : ℕ) → ms ≡ ls ++ rs → map f ls ≡ ts → length rs ≡ n - length ts → length ts ≤ n → length ms ≡ n
+as_many f ls rs ms ts n e is rest few = omega (arith, ap length e, length-append ls rs, length-map ls f, ap length is)

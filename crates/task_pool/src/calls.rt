@@ -1,24 +1,29 @@
 //! The call of a crew.
-ghost use Rattle.std.specs.Prelude.{◌≡◌, ◌≤◌, [], IfOk, IfSome, Some, length, map, vec_len};
+ghost use Rattle.std.specs.Prelude.{◌≡◌, ◌+◌, ◌<◌, ◌≤◌, ◌++◌, [], ℕ, IfOk, Some, length, map, slice_index_or};
+ghost use Rattle.std.specs.List.{sum_by};
+ghost use Rattle.iter.specs.Intervals.{Tile, cover, whole};
+ghost use Rattle.ruled_deques.specs.Counts.{IsOpened};
+ghost use Rattle.ruled_deques.specs.EndsView.{given};
 ghost use Rattle.task_pool.specs.Reports.{IsReport, all_of};
 
-use crate::alone::{finish_alone, finish_rest};
-use crate::context::Orders;
 use crate::crew::Crew;
 use crate::gate::Gate;
-use crate::gather::{Gathered, gather, summed};
-use crate::hands::hands_of;
+use crate::gather::{Gathered, gather, merge_all};
+use crate::jobs::make_workers;
+use crate::partial::{OfBulk, Partial};
 use crate::report::Report;
+use crate::sequential::{work_alone, work_leftovers};
+use crate::shared::Shared;
 use crate::task::{OfView, Task};
-use crate::threads::run_all;
-use crate::toil::Toil;
-use crate::tray::{OfBulk, Tray};
+use crate::threads::run_workers;
 use combiner::Bulk;
 use hash_path::PathKey;
 use iter::Interval;
+use ruled_deques::{Deques, Owner, open_all, share_out};
 use splitter::whole;
 use std::alloc::Global;
 use std::marker::Brand;
+use std::snapshot::Snapshot;
 use std::sync::Wait;
 use std::thread::Threads;
 use trie_node::NoMemory;
@@ -47,11 +52,11 @@ where
     requires ready { B.ready bulk.now }
     ensures { IfOk result (λ report. IsReport K.path_of (B.answers bulk.now) (B.decides bulk.now) view.now crew.grain crew.workers report.part (map (λ list. list.items) report.lists.items)) }
 {
-    hired::<Brand, K, V, B, G, R>(rt, alloc, view, bulk, crew, gate)
+    run_branded::<Brand, K, V, B, G, R>(rt, alloc, view, bulk, crew, gate)
 }
 
 // The call under the names of its map and of its operation.
-fn hired<C, K, V, B, G, R>(
+fn run_branded<C, K, V, B, G, R>(
     rt: &R,
     alloc: Global,
     view: &View<K, V>,
@@ -67,6 +72,7 @@ where
     B::Part: Send,
     G: Gate + Sync,
     R: Threads + Wait + Sync,
+    requires least_workers { 1 ≤ crew.workers }
     requires workers { crew.workers ≤ 16 }
     requires least_grain { 1 ≤ crew.grain }
     requires grain { crew.grain ≡ C.grain }
@@ -76,110 +82,101 @@ where
     ensures { IfOk result (λ report. IsReport K.path_of (B.answers bulk.now) (B.decides bulk.now) C.map C.grain crew.workers report.part (map (λ list. list.items) report.lists.items)) }
 {
     let pairs = view.len();
-    let orders = Orders::new(alloc, crew, pairs, gate);
+    let shared = Shared::new(alloc, crew, pairs, gate);
     if pairs <= crew.grain {
-        return anew::<C, K, V, B, G>(&orders, view, bulk, crew.workers);
+        return run_sequential::<C, K, V, B, G>(&shared, view, bulk, crew.workers);
     }
-    let Some(toils) = toils_of::<C, K, V, B>(alloc, view, bulk, crew.workers)? else {
-        return anew::<C, K, V, B, G>(&orders, view, bulk, crew.workers);
-    };
-    let done = run_all(rt, &orders, toils)?;
-    let gathered = gather(alloc, done)?;
-    match put_together(&orders, view, bulk, crew.workers, gathered)? {
-        Some(report) => Ok(report),
-        None => anew::<C, K, V, B, G>(&orders, view, bulk, crew.workers),
-    }
+    let task = Task::<C, K, V>::new(whole(alloc, view.try_clone()?));
+    let first = Snapshot::of(&task);
+    let owners = open_all(alloc, task, shared.started as usize)?;
+    let gathered = run_parallel::<C, K, V, B, Brand, G, R>(
+        rt, &shared, view, bulk, owners, &first,
+    )?;
+    make_report(&shared, view, bulk, crew.workers, gathered)
 }
 
-// The workers, in their order. The whole view waits for the first; none where there is no memory for that.
-fn toils_of<'a, C, K, V, B>(
-    alloc: Global,
+// What the workers have worked of what their first deque was given, and what is left over.
+fn run_parallel<'a, C, K, V, B, D, G, R>(
+    rt: &R,
+    shared: &Shared<'_, G>,
     view: &View<K, V>,
     bulk: &'a B,
-    workers: u32,
-) -> Result<Option<Vec<Toil<'a, C, K, V, B>>>, NoMemory>
+    owners: Vec<Owner<Task<C, K, V>>>,
+    first: &Snapshot<Task<C, K, V>>,
+) -> Result<Gathered<'a, C, K, V, B>, NoMemory>
 where
-    C: OfView<K, V> + OfBulk<B>,
-    K: PathKey + Drop,
-    V: Drop,
-    B: Bulk<K, V>,
+    C: OfView<K, V> + OfBulk<B> + Send + Sync,
+    K: PathKey + Drop + Send + Sync,
+    V: Drop + Send + Sync,
+    B: Bulk<K, V> + Sync,
+    B::Part: Send,
+    D: Deques + Send + Sync,
+    G: Gate + Sync,
+    R: Threads + Wait + Sync,
+    requires grain { shared.now.grain ≡ C.grain }
     requires view { view.now ≡ C.map }
     requires bulk { Some bulk.now ≡ C.bulk }
     requires ready { B.ready bulk.now }
-    ensures { IfOk result (λ toils. IfSome toils (λ all. vec_len all ≡ workers)) }
+    requires first { first.now.value ≡ whole }
+    requires count { (length owners.items ≡ D.count) × (0 < D.count) × (D.count ≤ 16) }
+    requires each { (i : ℕ) (d : _) → i < length owners.items → IsOpened (D.deque i) (given whole i) (slice_index_or owners.items i d) }
+    ensures len { IfOk result (λ r. length r.partials.items ≡ length owners.items) }
+    ensures balance { IfOk result (λ r. (p : ℕ) → cover (given whole 0) p ≡ sum_by (λ t. cover t p) r.partials.items + cover r.leftover.items p) }
 {
-    let Some(all_hands) = hands_of::<C, K, V>(alloc, view, workers)? else {
-        return Ok(None);
-    };
-    let mut toils = Vec::new(alloc);
-    let mut number = 0u32;
-    for hands in all_hands {
-        toils.push(Toil {
-            number,
-            hands,
-            tray: Tray::new(alloc, view, bulk)?,
-            left: Vec::new(alloc),
-        })?;
-        number = number.saturating_add(1);
-    }
-    Ok(Some(toils))
+    let all = share_out::<Task<C, K, V>, D>(shared.alloc, owners, first)?;
+    let workers = make_workers(shared.alloc, view, bulk, all)?;
+    let done = run_workers(rt, shared, workers)?;
+    gather(shared.alloc, done)
 }
 
-// The report of what the workers have worked and of what the caller works of the rest. None where that does not tile.
-fn put_together<'a, C, K, V, B, G>(
-    orders: &Orders<'_, G>,
+// The report of what the workers have worked, and of what the caller works of the rest.
+fn make_report<'a, C, K, V, B, G>(
+    shared: &Shared<'_, G>,
     view: &View<K, V>,
     bulk: &'a B,
     workers: u32,
     gathered: Gathered<'a, C, K, V, B>,
-) -> Result<Option<Report<B::Part>>, NoMemory>
+) -> Result<Report<B::Part>, NoMemory>
 where
     C: OfView<K, V> + OfBulk<B>,
     K: PathKey + Drop,
     V: Drop,
     B: Bulk<K, V>,
     G: Gate,
-    requires grain { orders.now.grain ≡ C.grain }
+    requires grain { shared.now.grain ≡ C.grain }
     requires view { view.now ≡ C.map }
     requires bulk { Some bulk.now ≡ C.bulk }
     requires ready { B.ready bulk.now }
-    requires trays { vec_len gathered.trays ≡ workers }
-    ensures { IfOk result (λ made. IfSome made (λ report. IsReport K.path_of (B.answers bulk.now) (B.decides bulk.now) C.map C.grain workers report.part (map (λ list. list.items) report.lists.items))) }
+    requires partials { length gathered.partials.items ≤ workers }
+    requires tile { Tile (all_of gathered.partials.items ++ gathered.leftover.items) whole }
+    ensures { IfOk result (λ report. IsReport K.path_of (B.answers bulk.now) (B.decides bulk.now) C.map C.grain workers report.part (map (λ list. list.items) report.lists.items)) }
 {
-    let alloc = orders.alloc;
-    let Gathered { trays, left } = gathered;
-    let Some((all, mut lists)) = summed(alloc, view, bulk, trays)? else {
-        return Ok(None);
-    };
+    let alloc = shared.alloc;
+    let Gathered { partials, leftover } = gathered;
+    let mut rest = empty_lists(alloc, (workers as usize).saturating_sub(partials.len()))?;
+    let (all, mut lists) = merge_all(alloc, view, bulk, partials)?;
+    lists.append(&mut rest)?;
     all.law();
     let all = match all.settled_part() {
         Ok(part) => {
             lists.push(Vec::new(alloc))?;
-            return Ok(Some(Report { part, lists }));
+            return Ok(Report { part, lists });
         }
         Err(all) => all,
     };
-    let mine = Tray::new(alloc, view, bulk)?;
-    let Some(mine) = finish_rest(orders, mine, workers, left)? else {
-        return Ok(None);
-    };
-    if !all.is_apart_from(&mine) {
-        return Ok(None);
-    }
+    let mine = Partial::new(alloc, view, bulk)?;
+    let mine = work_leftovers(shared, mine, workers, leftover)?;
     let list = mine.list(alloc)?;
     lists.push(list)?;
-    let all = all.take_in(alloc, mine)?;
-    if !all.is_whole(alloc)? {
-        return Ok(None);
-    }
+    let all = all.merge(alloc, mine)?;
     all.law();
     let part = all.whole_part();
-    Ok(Some(Report { part, lists }))
+    Ok(Report { part, lists })
 }
 
-// The report of a caller that works all alone.
-fn anew<C, K, V, B, G>(
-    orders: &Orders<'_, G>,
+// The report of a caller that works alone.
+fn run_sequential<C, K, V, B, G>(
+    shared: &Shared<'_, G>,
     view: &View<K, V>,
     bulk: &B,
     workers: u32,
@@ -190,18 +187,18 @@ where
     V: Drop,
     B: Bulk<K, V>,
     G: Gate,
-    requires grain { orders.now.grain ≡ C.grain }
+    requires grain { shared.now.grain ≡ C.grain }
     requires view { view.now ≡ C.map }
     requires bulk { Some bulk.now ≡ C.bulk }
     requires ready { B.ready bulk.now }
     ensures { IfOk result (λ report. IsReport K.path_of (B.answers bulk.now) (B.decides bulk.now) C.map C.grain workers report.part (map (λ list. list.items) report.lists.items)) }
 {
-    let alloc = orders.alloc;
-    let mut lists = empty_lists(alloc, workers)?;
-    let tray = Tray::<C, K, V, B>::new(alloc, view, bulk)?;
-    let all = finish_alone(
-        orders,
-        tray,
+    let alloc = shared.alloc;
+    let mut lists = empty_lists(alloc, workers as usize)?;
+    let partial = Partial::<C, K, V, B>::new(alloc, view, bulk)?;
+    let all = work_alone(
+        shared,
+        partial,
         workers,
         Task::new(whole(alloc, view.try_clone()?)),
     )?;
@@ -212,7 +209,7 @@ where
     Ok(Report { part, lists })
 }
 
-fn empty_lists(alloc: Global, count: u32) -> Result<Vec<Vec<Interval>>, NoMemory>
+fn empty_lists(alloc: Global, count: usize) -> Result<Vec<Vec<Interval>>, NoMemory>
     ensures none { IfOk result (λ lists. all_of (map (λ list. list.items) lists.items) ≡ []) }
     ensures len { IfOk result (λ lists. length lists.items ≡ count) }
 {

@@ -1,74 +1,106 @@
-//! What the caller makes of the workers that have ended.
-ghost use Rattle.std.specs.Prelude.{◌≡◌, ◌+◌, IfOk, IfSome, Some, length, map, vec_len};
+//! What the caller gathers from workers that have ended.
+ghost use Rattle.std.specs.Prelude.{◌≡◌, ◌+◌, ◌<◌, ℕ, IfOk, Some, length, map, slice_index_or};
+ghost use Rattle.std.specs.List.{sum_by};
+ghost use Rattle.iter.specs.Intervals.{AreApart, cover, whole};
+ghost use Rattle.ruled_deques.specs.EndsView.{given};
 ghost use Rattle.task_pool.specs.Reports.{all_of};
 
-use crate::hands::Hands;
+use crate::partial::{OfBulk, Partial};
 use crate::task::{OfView, Task};
-use crate::toil::Toil;
-use crate::tray::{OfBulk, Tray};
+use crate::worker::{IdleWorker, WorkerState};
 use combiner::Bulk;
 use hash_path::PathKey;
 use iter::Interval;
+use ruled_deques::{Deques, WorkerEnds, close};
 use std::alloc::Global;
 use trie_node::NoMemory;
 use versions::View;
 
-/// What each worker has worked, and the pieces that are left.
+/// The partial result of each worker, and the pieces that are left over.
 #[derive(Drop)]
 pub struct Gathered<'a, C: OfView<K, V> + OfBulk<B>, K: PathKey, V, B: Bulk<K, V>> {
-    pub trays: Vec<Tray<'a, C, K, V, B>>,
-    pub left: Vec<Task<C, K, V>>,
+    pub partials: Vec<Partial<'a, C, K, V, B>>,
+    pub leftover: Vec<Task<C, K, V>>,
 }
 
-/// Takes the workers apart, and takes what waits in their deques.
-pub fn gather<'a, C, K, V, B>(
+// The workers by their fields.
+#[derive(Drop)]
+struct Parted<'a, C: OfView<K, V> + OfBulk<B>, K: PathKey, V, B: Bulk<K, V>, D: Deques> {
+    ends: Vec<WorkerEnds<Task<C, K, V>, D>>,
+    partials: Vec<Partial<'a, C, K, V, B>>,
+    leftover: Vec<Task<C, K, V>>,
+}
+
+// Takes the workers apart, and adds their balances.
+fn part_all<'a, C, K, V, B, D>(
     alloc: Global,
-    toils: Vec<Toil<'a, C, K, V, B>>,
+    done: Vec<Result<IdleWorker<'a, C, K, V, B, D>, NoMemory>>,
+) -> Result<Parted<'a, C, K, V, B, D>, NoMemory>
+where
+    C: OfView<K, V> + OfBulk<B>,
+    K: PathKey + Drop,
+    V: Drop,
+    B: Bulk<K, V>,
+    D: Deques,
+    requires { (i : ℕ) (d : _) → i < length done.items → IfOk (slice_index_or done.items i d) (λ w. w.state.ends.place ≡ i) }
+    ensures len { IfOk result (λ r. (length r.ends.items ≡ length done.entry.items) × (length r.partials.items ≡ length done.entry.items)) }
+    ensures places { IfOk result (λ r. (i : ℕ) (d : _) → i < length r.ends.items → (slice_index_or r.ends.items i d).place ≡ i) }
+    ensures balance { IfOk result (λ r. (p : ℕ) → sum_by (λ e. cover (given whole e.place) p) r.ends.items + sum_by (λ e. cover e.taken p) r.ends.items ≡ sum_by (λ t. cover t p) r.partials.items + sum_by (λ e. cover e.pushed p) r.ends.items + cover r.leftover.items p) }
+{
+    let mut all = Vec::new(alloc);
+    let mut partials = Vec::new(alloc);
+    let mut leftover = Vec::new(alloc);
+    for one in done {
+        let IdleWorker { state } = one?;
+        let WorkerState {
+            ends,
+            partial,
+            leftover: mut rest,
+        } = state;
+        all.push(ends)?;
+        partials.push(partial)?;
+        leftover.append(&mut rest)?;
+    }
+    Ok(Parted {
+        ends: all,
+        partials,
+        leftover,
+    })
+}
+
+/// Closes the deques: what was given is what was worked and what is left over, each position as often.
+pub fn gather<'a, C, K, V, B, D>(
+    alloc: Global,
+    done: Vec<Result<IdleWorker<'a, C, K, V, B, D>, NoMemory>>,
 ) -> Result<Gathered<'a, C, K, V, B>, NoMemory>
 where
     C: OfView<K, V> + OfBulk<B>,
     K: PathKey + Drop,
     V: Drop,
     B: Bulk<K, V>,
-    ensures { IfOk result (λ gathered. vec_len gathered.trays ≡ vec_len toils.entry) }
+    D: Deques,
+    requires count { (length done.items ≡ D.count) × (0 < D.count) }
+    requires places { (i : ℕ) (d : _) → i < length done.items → IfOk (slice_index_or done.items i d) (λ w. w.state.ends.place ≡ i) }
+    ensures len { IfOk result (λ r. length r.partials.items ≡ length done.entry.items) }
+    ensures balance { IfOk result (λ r. (p : ℕ) → cover (given whole 0) p ≡ sum_by (λ t. cover t p) r.partials.items + cover r.leftover.items p) }
 {
-    let mut trays = Vec::new(alloc);
-    let mut left = Vec::new(alloc);
-    for toil in toils {
-        let Toil {
-            number: _,
-            mut hands,
-            tray,
-            left: mut also,
-        } = toil;
-        trays.push(tray)?;
-        left.append(&mut also)?;
-        drain(&mut hands, &mut left)?;
-    }
-    Ok(Gathered { trays, left })
+    let Parted {
+        ends,
+        partials,
+        mut leftover,
+    } = part_all(alloc, done)?;
+    let mut rest = close(alloc, ends)?;
+    leftover.append(&mut rest)?;
+    Ok(Gathered { partials, leftover })
 }
 
-// Takes what waits in the own deque.
-fn drain<C: OfView<K, V>, K: PathKey + Drop, V: Drop>(
-    hands: &mut Hands<C, K, V>,
-    left: &mut Vec<Task<C, K, V>>,
-) -> Result<(), NoMemory> {
-    for _ in 0..u64::MAX {
-        match hands.own.pop() {
-            Some(task) => left.push(task)?,
-            None => break,
-        }
-    }
-    Ok(())
-}
-
-/// All that was worked, and the list of each worker. None where two workers have worked one position.
-pub fn summed<'a, C, K, V, B>(
+/// All that was worked, and the list of each worker.
+pub fn merge_all<'a, C, K, V, B>(
     alloc: Global,
     view: &View<K, V>,
     bulk: &'a B,
-    trays: Vec<Tray<'a, C, K, V, B>>,
-) -> Result<Option<(Tray<'a, C, K, V, B>, Vec<Vec<Interval>>)>, NoMemory>
+    partials: Vec<Partial<'a, C, K, V, B>>,
+) -> Result<(Partial<'a, C, K, V, B>, Vec<Vec<Interval>>), NoMemory>
 where
     C: OfView<K, V> + OfBulk<B>,
     K: PathKey + Drop,
@@ -77,18 +109,16 @@ where
     requires view { view.now ≡ C.map }
     requires bulk { Some bulk.now ≡ C.bulk }
     requires ready { B.ready bulk.now }
-    ensures all { IfOk result (λ sum. IfSome sum (λ both. all_of (map (λ list. list.items) both.1.items) ≡ both.0)) }
-    ensures len { IfOk result (λ sum. IfSome sum (λ both. length both.1.items ≡ vec_len trays.entry)) }
+    requires apart { AreApart (all_of partials.items) }
+    ensures all { IfOk result (λ both. both.0 ≡ all_of partials.entry.items) }
+    ensures lists { IfOk result (λ both. map (λ list. list.items) both.1.items ≡ partials.entry.items) }
 {
-    let mut all = Tray::new(alloc, view, bulk)?;
+    let mut all = Partial::new(alloc, view, bulk)?;
     let mut lists = Vec::new(alloc);
-    for tray in trays {
-        if !all.is_apart_from(&tray) {
-            return Ok(None);
-        }
-        let list = tray.list(alloc)?;
+    for partial in partials {
+        let list = partial.list(alloc)?;
         lists.push(list)?;
-        all = all.take_in(alloc, tray)?;
+        all = all.merge(alloc, partial)?;
     }
-    Ok(Some((all, lists)))
+    Ok((all, lists))
 }

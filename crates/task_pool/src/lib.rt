@@ -1,20 +1,20 @@
 //! Crews of threads that work an operation over a view.
 #![tactic(auto)]
 
-mod alone;
 mod asking;
 mod calls;
-mod context;
 mod crew;
 mod gate;
 mod gather;
-mod hands;
+mod jobs;
+mod partial;
 mod report;
 mod runs;
+mod sequential;
+mod shared;
 mod task;
 mod threads;
-mod toil;
-mod tray;
+mod worker;
 
 pub use asking::ask_crew;
 pub use calls::run_crew;

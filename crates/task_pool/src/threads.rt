@@ -1,97 +1,83 @@
 //! The threads of a crew.
-ghost use Rattle.std.specs.Prelude.{◌≡◌, IfOk, vec_len};
+ghost use Rattle.std.specs.Prelude.{◌≡◌, ◌<◌, ℕ, IfOk, length, slice_index_or};
 
-use crate::context::Orders;
 use crate::gate::Gate;
-use crate::task::OfView;
-use crate::toil::{Toil, labour};
-use crate::tray::OfBulk;
+use crate::partial::OfBulk;
+use crate::shared::Shared;
+use crate::task::{OfView, Task};
+use crate::worker::IdleWorker;
 use combiner::Bulk;
 use hash_path::PathKey;
-use std::mem::replace;
+use ruled_deques::Deques;
+use sized_threads::{Work, map_vec};
+use std::marker::PhantomData;
 use std::sync::Wait;
-use std::thread;
-use std::thread::{Scope, Threads};
+use std::thread::Threads;
 use trie_node::NoMemory;
 
-// A worker that has yet to begin or has ended, or what it failed by.
-type Came<'a, C, K, V, B> = Result<Toil<'a, C, K, V, B>, NoMemory>;
+// The stack of a worker's thread, in bytes: that of a client's thread, on which a crew's first worker runs where a client
+// asks a crew.
+const WORKER_STACK: usize = 512 * 1024;
 
-/// Runs workers in threads of their own, and gives all of them, in their order, once these threads have ended. One
-/// that is not started, or whose thread cannot be made, is given back as it is.
-pub fn run_all<'a, C, K, V, B, G, R>(
+// Runs a worker, by whichever thread.
+#[derive(Drop)]
+struct RunWorker<'s, 'g, 'a, C, K, V, B, D, G> {
+    shared: &'s Shared<'g, G>,
+    crew: PhantomData<(&'a B, C, K, V, D)>,
+}
+
+impl<'a, C, K, V, B, D, G> Work for RunWorker<'_, '_, 'a, C, K, V, B, D, G>
+where
+    C: OfView<K, V> + OfBulk<B>,
+    K: PathKey + Drop,
+    V: Drop,
+    B: Bulk<K, V>,
+    D: Deques,
+    G: Gate,
+{
+    type Job = IdleWorker<'a, C, K, V, B, D>;
+
+    type Out = Result<IdleWorker<'a, C, K, V, B, D>, NoMemory>;
+
+    ghost needs = { λ w _. w.shared.now.grain ≡ C.grain };
+
+    ghost gives = { λ _ job result. IfOk result (λ done. done.state.ends.place ≡ job.state.ends.place) };
+
+    fn run(
+        &self,
+        job: IdleWorker<'a, C, K, V, B, D>,
+    ) -> Result<IdleWorker<'a, C, K, V, B, D>, NoMemory> {
+        job.run(self.shared)
+    }
+}
+
+/// Runs each worker, and returns all of them in their order.
+///
+/// The first runs on the caller's thread, and each other on a thread of its own. A worker whose thread cannot be started
+/// is run by the caller's thread too, after those before it.
+pub fn run_workers<'a, C, K, V, B, D, G, R>(
     rt: &R,
-    orders: &Orders<'_, G>,
-    toils: Vec<Toil<'a, C, K, V, B>>,
-) -> Result<Vec<Toil<'a, C, K, V, B>>, NoMemory>
+    shared: &Shared<'_, G>,
+    workers: Vec<IdleWorker<'a, C, K, V, B, D>>,
+) -> Result<Vec<Result<IdleWorker<'a, C, K, V, B, D>, NoMemory>>, NoMemory>
 where
     C: OfView<K, V> + OfBulk<B> + Send + Sync,
     K: PathKey + Drop + Send + Sync,
     V: Drop + Send + Sync,
     B: Bulk<K, V> + Sync,
     B::Part: Send,
+    D: Deques + Send + Sync,
     G: Gate + Sync,
     R: Threads + Wait + Sync,
-    requires { orders.now.grain ≡ C.grain }
-    ensures { IfOk result (λ done. vec_len done ≡ vec_len toils.entry) }
+    requires grain { shared.now.grain ≡ C.grain }
+    requires places { (i : ℕ) (d : _) → i < length workers.items → (slice_index_or workers.items i d).state.ends.place ≡ i }
+    ensures len { IfOk result (λ done. length done.items ≡ length workers.entry.items) }
+    ensures each { IfOk result (λ done. (i : ℕ) (d : _) → i < length done.items → IfOk (slice_index_or done.items i d) (λ w. w.state.ends.place ≡ i)) }
 {
-    let mut all = Vec::new(orders.alloc);
-    for toil in toils {
-        let Ok(()) = all.push(Ok(toil)) else {
-            return Err(NoMemory);
-        };
-    }
-    let seats = all.as_mut_slice();
-    thread::scope(
-        thread::scope_env(),
-        rt,
-        move |scope|
-            requires { orders.now.grain ≡ C.grain }
-        { start_all(scope, orders, seats) },
-    );
-    let mut done = Vec::new(orders.alloc);
-    for came in all {
-        done.push(came?)?;
-    }
+    let run = RunWorker {
+        shared,
+        crew: PhantomData,
+    };
+    let done = map_vec(rt, shared.alloc, WORKER_STACK, workers, &run)?;
     Ok(done)
-}
-
-// Starts the first workers, as many as the orders say.
-fn start_all<'s, 'a: 's, 'g: 's, C, K, V, B, G, E>(
-    scope: &Scope<'s, E>,
-    orders: &'s Orders<'g, G>,
-    toils: &'s mut [Came<'a, C, K, V, B>],
-)
-where
-    C: OfView<K, V> + OfBulk<B> + Send + Sync + 's,
-    K: PathKey + Drop + Send + Sync + 's,
-    V: Drop + Send + Sync + 's,
-    B: Bulk<K, V> + Sync + 's,
-    B::Part: Send + 's,
-    G: Gate + Sync + 's,
-    requires { orders.now.grain ≡ C.grain }
-{
-    let mut started = 0u32;
-    let each = toils.iter_mut();
-    for toil in each {
-        if started < orders.starts {
-            let _ = scope.spawn(move || turn(orders, toil));
-            started += 1;
-        }
-    }
-}
-
-// The work of one worker, from where it stands.
-fn turn<'a, C, K, V, B, G>(orders: &Orders<'_, G>, toil: &mut Came<'a, C, K, V, B>)
-where
-    C: OfView<K, V> + OfBulk<B>,
-    K: PathKey + Drop,
-    V: Drop,
-    B: Bulk<K, V>,
-    G: Gate,
-    requires { orders.now.grain ≡ C.grain }
-{
-    if let Ok(ready) = replace(toil, Err(NoMemory)) {
-        *toil = labour(orders, ready);
-    }
 }

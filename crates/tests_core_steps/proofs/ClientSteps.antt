@@ -28,10 +28,6 @@ module _ {K V Q I : Type 0} (R : K → K → Ordering) (E : V → V → Bool) (t
   told_step : (s t : CoreState K V Q) (x : Asked K V Q) (y z : Told K V (plain.Told K V I)) → y ≡ z → CoreStep (asked R E target answered) division s x y t → CoreStep (asked R E target answered) division s x z t
   told_step s t x y z e step = subst (λ (w : Told K V (plain.Told K V I)). CoreStep (asked R E target answered) division s x w t) e step
 
-  -- a run leaves each number to its job
-  pub run_leaves : (s t : CoreState K V Q) (xs : List (Asked K V Q)) (os : List (Outcome K V I)) → Ran (asked R E target answered) division s xs os t → NumbersStay s.machine t.machine
-  run_leaves s t xs os ran j job is = run_keeps (asked R E target answered) s.machine t.machine (client_requests xs) (client_outcomes ran.steps.told) j job ran.machine is
-
 -- the number of a reply that counts
 abbrev count_in : {V : Type 0} → commands.Reply V → ℕ
 count_in (commands.count n) = n
@@ -40,6 +36,10 @@ count_in (commands.done b) = 0
 count_in commands.cleared = 0
 
 module _ {K V Q P I : Type 0} (R : K → K → Ordering) (E : V → V → Bool) (target : Q → Option ℕ) (answered : Q → Map K V → plain.Answer K V I → Type 0) (division : Division K V Q) where
+  -- a run leaves each number to its job
+  pub run_leaves : (s t : CoreValue K V Q P) (xs : List (Asked K V Q)) (os : List (Outcome K V I)) → Ran (asked R E target answered) division s xs os t → NumbersStay s.state.machine t.state.machine
+  run_leaves s t xs os ran j job is = run_keeps (asked R E target answered) s.state.machine t.state.machine (client_requests xs) (client_outcomes ran.steps.told) j job ran.machine is
+
   -- the number that a freeze is told is its job's
   pub freeze_told : (s t : CoreValue K V Q P) (h : ℕ) (q : Q) (j : ℕ) (o : Outcome K V I) → o ≡ outcomes.Frozen j → StepsTo (asked R E target answered) division s (of_client (freeze h q)) o t
       → IsOnlyJob t.state.machine j (record { query = q; frozen = held_by s.state.machine h })

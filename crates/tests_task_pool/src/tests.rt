@@ -1,4 +1,5 @@
 //! What crews answer of maps with chosen path words, and which intervals they report.
+mod attendance;
 mod gates;
 mod many;
 mod memory;

@@ -1,13 +1,14 @@
 -- What is left of a subtrie, and of a root.
 use Rattle.std.proofs.Common.{◌≡◌, ℕ, ◌+◌, ◌<◌, ◌≤◌, Bool, true, List, [], ◌∷◌, ◌++◌, length, map, Option, is_some, refl, sym, ap, ◌∙◌, subst, arith}
 use Rattle.std.proofs.lemmas.Bool.{eq-eqb, eqb-true}
-use Rattle.std.proofs.lemmas.List.{append-nil, length-append}
+use Rattle.std.proofs.lemmas.List.{append-nil, length-append, length-map}
 use Rattle.std.proofs.lemmas.List.Elements.{All-weaker}
 use Rattle.std.specs.Prelude.{All, IfSome}
 use Rattle.std.specs.declared.cmp.Ordering.{Ordering}
 use Rattle.std.specs.declared.cmp.Ordering.TheVariants.{Equal}
 use Rattle.std.specs.Cmp.{IsTotalOrder}
 use Rattle.std.specs.FinMap.{find}
+use Rattle.std.specs.Int.RustNames.{count_ones}
 use Rattle.hash_path.specs.Digits.{digit, last_level}
 use Rattle.trie_node.specs.Merges.{StampsPass, pairs_of}
 use Rattle.trie_node.proofs.StampTests.{pass_listed}
@@ -16,11 +17,13 @@ use Rattle.trie_shape.specs.Looks.{Shows}
 use Rattle.trie_shape.specs.Roots.{map_of, word_of}
 use Rattle.trie_shape.specs.Shape.{nodes}
 use Rattle.trie_shape.specs.Tree.{Tree, branch, bucket, Trees, no_trees, more_trees, trees, digits_of, entries, entries_of_all, HasTwoWords, IsTrie, AreTries}
-use Rattle.trie_shape.specs.View.{pair_values}
+use Rattle.trie_shape.specs.View.{pair_values, tree}
+use Rattle.trie_shape.specs.declared.node.Node.{Node}
 use Rattle.trie_shape.proofs.Apart.{apart}
-use Rattle.trie_shape.proofs.Bits.{IsOnceEach, once_each}
+use Rattle.trie_shape.proofs.Bits.{IsOnceEach, length-digits_of, once_each}
 use Rattle.trie_shape.proofs.Finds.{found_first}
 use Rattle.trie_shape.proofs.Passing.{found_after, found_before}
+use Rattle.trie_shape.proofs.Ways.{are_tries_long}
 use Rattle.trie_filter.specs.Passing.{AreChosen, EachHasPairs, IsLeft, IsRow, PairsLeft, drawn_up, is_stamp, pairs_node}
 use Rattle.trie_filter.proofs.Chosen.{found_chosen, listed_chosen, sorted_chosen}
 
@@ -111,7 +114,11 @@ module _ {K V : Type 0} (R : K → K → Ordering) (path : K → ℕ) (total : I
   pairs_depth (branch s n bitmap ts) ps shown trie = absurd shown
   pairs_depth (bucket s es) ps shown trie = omega (arith, trie.0)
 
-  -- 3. The root.
+  -- 3. A row has a child for each digit of its bitmap.
+  pub row_counted : (gives : K → V → Bool → Type 0) (level stamp : ℕ) (es : List (K × V)) (b size : ℕ) (ns : List (Node K V)) → IsRow R path gives level stamp es b size (map tree ns) → length ns ≡ count_ones b
+  row_counted gives level stamp es b size ns h = sym (length-map ns tree) ∙ are_tries_long R path level (digits_of b) (map tree ns) h.tries ∙ length-digits_of b h.small
+
+  -- 4. The root.
   module _ (gives : K → V → Bool → Type 0) (stamp : ℕ) where
     pub root_left : (t u : Tree K V) (b size : ℕ) (row : List (Tree K V)) → IsRow R path gives 0 stamp (entries t) b size row → u ≡ branch stamp size b (trees row) → IsTrie R path 0 u
     root_left t u b size row h is = subst (IsTrie R path 0) (sym is) (omega arith, h.small, h.counted, h.tries, λ up. absurd (omega (arith, up)))

@@ -1,5 +1,6 @@
 //! The children of a branch that is made.
 ghost use Rattle.std.specs.Prelude.{◌≡◌, ◌+◌, ◌*◌, ◌<◌, ◌%◌, ◌^◌, ◌++◌, [], ◌∷◌, IfOk, bit_or, length, map, option_map};
+ghost use Rattle.std.specs.Int.RustNames.{count_ones};
 ghost use Rattle.hash_path.specs.Digits.{fan_out};
 ghost use Rattle.trie_filter.specs.Few.{IsFew, items_of};
 ghost use Rattle.trie_filter.specs.Passing.{drawn_up};
@@ -48,12 +49,19 @@ impl<K: Drop, V: Drop> Row<K, V> {
         })
     }
 
-    /// A branch of the children.
+    /// A branch of the children, which are as many as the bitmap has digits.
     pub(crate) fn into_branch(self, alloc: Global, stamp: Stamp) -> Result<Node<K, V>, NoMemory>
+        requires { length (items_of self.children) ≡ count_ones self.bitmap }
         ensures { IfOk result (λ n. tree n ≡ branch stamp.0 self.size self.bitmap (trees (map tree (items_of self.children)))) }
     {
-        let children = self.children.into_vec(alloc)?;
-        make_branch(alloc, stamp, self.size, self.bitmap, children)
+        let mut children = self.children.into_vec(alloc)?;
+        make_branch(
+            alloc,
+            stamp,
+            self.size,
+            self.bitmap,
+            children.as_mut_slice(),
+        )
     }
 
     /// The subtrie of the children below the root: an only child that is a leaf or bucket stands in the branch's
@@ -63,7 +71,8 @@ impl<K: Drop, V: Drop> Row<K, V> {
         alloc: Global,
         stamp: Stamp,
     ) -> Result<Option<Node<K, V>>, NoMemory>
-        requires { IsFew self.children }
+        requires few { IsFew self.children }
+        requires count { length (items_of self.children) ≡ count_ones self.bitmap }
         ensures { IfOk result (λ o. option_map tree o ≡ drawn_up stamp.0 self.size self.bitmap (map tree (items_of self.children))) }
     {
         let Row {
@@ -71,7 +80,7 @@ impl<K: Drop, V: Drop> Row<K, V> {
             size,
             bitmap,
         } = self;
-        let all = match children {
+        let mut all = match children {
             Few::Nothing => return Ok(None),
             Few::One(only) => {
                 if let Look::Pairs(_) = look(&only) {
@@ -83,6 +92,6 @@ impl<K: Drop, V: Drop> Row<K, V> {
             }
             Few::More(all) => all,
         };
-        Ok(Some(make_branch(alloc, stamp, size, bitmap, all)?))
+        Ok(Some(make_branch(alloc, stamp, size, bitmap, all.as_mut_slice())?))
     }
 }

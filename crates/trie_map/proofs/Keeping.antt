@@ -1,14 +1,24 @@
 -- Each pair of a listing keeps the rule that the value of each key keeps.
-use Rattle.std.proofs.Common.{◌≡◌, Bool, true, false, cond, [], ◌∷◌, Some, None, refl, sym, ◌∙◌, ap}
+use Rattle.std.proofs.Common.{◌≡◌, Bool, true, false, cond, [], ◌∷◌, Option, Some, None, IfSome, refl, sym, ◌∙◌, ap}
 use Rattle.std.proofs.lemmas.Option.{none-some}
 use Rattle.std.specs.declared.cmp.Ordering.{Ordering}
 use Rattle.std.proofs.lemmas.List.Elements.{All-nil, All-cons}
 use Rattle.std.specs.Cmp.{Equal-is, IsTotalOrder, tied_itself}
 use Rattle.std.specs.Ordering.{eq_by_cmp, is_eq}
-use Rattle.std.specs.Prelude.{All}
+use Rattle.std.specs.Prelude.{All, option_map}
 use Rattle.versions.specs.Map.{Map, IsAntisymmetric, value_at}
 use Rattle.trie_shape.specs.Listings.{IsListing}
 use Rattle.stripes.specs.Rules.{AllKeep}
+
+-- where each value that is there holds, one that may be there does
+pub some_keeps : {V : Type 0} (P : V → Type 0) (o : Option V) → ((v : V) → o ≡ Some v → P v) → IfSome o P
+some_keeps P None h = tt
+some_keeps P (Some v) h = h v refl
+
+-- what holds of what a handle has, where there is one, holds of the value
+pub mapped_keeps : {A V : Type 0} (f : A → V) (P : V → Type 0) (o : Option A) → IfSome o (λ a. P (f a)) → IfSome (option_map f o) P
+mapped_keeps f P None h = tt
+mapped_keeps f P (Some a) h = h
 
 module _ {K V : Type 0} (R : K → K → Ordering) (H : K → V → Type 0) where
   -- what stands behind the first pair of a listing keeps the rule

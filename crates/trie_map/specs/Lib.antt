@@ -4,4 +4,5 @@ pub use Rattle.bulk_ops.specs.Queries
 pub use Rattle.bulk_ops.specs.Told
 pub use Rattle.stripes.specs.Rules
 pub use Rattle.stripes.specs.Updates
+pub mod Iterables
 pub mod Questions

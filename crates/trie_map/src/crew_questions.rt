@@ -17,11 +17,11 @@ use stripes::Keeps;
 use task_pool::Crew;
 use trie_node::NoMemory;
 
-/// Each question promises what its like of one thread does (`count`, `fold`), and is worked as `query_by` works a
+/// Each question promises what its like of one thread does (`count`, `fold`), and is worked as `par_query` works a
 /// query. The closure runs on the threads of the crew, several at once.
 impl<K: PathKey + Drop + Send + Sync, V: Drop + Send + Sync, P: Keeps<K, V>> View<K, V, P> {
     /// How many pairs pass the test, counted by a crew.
-    pub fn count_by<R, F>(&self, rt: &R, test: F, crew: Crew) -> Result<u64, NoMemory>
+    pub fn par_count<R, F>(&self, rt: &R, test: F, crew: Crew) -> Result<u64, NoMemory>
     where
         R: Threads + Wait + Sync,
         F: Fn(&K, &V) -> bool + Sync,
@@ -33,7 +33,7 @@ impl<K: PathKey + Drop + Send + Sync, V: Drop + Send + Sync, P: Keeps<K, V>> Vie
     }
 
     /// The items of all pairs combined by the monoid, as by `Sum`, `Least` or `Greatest`, worked by a crew.
-    pub fn fold_by<R, M, G>(
+    pub fn par_fold<R, M, G>(
         &self,
         rt: &R,
         monoid: &M,
@@ -55,19 +55,19 @@ impl<K: PathKey + Drop + Send + Sync, V: Drop + Send + Sync, P: Keeps<K, V>> Vie
 /// Each question takes a view, and a crew works it there: nobody waits for the crew.
 impl<K: PathKey + Drop + Send + Sync, V: Drop + Send + Sync, P: Keeps<K, V>> TrieMap<K, V, P> {
     /// How many pairs pass the test, of the map as it stands at one moment of the call, counted by a crew over a view.
-    pub fn count_by<R, F>(&self, rt: &R, test: F, crew: Crew) -> Result<u64, NoMemory>
+    pub fn par_count<R, F>(&self, rt: &R, test: F, crew: Crew) -> Result<u64, NoMemory>
     where
         R: Threads + Wait + Sync,
         F: Fn(&K, &V) -> bool + Sync,
         requires callable { F.IsAlwaysCallable test }
-        ensures { IfOk result (λ count. (m : Map K V) × AllKeep K.cmp P.holds m × ((p : K → V → Bool) → Means (MayAnswer F.Fn test) p → count ≡ length (passing p m))) }
+        ensures { IfOk result (λ count. (m : Map K V) × AllKeep K.cmp P.holds m × ((p : K → V → Bool) → Means (MayAnswer F.Fn test) p → count ≡ length (passing p m)) × (count ≤ length m)) }
     {
-        self.view(rt)?.count_by(rt, test, crew)
+        self.view(rt)?.par_count(rt, test, crew)
     }
 
     /// The items of all pairs combined by the monoid, of the map as it stands at one moment of the call, worked by a
     /// crew over a view.
-    pub fn fold_by<R, M, G>(
+    pub fn par_fold<R, M, G>(
         &self,
         rt: &R,
         monoid: &M,
@@ -82,6 +82,6 @@ impl<K: PathKey + Drop + Send + Sync, V: Drop + Send + Sync, P: Keeps<K, V>> Tri
         requires callable { G.IsAlwaysCallable item }
         ensures { IfOk result (λ all. (m : Map K V) × AllKeep K.cmp P.holds m × ((i : K → V → M.Item) → Means (MayAnswer G.Fn item) i → all ≡ folded (M.combine monoid.now) (M.unit_of monoid.now) (items_of i m))) }
     {
-        self.view(rt)?.fold_by(rt, monoid, item, crew)
+        self.view(rt)?.par_fold(rt, monoid, item, crew)
     }
 }

@@ -11,6 +11,7 @@ mod crew_questions;
 mod origin;
 mod put_error;
 mod questions;
+mod shown;
 mod trie_map;
 mod view;
 

@@ -1,5 +1,5 @@
 //! Why a put is refused.
-ghost use Rattle.std.specs.Prelude.{◌≡◌};
+ghost use Rattle.std.specs.Prelude.{◌≡◌, ◌↔◌};
 ghost use Rattle.stripes.specs.Rules.{IsPutRefusal};
 
 use std::alloc::{AllocError, AllocFailed};
@@ -22,8 +22,8 @@ impl PutError {
     /// What a stripe refused, as one of these two.
     pub(crate) fn of(refusal: Refusal) -> PutError
         requires { IsPutRefusal refusal }
-        ensures full { refusal ≡ Refusal.Full → result ≡ PutError.Full }
-        ensures memory { refusal ≡ Refusal.NoMemory → result ≡ PutError.NoMemory }
+        ensures full { (result ≡ PutError.Full) ↔ (refusal ≡ Refusal.Full) }
+        ensures memory { (result ≡ PutError.NoMemory) ↔ (refusal ≡ Refusal.NoMemory) }
     {
         match refusal {
             Refusal::Full => PutError::Full,

@@ -21,43 +21,43 @@ use trie_node::NoMemory;
 /// it has one answer for each pair, which it promises itself. No request is made for memory.
 impl<K: PathKey + Drop, V: Drop, P: Keeps<K, V>> View<K, V, P> {
     /// How many pairs pass the test.
-    pub fn count<F: Fn(&K, &V) -> bool>(&self, test: F) -> Result<u64, NoMemory>
+    pub fn count<F: Fn(&K, &V) -> bool>(&self, test: F) -> u64
         requires callable { F.IsAlwaysCallable test }
-        ensures count { IfOk result (λ count. (p : K → V → Bool) → Means (MayAnswer F.Fn test) p → count ≡ length (passing p self.now)) }
-        ensures few { IfOk result (λ count. count ≤ length self.now) }
+        ensures count { (p : K → V → Bool) → Means (MayAnswer F.Fn test) p → result ≡ length (passing p self.now) }
+        ensures few { result ≤ length self.now }
     {
         self.len();
         let mut count = 0u64;
         for (key, value) in self.bunched() {
             count += u64::from(answer_at(&test, key, value));
         }
-        Ok(count)
+        count
     }
 
     /// Whether some pair passes the test. The walk ends at the first that does.
-    pub fn exists<F: Fn(&K, &V) -> bool>(&self, test: F) -> Result<bool, NoMemory>
+    pub fn exists<F: Fn(&K, &V) -> bool>(&self, test: F) -> bool
         requires callable { F.IsAlwaysCallable test }
-        ensures { IfOk result (λ some. (p : K → V → Bool) → Means (MayAnswer F.Fn test) p → some ≡ list_any (passes p) self.now) }
+        ensures { (p : K → V → Bool) → Means (MayAnswer F.Fn test) p → result ≡ list_any (passes p) self.now }
     {
         for (key, value) in self.bunched() {
             if answer_at(&test, key, value) {
-                return Ok(true);
+                return true;
             }
         }
-        Ok(false)
+        false
     }
 
     /// Whether every pair passes the test. The walk ends at the first that does not.
-    pub fn for_all<F: Fn(&K, &V) -> bool>(&self, test: F) -> Result<bool, NoMemory>
+    pub fn for_all<F: Fn(&K, &V) -> bool>(&self, test: F) -> bool
         requires callable { F.IsAlwaysCallable test }
-        ensures { IfOk result (λ all. (p : K → V → Bool) → Means (MayAnswer F.Fn test) p → all ≡ list_all (passes p) self.now) }
+        ensures { (p : K → V → Bool) → Means (MayAnswer F.Fn test) p → result ≡ list_all (passes p) self.now }
     {
         for (key, value) in self.bunched() {
             if !answer_at(&test, key, value) {
-                return Ok(false);
+                return false;
             }
         }
-        Ok(true)
+        true
     }
 
     /// A pair that passes the test, if there is one: the first on a walk. It keeps the rule.
@@ -75,20 +75,16 @@ impl<K: PathKey + Drop, V: Drop, P: Keeps<K, V>> View<K, V, P> {
     }
 
     /// The items of all pairs combined by the monoid, as by `Sum`, `Least` or `Greatest`.
-    pub fn fold<M: Monoid, G: Fn(&K, &V) -> M::Item>(
-        &self,
-        monoid: &M,
-        item: G,
-    ) -> Result<M::Item, NoMemory>
+    pub fn fold<M: Monoid, G: Fn(&K, &V) -> M::Item>(&self, monoid: &M, item: G) -> M::Item
         requires callable { G.IsAlwaysCallable item }
-        ensures { IfOk result (λ all. (i : K → V → M.Item) → Means (MayAnswer G.Fn item) i → all ≡ folded (M.combine monoid.now) (M.unit_of monoid.now) (items_of i self.now)) }
+        ensures { (i : K → V → M.Item) → Means (MayAnswer G.Fn item) i → result ≡ folded (M.combine monoid.now) (M.unit_of monoid.now) (items_of i self.now) }
     {
         law_of_folds::<K, V, M>();
         let mut all = monoid.unit();
         for (key, value) in self.bunched() {
             all = monoid.op(&answer_at(&item, key, value), &all);
         }
-        Ok(all)
+        all
     }
 }
 

@@ -6,17 +6,21 @@ ghost use Rattle.stripes.specs.Stripes.{digits_of, up_to};
 ghost use Rattle.versions.specs.declared.version.TheConstants.{MOST_PAIRS};
 
 mod asking;
+mod counting;
 mod deciding;
+mod filling;
+mod reading;
 mod retaining;
 
 use crate::origin::{Origin, found_or_made};
 use crate::put_error::PutError;
 use crate::view::View;
-use hash_path::{Path, PathKey};
+use hash_path::{Path, PathKey, Sought};
 use std::alloc::Global;
 use std::sync::{Arc, Wait};
-use stripes::{Anything, Keeps, Row, Stripe, blanks, clear_all, empties, forks, joined};
+use stripes::{Anything, Keeps, Row, STRIPES, Stripe, blanks, clear_all, empties, forks, joined};
 use trie_node::{Always, Condition, IfAbsent, IfEqual, IfPresent, NoMemory};
+use united_roots::RootRow;
 use versions::{Change, Refusal};
 
 /// A map that threads share by reference, for as long as a service runs.
@@ -26,23 +30,24 @@ use versions::{Change, Refusal};
 /// rule. That `is_empty`, `len` and `contains_key` tell what is there, that `clear` removes it, and that `view`,
 /// `snapshot` and `query` take all stripes as they stand at one moment, is told by the code and by tests: no clause can
 /// name what a lock keeps, not even of a map that one thread alone has. A call that is refused has changed nothing; of
-/// `extend` and `retain`, and of `get_or_else_update` and `update`, whose closure has run, each says more.
+/// `extend` and `retain`, and of those whose closure has run, as `get_or_else_update` and `update`, each says more.
 ///
 /// # What runs under a lock
 ///
-/// `K::cmp`, `K::path` and `V::eq` run while the stripe of the key is locked, and so do the drops of a key that is
-/// replaced or removed, and of a key and a value that are not written. They must not call the map: the thread would
-/// wait for itself. A value that is replaced or removed is handed out, and dropped by whoever has it last; what `clear`
-/// removes is dropped once all locks are free; the closure of `get_or_else_update` runs with no lock held. The closure
-/// of `update` runs under the lock too, and what it makes is dropped there where it cannot be stored; so does that of
-/// `retain`, once more for each pair that fails.
+/// `K::cmp`, `K::path`, `V::eq` and, of a look-up, `Sought::compare_with` run while the stripe of the key is locked, and
+/// so do the drops of a key that is replaced or removed, and of a key and a value that are not written. They must not
+/// call the map: the thread would wait for itself. A value that is replaced or removed is handed out, and dropped by
+/// whoever has it last; what `clear` removes is dropped once all locks are free; the closure of `get_or_else_update`
+/// runs with no lock held. The closure
+/// of `update`, `update_with`, `try_update`, `read` or `remove_where` runs under the lock too, and what it makes is
+/// dropped there where it cannot be stored; so does that of `retain`, once more for each pair that fails.
 ///
 /// # Between two calls
 ///
 /// Between a `get` and a `put` of one thread another may write the key, and its write is then lost. `put_if_absent`,
-/// `replace_if`, `remove_if`, `get_or_else_update` and `update` decide and write as one step: `update` makes the new
-/// value of the one that is there. Where that takes long, write with `replace_if` what was made of the value that `get`
-/// found, and begin again where it answers false.
+/// `replace_if`, `remove_if`, `remove_where`, `get_or_else_update` and `update` decide and write as one step: `update`
+/// makes the new value of the one that is there. Where that takes long, write with `replace_if` what was made of the
+/// value that `get` found, and begin again where it answers false.
 ///
 /// # What it costs
 ///
@@ -70,31 +75,18 @@ impl<K: PathKey + Drop, V: Drop, P: Keeps<K, V>> TrieMap<K, V, P> {
 
     /// The value of the key, or none. It makes no request for memory, but the clone of the value's handle may be
     /// refused.
-    pub fn get<R: Wait>(&self, rt: &R, key: &K) -> Result<Option<Arc<V>>, NoMemory>
-        ensures kept { IfOk result (λ found. IfSome found (λ value. P.holds key.now value.value)) }
+    pub fn get<R: Wait, Q: Sought<K>>(&self, rt: &R, key: Q) -> Result<Option<Arc<V>>, NoMemory>
+        ensures kept { IfOk result (λ found. IfSome found (λ value. P.holds (Q.key_of key) value.value)) }
     {
-        self.found(rt, key, key.path())
+        self.found(rt, key, key.path_sought())
     }
 
     /// Whether the key has a value. It takes no memory.
-    pub fn contains_key<R: Wait>(&self, rt: &R, key: &K) -> bool
-        ensures kept { IsTrue result → (value : V) × P.holds key.now value }
+    pub fn contains_key<R: Wait, Q: Sought<K>>(&self, rt: &R, key: Q) -> bool
+        ensures kept { IsTrue result → (value : V) × P.holds (Q.key_of key) value }
     {
-        let path = key.path();
+        let path = key.path_sought();
         self.row.stripe_at(rt, path).get(key, path).is_some()
-    }
-
-    /// How many pairs there are at one moment of the call, when all stripes are held: each is taken, in rising order of
-    /// digits, once those before it are, as `view` takes them, so all writers wait. It takes no memory.
-    pub fn len<R: Wait>(&self, rt: &R) -> u64
-        ensures { result ≤ MOST_PAIRS }
-    {
-        self.row.len_from(rt, 0)
-    }
-
-    /// Whether there is no pair at one moment of the call, when all stripes are held as for `len`. It takes no memory.
-    pub fn is_empty<R: Wait>(&self, rt: &R) -> bool {
-        self.len(rt) == 0
     }
 
     /// Maps the key to the value, and answers the value before, or none.
@@ -149,7 +141,7 @@ impl<K: PathKey + Drop, V: Drop, P: Keeps<K, V>> TrieMap<K, V, P> {
     pub fn remove<R: Wait>(&self, rt: &R, key: &K) -> Result<Option<Arc<V>>, NoMemory>
         ensures kept { IfOk result (λ before. IfSome before (λ found. P.holds key.now found.value)) }
     {
-        Ok(self.remove_where(rt, key, &Always)?.previous)
+        Ok(self.removal(rt, key, &Always)?.previous)
     }
 
     /// The value that the key has then: the one that it had, else the one that `make` made.
@@ -180,23 +172,14 @@ impl<K: PathKey + Drop, V: Drop, P: Keeps<K, V>> TrieMap<K, V, P> {
         }
     }
 
-    /// Puts each of the pairs, in order. Where one is refused, as `put` is, those before it are in the map.
-    pub fn extend<R: Wait>(&self, rt: &R, pairs: Vec<(K, V)>) -> Result<(), PutError>
-        requires { All (λ pair. P.holds pair.0 pair.1) pairs.items }
-    {
-        for (key, value) in pairs {
-            self.put(rt, key, value)?;
-        }
-        Ok(())
-    }
-
     /// Removes all pairs at one moment of the call, when all stripes are held. They are dropped once the locks are free.
     /// It is refused for want of memory alone.
     pub fn clear<R: Wait>(&self, rt: &R) -> Result<(), NoMemory> {
         let blanks = blanks(self.alloc)?;
+        let room = Vec::with_capacity(self.alloc, STRIPES as usize)?;
         let held = self.row.all(rt, self.alloc)?;
         // The pairs are dropped once the locks are free.
-        let before = forks(self.alloc, &held)?;
+        let before = forks(room, &held)?;
         clear_all(held, blanks);
         drop(before);
         Ok(())
@@ -206,12 +189,13 @@ impl<K: PathKey + Drop, V: Drop, P: Keeps<K, V>> TrieMap<K, V, P> {
     /// pairs. The view keeps the nodes of that moment: a write meanwhile copies the nodes of its way.
     ///
     /// Its clause says that each pair keeps the rule. That it has the pairs of all stripes, and that no lock was free
-    /// in between, no clause can say: each step of it is proved (`Row::all`, `forks`, `joined`), and tests show it whole.
+    /// in between, no clause can say: each step of it is proved (`Row::all`, `joined`), and tests show it whole.
     pub fn view<R: Wait>(&self, rt: &R) -> Result<View<K, V, P>, NoMemory>
         ensures { IfOk result (λ view. AllKeep K.cmp P.holds view) }
     {
-        let stripes = self.forks(rt)?;
-        let map = joined(self.alloc, stripes.as_slice())?;
+        let room = RootRow::new(self.alloc)?;
+        let held = self.row.all(rt, self.alloc)?;
+        let map = joined(self.alloc, room, held)?;
         Ok(View::new(self.alloc, map.view()?))
     }
 
@@ -227,9 +211,14 @@ impl<K: PathKey + Drop, V: Drop, P: Keeps<K, V>> TrieMap<K, V, P> {
     }
 
     // The value of the key, or none.
-    fn found<R: Wait>(&self, rt: &R, key: &K, path: Path) -> Result<Option<Arc<V>>, NoMemory>
-        requires { path.0 ≡ K.path_of key.now }
-        ensures kept { IfOk result (λ found. IfSome found (λ value. P.holds key.now value.value)) }
+    fn found<R: Wait, Q: Sought<K>>(
+        &self,
+        rt: &R,
+        key: Q,
+        path: Path,
+    ) -> Result<Option<Arc<V>>, NoMemory>
+        requires { path.0 ≡ K.path_of (Q.key_of key) }
+        ensures kept { IfOk result (λ found. IfSome found (λ value. P.holds (Q.key_of key) value.value)) }
     {
         let stripe = self.row.stripe_at(rt, path);
         match stripe.get(key, path) {
@@ -282,7 +271,7 @@ impl<K: PathKey + Drop, V: Drop, P: Keeps<K, V>> TrieMap<K, V, P> {
     }
 
     // A removal of a key, where the condition holds of its value. The lock is free again when the answer is dropped.
-    fn remove_where<R: Wait, C: Condition<V>>(
+    fn removal<R: Wait, C: Condition<V>>(
         &self,
         rt: &R,
         key: &K,
@@ -300,8 +289,9 @@ impl<K: PathKey + Drop, V: Drop, P: Keeps<K, V>> TrieMap<K, V, P> {
         ensures digits { IfOk result (λ stripes. digits_of stripes.items ≡ up_to fan_out) }
         ensures count { IfOk result (λ stripes. length stripes.items ≡ fan_out) }
     {
+        let room = Vec::with_capacity(self.alloc, STRIPES as usize)?;
         let held = self.row.all(rt, self.alloc)?;
-        forks(self.alloc, &held)
+        forks(room, &held)
     }
 }
 
@@ -325,6 +315,6 @@ impl<K: PathKey + Drop, V: Eq + Drop, P: Keeps<K, V>> TrieMap<K, V, P> {
     ///
     /// It is refused for want of memory alone.
     pub fn remove_if<R: Wait>(&self, rt: &R, key: &K, value: &V) -> Result<bool, NoMemory> {
-        Ok(self.remove_where(rt, key, &IfEqual(value))?.done)
+        Ok(self.removal(rt, key, &IfEqual(value))?.done)
     }
 }

@@ -13,7 +13,7 @@ use crate::columns::{Keys, Values};
 use crate::crew::within_limits;
 use bulk_ops::{Answer, Asks, ask};
 use combiner::Bulk;
-use hash_path::PathKey;
+use hash_path::{PathKey, Sought};
 use iter::Pairs;
 use std::alloc::Global;
 use std::marker::{Model, PhantomData};
@@ -58,16 +58,16 @@ impl<K: PathKey + Drop, V: Drop, P: Keeps<K, V>> View<K, V, P> {
     }
 
     /// The value of the key, or none. It takes no memory.
-    pub fn get(&self, key: &K) -> Option<&Arc<V>>
-        ensures value { option_map (λ value. value.now.value) result ≡ value_at K.cmp self.now key.now }
-        ensures kept { IfSome result (λ value. P.holds key.now value.now.value) }
+    pub fn get<Q: Sought<K>>(&self, key: Q) -> Option<&Arc<V>>
+        ensures value { option_map (λ value. value.now.value) result ≡ value_at K.cmp self.now (Q.key_of key) }
+        ensures kept { IfSome result (λ value. P.holds (Q.key_of key) value.now.value) }
     {
         self.plain.get(key)
     }
 
     /// Whether the key has a value. It takes no memory.
-    pub fn contains_key(&self, key: &K) -> bool
-        ensures { result ≡ is_some (value_at K.cmp self.now key.now) }
+    pub fn contains_key<Q: Sought<K>>(&self, key: Q) -> bool
+        ensures { result ≡ is_some (value_at K.cmp self.now (Q.key_of key)) }
     {
         self.plain.contains_key(key)
     }
@@ -90,29 +90,28 @@ impl<K: PathKey + Drop, V: Drop, P: Keeps<K, V>> View<K, V, P> {
 
     /// A walk over all pairs, each once, in order of position and, within one position, of key. Each of them keeps the
     /// rule.
-    pub fn pairs(&self) -> Result<Pairs<'_, K, V>, NoMemory>
-        ensures rest { IfOk result (λ walk. walk.rest ≡ walked K.cmp K.path_of self.now) }
-        ensures once { IfOk result (λ walk. IsPermutation self.now walk.rest) }
-        ensures kept { IfOk result (λ walk. All (λ pair. P.holds pair.0 pair.1) walk.rest) }
+    pub fn pairs(&self) -> Pairs<'_, K, V>
+        ensures rest { result.rest ≡ walked K.cmp K.path_of self.now }
+        ensures once { IsPermutation self.now result.rest }
+        ensures kept { All (λ pair. P.holds pair.0 pair.1) result.rest }
     {
-        self.law();
-        iter::pairs(self.alloc, &self.plain)
+        self.iter()
     }
 
     /// A walk over all keys, each once, in the order of `pairs`.
-    pub fn keys(&self) -> Result<Keys<'_, K, V>, NoMemory>
-        ensures rest { IfOk result (λ keys. keys ≡ map (λ pair. pair.0) (walked K.cmp K.path_of self.now)) }
-        ensures once { IfOk result (λ keys. IsPermutation (map (λ pair. pair.0) self.now) keys) }
+    pub fn keys(&self) -> Keys<'_, K, V>
+        ensures rest { result ≡ map (λ pair. pair.0) (walked K.cmp K.path_of self.now) }
+        ensures once { IsPermutation (map (λ pair. pair.0) self.now) result }
     {
-        Ok(Keys::of(self.pairs()?))
+        Keys::of(self.pairs())
     }
 
     /// A walk over the values of all keys, in the order of `pairs`.
-    pub fn values(&self) -> Result<Values<'_, K, V>, NoMemory>
-        ensures rest { IfOk result (λ values. values ≡ map (λ pair. pair.1) (walked K.cmp K.path_of self.now)) }
-        ensures once { IfOk result (λ values. IsPermutation (map (λ pair. pair.1) self.now) values) }
+    pub fn values(&self) -> Values<'_, K, V>
+        ensures rest { result ≡ map (λ pair. pair.1) (walked K.cmp K.path_of self.now) }
+        ensures once { IsPermutation (map (λ pair. pair.1) self.now) result }
     {
-        Ok(Values::of(self.pairs()?))
+        Values::of(self.pairs())
     }
 
     /// What each pair of the view keeps: the rule, at its key and on a walk, which has each pair once. It does nothing.
@@ -166,7 +165,7 @@ impl<K: PathKey + Drop + Send + Sync, V: Drop + Send + Sync, P: Keeps<K, V>> Vie
     ///
     /// It is refused for want of memory. A thread that cannot be started is no error: the others, or the caller, work
     /// its pieces.
-    pub fn query_by<R, Q>(
+    pub fn par_query<R, Q>(
         &self,
         rt: &R,
         query: &Q,
@@ -183,7 +182,7 @@ impl<K: PathKey + Drop + Send + Sync, V: Drop + Send + Sync, P: Keeps<K, V>> Vie
         ask_crew(rt, self.alloc, view, query, within_limits(crew))
     }
 
-    /// The part of all pairs, worked by a crew as `query_by` works a query, for any operation on maps.
+    /// The part of all pairs, worked by a crew as `par_query` works a query, for any operation on maps.
     pub(crate) fn worked_by<R, B>(&self, rt: &R, bulk: &B, crew: Crew) -> Result<B::Part, NoMemory>
     where
         R: Threads + Wait + Sync,

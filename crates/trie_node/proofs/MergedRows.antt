@@ -18,9 +18,10 @@ use Rattle.trie_node.specs.Merges.{CanMerge, Merges, StampsPass, AllStampsPass, 
 use Rattle.trie_shape.specs.Outline.{children}
 use Rattle.trie_shape.specs.Shape.{Fits, Lacks}
 use Rattle.trie_shape.specs.Tree.{Tree, branch, bucket, Trees, no_trees, more_trees, trees, digits_from, digits_of, entries, entries_of_all, HasTwoWords, IsTrie, AreTries}
-use Rattle.trie_shape.proofs.Bits.{agree_more, cond_append, once_each}
+use Rattle.trie_shape.proofs.Bits.{agree_more, cond_append, length-digits_of, once_each}
 use Rattle.trie_node.proofs.ChildAt.{IsBelow, child_in, child_out, child_known, child_fewer, count_under, count_most, count_next, find_digit, place_in}
 use Rattle.trie_shape.proofs.Divides.{trie_fits}
+use Rattle.trie_shape.proofs.Ways.{are_tries_long}
 use Rattle.trie_shape.proofs.Tries.{or_else, or_none, entries_append, find_append, find_lacking, find_other, join}
 
 -- the set bits among one more of the lowest
@@ -228,7 +229,12 @@ module _ {K V : Type 0} (R : K → K → Ordering) (path : K → ℕ) (exact : (
       pub room_row : (k : ℕ) (row : List (Tree K V)) → IsRow R path level stamp (bit_or a b) left right k row → length (entries_of_all (trees row)) < 2 ^ 63
       room_row k row h = omega (arith, h.most, l.most k, r.most k, can.room)
 
-      -- when all digits are done, the branch is both together
+      -- when all digits are done, there is a child for each digit of both bitmaps together
+      pub row_counted : (row : List (Tree K V)) → IsRow R path level stamp (bit_or a b) left right fan_out row → length row ≡ count_ones (bit_or a b)
+      unfolding digits_of
+      row_counted row h = are_tries_long R path level (digits_from fan_out 0 (bit_or a b)) row h.ok ∙ length-digits_of (bit_or a b) (or_lt fan_out a b l.small r.small)
+
+      -- and the branch is both together
       pub row_done : (row : List (Tree K V)) → IsRow R path level stamp (bit_or a b) left right fan_out row → (size : ℕ) → size ≡ length (entries_of_all (trees row)) → (new : Tree K V) → new ≡ branch stamp size (bit_or a b) (trees row) → Merges R path level stamp (Some left) (Some right) (Some new)
       unfolding digits_of
       row_done row h size counted new made =

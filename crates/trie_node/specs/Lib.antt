@@ -4,3 +4,4 @@ pub mod Removals
 pub mod Merges
 pub mod PutInPlace
 pub mod RemovalInPlace
+pub mod PutInside

@@ -9,7 +9,7 @@ use Rattle.trie_node.specs.Removals.{is_removable, IsTaken, IsOnly, Leaves}
 use Rattle.trie_node.specs.declared.removal_in_place.RemovedIn.{RemovedIn}
 use Rattle.trie_node.specs.declared.removal_in_place.RemovedIn.TheVariants.{Nothing, Gone, Left}
 use Rattle.trie_node.specs.declared.removal_in_place.TakenInside.{TakenInside}
-use Rattle.trie_node.specs.declared.removal_in_place.TakenInside.TheVariants.{Done, GivesWay}
+use Rattle.trie_node.specs.declared.removal_in_place.TakenInside.TheVariants.{Done, GivesWay, Elsewhere}
 
 module _ {K V : Type 0} (R : K → K → Ordering) (path : K → ℕ) (level stamp : ℕ) (k : K) (holds : Option V → Bool) (old : Tree K V) where
   -- nothing was removed; or the only pair is left to the node's holder; or the new tree is without the pair
@@ -18,7 +18,8 @@ module _ {K V : Type 0} (R : K → K → Ordering) (path : K → ℕ) (level sta
   TakesOut (Gone v) new = IsTaken R k holds old (arc_value v) × IsOnly R k old × (0 < level) × (new ≡ old)
   TakesOut (Left v) new = Leaves R path level stamp k holds old (arc_value v) new
 
-  -- the same below a branch, where another node may also be what is left
+  -- the same of a node where it stands, where another node may also be what is left, or nothing is changed and the key is still to be removed
   abbrev pub TakesInside : TakenInside K V → Tree K V → Type 0
   TakesInside (Done r) new = TakesOut r new
   TakesInside (GivesWay node v) new = Leaves R path level stamp k holds old (arc_value v) (tree node)
+  TakesInside Elsewhere new = new ≡ old

@@ -138,7 +138,7 @@ fn merge_branches<K: PathKey + Drop, V: Drop>(
             children.push(child)?;
         }
     }
-    make_branch(alloc, stamp, pairs, bitmap, children)
+    make_branch(alloc, stamp, pairs, bitmap, children.as_mut_slice())
 }
 
 /// The root of the union of two maps: the pairs of both, where a key in both has the left value.

@@ -1,13 +1,15 @@
 //! Roots with a pair put.
 
-ghost use Rattle.std.specs.Prelude.{ℕ, ◌≡◌, ◌<◌, ◌≤◌, ◌+◌, ◌^◌, ◌%◌, ◌*◌, option_map, length, map, is_some, true, ◌≢◌, IfOk, OnErr, IfSome, Some, None, bit_or, [], ◌∷◌};
+ghost use Rattle.std.specs.Prelude.{ℕ, ◌≡◌, ◌==◌, ◌<◌, ◌≤◌, ◌+◌, ◌^◌, ◌%◌, ◌*◌, option_map, length, map, is_some, true, false, ◌≢◌, IfOk, OnErr, IfSome, Some, None, bit_or, [], ◌∷◌};
 ghost use Rattle.std.specs.List.{insert};
+ghost use Rattle.std.specs.Int.{bit_at};
 ghost use Rattle.std.specs.Int.RustNames.{count_ones};
 ghost use Rattle.std.specs.FinMap.{find as first_of};
 ghost use Rattle.std.specs.FinMap.Entries.{put as put_in_order};
 ghost use Rattle.hash_path.specs.Digits.{digit_bits, fan_out};
 ghost use Rattle.trie_shape.specs.Map.{value_at};
 ghost use Rattle.trie_shape.specs.Tree.{IsTrie, KeysHaveWord, branch, bucket, trees, entries};
+ghost use Rattle.trie_shape.specs.Inside.{lent};
 ghost use Rattle.trie_shape.specs.View.{tree, branch_of, pair_values};
 ghost use Rattle.trie_shape.specs.Outline.{stamp_of};
 ghost use Rattle.trie_shape.specs.Roots.{IsRoot, map_of};
@@ -19,8 +21,8 @@ use std::alloc::Global;
 use std::slice;
 use std::sync::Arc;
 use trie_shape::{
-    Always, Branch, Condition, NoMemory, Node, Stamp, find_pair, has_digit, make_bucket, make_leaf,
-    place, put_pair, size as count, with_child, with_more,
+    Always, Branch, Condition, Contents, NoMemory, Node, Stamp, find_pair, has_digit, make_bucket,
+    make_leaf, nth, open_node, place, put_pair, size as count, with_child, with_more,
 };
 
 /// What a write under a condition made, and what it found.
@@ -51,7 +53,9 @@ fn add_leaf<K: Drop, V: Drop>(
     entry: Entry<K, V>,
 ) -> Result<Node<K, V>, NoMemory>
     requires digit { digit < fan_out }
+    requires lacks { (bit_at bitmap digit == 1) ≡ false }
     requires room { size < 2 ^ 63 }
+    requires count { length children.now ≡ count_ones bitmap }
     requires place { count_ones (bitmap % 2 ^ digit) ≤ length children.now }
     ensures { IfOk result (λ n. tree n ≡ branch entry.stamp.0 (size + 1) (bit_or bitmap (1 * 2 ^ digit % 2 ^ 32)) (trees (insert (map tree children.now) (count_ones (bitmap % 2 ^ digit)) (bucket entry.stamp.0 ((entry.key.value, entry.value.value) ∷ []))))) }
 {
@@ -86,7 +90,9 @@ fn put_beside<'a, K: PathKey + Drop, V: Drop, C: Condition<V>>(
     condition: &C,
 ) -> Result<Option<Node<K, V>>, NoMemory>
     requires digit { digit < fan_out }
+    requires lacks { (bit_at bitmap digit == 1) ≡ false }
     requires room { size < 2 ^ 63 }
+    requires count { length children.now ≡ count_ones bitmap }
     requires place { count_ones (bitmap % 2 ^ digit) ≤ length children.now }
     ensures written { IfOk result (λ r. is_some r ≡ C.holds condition.now None) }
     ensures due { OnErr result (C.holds condition.now None ≡ true) }
@@ -237,30 +243,37 @@ fn put_pairs<'a, K: PathKey + Drop, V: Drop, C: Condition<V>>(
 #[cycle(put)]
 fn put_below<'a, K: PathKey + Drop, V: Drop, C: Condition<V>>(
     alloc: Global,
-    below: &'a Branch<K, V>,
+    below: Branch<'a, K, V>,
     entry: Entry<K, V>,
     level: u32,
     condition: &C,
 ) -> Result<Written<'a, K, V>, NoMemory>
-    requires trie { IsTrie K.cmp K.path_of level (branch_of 0 below.now) }
+    requires trie { IsTrie K.cmp K.path_of level (branch_of 0 (lent below)) }
     requires path { entry.path.0 ≡ K.path_of entry.key.value }
-    requires agree { KeysAgree K.cmp K.path_of level entry.path.0 (entries (branch_of 0 below.now)) }
-    requires room { length (entries (branch_of 0 below.now)) < 2 ^ 63 }
-    ensures due { OnErr result (C.holds condition.now (first_of K.cmp entry.key.value (entries (branch_of 0 below.now))) ≡ true) }
-    ensures ok { IfOk result (λ w. (before : ℕ) → WritesWhere K.cmp K.path_of level entry.stamp.0 entry.key.value (Some entry.value.value) (C.holds condition.now) (branch_of before below.now) (option_map (λ v. v.now.value) w.previous) (option_map tree w.root)) }
+    requires agree { KeysAgree K.cmp K.path_of level entry.path.0 (entries (branch_of 0 (lent below))) }
+    requires room { length (entries (branch_of 0 (lent below))) < 2 ^ 63 }
+    ensures due { OnErr result (C.holds condition.now (first_of K.cmp entry.key.value (entries (branch_of 0 (lent below.entry)))) ≡ true) }
+    ensures ok { IfOk result (λ w. (before : ℕ) → WritesWhere K.cmp K.path_of level entry.stamp.0 entry.key.value (Some entry.value.value) (C.holds condition.now) (branch_of before (lent below.entry)) (option_map (λ v. v.now.value) w.previous) (option_map tree w.root)) }
 {
     let stamp = entry.stamp;
     let bitmap = below.bitmap;
     let digit = entry.path.digit(level);
     if !has_digit(bitmap, digit) {
-        let children = below.children.as_slice();
         return Ok(Written {
-            root: put_beside(alloc, below.size, bitmap, children, digit, entry, condition)?,
+            root: put_beside(
+                alloc,
+                below.size,
+                bitmap,
+                below.children,
+                digit,
+                entry,
+                condition,
+            )?,
             previous: None,
         });
     }
     let at = place(bitmap, digit);
-    let old = &below.children[at];
+    let old = nth(below.children, at);
     let Written { root, previous } = put_at(alloc, old, entry, level + 1, condition)?;
     let Some(child) = root else {
         return Ok(Written {
@@ -269,8 +282,7 @@ fn put_below<'a, K: PathKey + Drop, V: Drop, C: Condition<V>>(
         });
     };
     let size = below.size + count(&child) - count(old);
-    let children = below.children.as_slice();
-    let root = with_child(alloc, stamp, size, bitmap, children, at, child)?;
+    let root = with_child(alloc, stamp, size, bitmap, below.children, at, child)?;
     Ok(Written {
         root: Some(root),
         previous,
@@ -293,14 +305,9 @@ pub(crate) fn put_at<'a, K: PathKey + Drop, V: Drop, C: Condition<V>>(
     ensures due { OnErr result (C.holds condition.now (first_of K.cmp entry.key.value (entries (tree node.now))) ≡ true) }
     ensures ok { IfOk result (λ w. WritesWhere K.cmp K.path_of level entry.stamp.0 entry.key.value (Some entry.value.value) (C.holds condition.now) (tree node.now) (option_map (λ v. v.now.value) w.previous) (option_map tree w.root)) }
 {
-    match node {
-        Node::Branch { below, .. } => put_below(alloc, below, entry, level, condition),
-        Node::Leaf { pair, .. } => {
-            put_pairs(alloc, node, slice::from_ref(pair), entry, level, condition)
-        }
-        Node::Bucket { pairs, .. } => {
-            put_pairs(alloc, node, pairs.as_slice(), entry, level, condition)
-        }
+    match open_node(node) {
+        Contents::Branch(below) => put_below(alloc, below, entry, level, condition),
+        Contents::Pairs(pairs) => put_pairs(alloc, node, pairs, entry, level, condition),
     }
 }
 

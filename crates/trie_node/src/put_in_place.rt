@@ -1,17 +1,20 @@
 //! A pair put below a node, where it stands as far as nobody else holds it.
 
-ghost use Rattle.std.specs.Prelude.{◌≡◌, ◌<◌, ◌≤◌, ◌^◌, ◌*◌, ◌%◌, option_map, length, map, IfOk, OnOk, OnErr, Some, None, is_some, [], ◌∷◌, ℕ, true, false, ◌||◌};
+ghost use Rattle.std.specs.Prelude.{◌≡◌, ◌==◌, ◌<◌, ◌≤◌, ◌+◌, ◌^◌, ◌*◌, ◌%◌, option_map, length, map, take, bit_or, IfOk, OnOk, OnErr, Some, None, is_some, [], ◌∷◌, true, false, ◌||◌};
 ghost use Rattle.std.specs.Arc.{arc_value};
+ghost use Rattle.std.specs.Int.{bit_at};
+ghost use Rattle.std.specs.Int.RustNames.{count_ones};
 ghost use Rattle.std.specs.List.{insert};
 ghost use Rattle.std.specs.FinMap.{find as first_of};
+ghost use Rattle.hash_path.specs.Digits.{fan_out};
 ghost use Rattle.trie_shape.specs.Roots.{IsRoot, map_of};
 ghost use Rattle.trie_shape.specs.Map.{value_at};
 ghost use Rattle.trie_node.specs.Changes.{IsPut};
-ghost use Rattle.trie_shape.specs.Tree.{IsTrie, entries, bucket};
-ghost use Rattle.trie_shape.specs.View.{tree, branch_of, pair_values};
+ghost use Rattle.trie_shape.specs.Tree.{IsTrie, branch, bucket, entries, trees};
+ghost use Rattle.trie_shape.specs.View.{tree, branch_of, in_row};
 ghost use Rattle.trie_node.specs.Writes.{KeysAgree};
 ghost use Rattle.trie_node.specs.PutInPlace.{PutsIn, is_refusable};
-ghost use Rattle.std.specs.declared.cmp.Ordering.TheVariants.{Equal};
+ghost use Rattle.trie_node.specs.PutInside.{PutsInside, PutsLeaf};
 
 use crate::bucket_in_place::{have_path, put_in_pair, put_in_pairs};
 use crate::condition::holds_of_absent;
@@ -21,7 +24,8 @@ use std::alloc::Global;
 use std::cmp::Ordering;
 use std::sync::Arc;
 use trie_shape::{
-    Always, Branch, Condition, NoMemory, Node, Stamp, has_digit, make_leaf, place, size as count,
+    Always, Condition, NoMemory, Node, Stamp, gain_child, has_digit, make_leaf, outgrow, place,
+    size as count,
 };
 
 /// What a write found, and whether it took place.
@@ -44,6 +48,17 @@ pub(crate) fn shared<V>(value: Option<&Arc<V, Global>>) -> Result<Option<Arc<V, 
     }
 }
 
+/// What a put into a node where it stands came to.
+#[derive(Drop)]
+pub(crate) enum PutInside<K, V> {
+    /// The put is done.
+    Done(Done<V>),
+    /// The pair was put, and this node is to take the branch's place.
+    GivesWay(Node<K, V>),
+    /// The node cannot be written where it stands, and is as it was.
+    Elsewhere(Entry<K, V>),
+}
+
 /// A put below a node that stands at the level: where it stands as far as nobody else holds the
 /// nodes of the key's way, and else by copies of them.
 #[cycle(put_in)]
@@ -62,26 +77,98 @@ pub(crate) fn put_in_at<K: PathKey + Drop, V: Drop, C: Condition<V>>(
     ensures due { OnErr result (is_refusable (C.holds condition.now) (first_of K.cmp entry.key.value (entries (tree node.old))) ≡ true) }
     ensures err { OnErr result (tree node.new ≡ tree node.old) }
 {
-    match node {
-        Node::Branch { stamp, below } => {
-            if let Some(below) = Arc::get_mut(below) {
-                return put_in_branch(alloc, stamp, below, entry, level, condition);
-            }
+    match put_in_node(alloc, node, entry, level, condition)? {
+        PutInside::Done(done) => Ok(done),
+        PutInside::Elsewhere(entry) => put_copied(alloc, node, entry, level, condition),
+        PutInside::GivesWay(grown) => {
+            *node = grown;
+            Ok(Done {
+                previous: None,
+                written: true,
+            })
         }
+    }
+}
+
+/// A put below a node that stands at the level, where nobody else holds the node.
+#[cycle(put_in)]
+fn put_in_node<K: PathKey + Drop, V: Drop, C: Condition<V>>(
+    alloc: Global,
+    node: &mut Node<K, V>,
+    entry: Entry<K, V>,
+    level: u32,
+    condition: &C,
+) -> Result<PutInside<K, V>, NoMemory>
+    requires trie { IsTrie K.cmp K.path_of level (tree node.old) }
+    requires path { entry.path.0 ≡ K.path_of entry.key.value }
+    requires agree { KeysAgree K.cmp K.path_of level entry.path.0 (entries (tree node.old)) }
+    requires room { length (entries (tree node.old)) < 2 ^ 63 }
+    ensures ok { IfOk result (λ r. PutsInside K.cmp K.path_of level entry (C.holds condition.now) (tree node.old) r (tree node.new)) }
+    ensures due { OnErr result (is_refusable (C.holds condition.now) (first_of K.cmp entry.key.value (entries (tree node.old))) ≡ true) }
+    ensures err { OnErr result (tree node.new ≡ tree node.old) }
+{
+    match node {
+        Node::Vacant => Ok(PutInside::Elsewhere(entry)),
         Node::Leaf { stamp, pair } => {
             if entry.key.cmp(&pair.0) == Ordering::Equal {
-                return put_in_pair(stamp, pair, entry, condition);
+                return Ok(PutInside::Done(put_in_pair(stamp, pair, entry, condition)?));
             }
+            Ok(PutInside::Elsewhere(entry))
         }
         Node::Bucket { stamp, pairs } => {
             if have_path(pairs.as_slice(), entry.path) {
                 if let Some(pairs) = Arc::get_mut(pairs) {
-                    return put_in_pairs(stamp, pairs, entry, condition);
+                    return Ok(PutInside::Done(put_in_pairs(stamp, pairs, entry, condition)?));
                 }
             }
+            Ok(PutInside::Elsewhere(entry))
         }
+        Node::Two {
+            bitmap,
+            stamp,
+            size,
+            row,
+        } => match Arc::get_mut(row) {
+            Some(row) => put_in_two(alloc, bitmap, stamp, size, row, entry, level, condition),
+            None => Ok(PutInside::Elsewhere(entry)),
+        },
+        Node::Four {
+            bitmap,
+            stamp,
+            size,
+            row,
+        } => match Arc::get_mut(row) {
+            Some(row) => put_in_four(alloc, bitmap, stamp, size, row, entry, level, condition),
+            None => Ok(PutInside::Elsewhere(entry)),
+        },
+        Node::Eight {
+            bitmap,
+            stamp,
+            size,
+            row,
+        } => match Arc::get_mut(row) {
+            Some(row) => put_in_eight(alloc, bitmap, stamp, size, row, entry, level, condition),
+            None => Ok(PutInside::Elsewhere(entry)),
+        },
+        Node::Sixteen {
+            bitmap,
+            stamp,
+            size,
+            row,
+        } => match Arc::get_mut(row) {
+            Some(row) => put_in_sixteen(alloc, bitmap, stamp, size, row, entry, level, condition),
+            None => Ok(PutInside::Elsewhere(entry)),
+        },
+        Node::All {
+            bitmap,
+            stamp,
+            size,
+            row,
+        } => match Arc::get_mut(row) {
+            Some(row) => put_in_all(alloc, bitmap, stamp, size, row, entry, level, condition),
+            None => Ok(PutInside::Elsewhere(entry)),
+        },
     }
-    put_copied(alloc, node, entry, level, condition)
 }
 
 /// A put by copies of the nodes of the key's way.
@@ -117,72 +204,202 @@ fn put_copied<K: PathKey + Drop, V: Drop, C: Condition<V>>(
     }
 }
 
-/// Puts a leaf of the entry among the children of a branch, where none has the digit of its key.
-fn insert_leaf<K: Drop, V: Drop>(
-    children: &mut Vec<Node<K, V>>,
-    at: usize,
-    entry: Entry<K, V>,
-) -> Result<(), NoMemory>
-    requires { at ≤ length children.old.items }
-    ensures ok { OnOk result (map tree children.new.items ≡ insert (map tree children.old.items) at (bucket entry.stamp.0 ((entry.key.value, entry.value.value) ∷ []))) }
-    ensures err { OnErr result (children.new.items ≡ children.old.items) }
-{
-    let Entry {
-        key,
-        value,
-        stamp,
-        ..
-    } = entry;
-    children.insert(at, make_leaf(stamp, key, value))?;
-    Ok(())
-}
-
-/// A put below a branch that nobody else holds.
+/// A put below a branch in a row of 2 places, which nobody else holds.
 #[cycle(put_in)]
-fn put_in_branch<K: PathKey + Drop, V: Drop, C: Condition<V>>(
+fn put_in_two<K: PathKey + Drop, V: Drop, C: Condition<V>>(
     alloc: Global,
+    bitmap: &mut u32,
     stamp: &mut Stamp,
-    below: &mut Branch<K, V>,
+    size: &mut u64,
+    row: &mut [Node<K, V>; 2],
     entry: Entry<K, V>,
     level: u32,
     condition: &C,
-) -> Result<Done<V>, NoMemory>
-    requires trie { IsTrie K.cmp K.path_of level (branch_of stamp.old.0 below.old) }
+) -> Result<PutInside<K, V>, NoMemory>
+    requires trie { IsTrie K.cmp K.path_of level (branch_of stamp.old.0 (in_row size.old bitmap.old row.old)) }
     requires path { entry.path.0 ≡ K.path_of entry.key.value }
-    requires agree { KeysAgree K.cmp K.path_of level entry.path.0 (entries (branch_of stamp.old.0 below.old)) }
-    requires room { length (entries (branch_of stamp.old.0 below.old)) < 2 ^ 63 }
-    ensures ok { IfOk result (λ d. PutsIn K.cmp K.path_of level entry.stamp.0 entry.key.value entry.value.value (C.holds condition.now) (branch_of stamp.old.0 below.old) (option_map arc_value d.previous) d.written (branch_of stamp.new.0 below.new)) }
-    ensures due { OnErr result (is_refusable (C.holds condition.now) (first_of K.cmp entry.key.value (entries (branch_of stamp.old.0 below.old))) ≡ true) }
-    ensures err { OnErr result (branch_of stamp.new.0 below.new ≡ branch_of stamp.old.0 below.old) }
+    requires agree { KeysAgree K.cmp K.path_of level entry.path.0 (entries (branch_of stamp.old.0 (in_row size.old bitmap.old row.old))) }
+    requires room { length (entries (branch_of stamp.old.0 (in_row size.old bitmap.old row.old))) < 2 ^ 63 }
+    ensures ok { IfOk result (λ r. PutsInside K.cmp K.path_of level entry (C.holds condition.now) (branch_of stamp.old.0 (in_row size.old bitmap.old row.old)) r (branch_of stamp.new.0 (in_row size.new bitmap.new row.new))) }
+    ensures due { OnErr result (is_refusable (C.holds condition.now) (first_of K.cmp entry.key.value (entries (branch_of stamp.old.0 (in_row size.old bitmap.old row.old)))) ≡ true) }
+    ensures err { OnErr result (branch_of stamp.new.0 (in_row size.new bitmap.new row.new) ≡ branch_of stamp.old.0 (in_row size.old bitmap.old row.old)) }
 {
-    let new_stamp = entry.stamp;
-    let digit = entry.path.digit(level);
-    let at = place(below.bitmap, digit);
-    if !has_digit(below.bitmap, digit) {
-        if !holds_of_absent(condition) {
-            return Ok(Done {
-                previous: None,
-                written: false,
-            });
-        }
-        insert_leaf(&mut below.children, at, entry)?;
-        below.size += 1;
-        below.bitmap |= 1 << digit;
-        *stamp = new_stamp;
-        return Ok(Done {
+    put_in_branch(alloc, bitmap, stamp, size, row, entry, level, condition)
+}
+
+/// A put below a branch in a row of 4 places, which nobody else holds.
+#[cycle(put_in)]
+fn put_in_four<K: PathKey + Drop, V: Drop, C: Condition<V>>(
+    alloc: Global,
+    bitmap: &mut u32,
+    stamp: &mut Stamp,
+    size: &mut u64,
+    row: &mut [Node<K, V>; 4],
+    entry: Entry<K, V>,
+    level: u32,
+    condition: &C,
+) -> Result<PutInside<K, V>, NoMemory>
+    requires trie { IsTrie K.cmp K.path_of level (branch_of stamp.old.0 (in_row size.old bitmap.old row.old)) }
+    requires path { entry.path.0 ≡ K.path_of entry.key.value }
+    requires agree { KeysAgree K.cmp K.path_of level entry.path.0 (entries (branch_of stamp.old.0 (in_row size.old bitmap.old row.old))) }
+    requires room { length (entries (branch_of stamp.old.0 (in_row size.old bitmap.old row.old))) < 2 ^ 63 }
+    ensures ok { IfOk result (λ r. PutsInside K.cmp K.path_of level entry (C.holds condition.now) (branch_of stamp.old.0 (in_row size.old bitmap.old row.old)) r (branch_of stamp.new.0 (in_row size.new bitmap.new row.new))) }
+    ensures due { OnErr result (is_refusable (C.holds condition.now) (first_of K.cmp entry.key.value (entries (branch_of stamp.old.0 (in_row size.old bitmap.old row.old)))) ≡ true) }
+    ensures err { OnErr result (branch_of stamp.new.0 (in_row size.new bitmap.new row.new) ≡ branch_of stamp.old.0 (in_row size.old bitmap.old row.old)) }
+{
+    put_in_branch(alloc, bitmap, stamp, size, row, entry, level, condition)
+}
+
+/// A put below a branch in a row of 8 places, which nobody else holds.
+#[cycle(put_in)]
+fn put_in_eight<K: PathKey + Drop, V: Drop, C: Condition<V>>(
+    alloc: Global,
+    bitmap: &mut u32,
+    stamp: &mut Stamp,
+    size: &mut u64,
+    row: &mut [Node<K, V>; 8],
+    entry: Entry<K, V>,
+    level: u32,
+    condition: &C,
+) -> Result<PutInside<K, V>, NoMemory>
+    requires trie { IsTrie K.cmp K.path_of level (branch_of stamp.old.0 (in_row size.old bitmap.old row.old)) }
+    requires path { entry.path.0 ≡ K.path_of entry.key.value }
+    requires agree { KeysAgree K.cmp K.path_of level entry.path.0 (entries (branch_of stamp.old.0 (in_row size.old bitmap.old row.old))) }
+    requires room { length (entries (branch_of stamp.old.0 (in_row size.old bitmap.old row.old))) < 2 ^ 63 }
+    ensures ok { IfOk result (λ r. PutsInside K.cmp K.path_of level entry (C.holds condition.now) (branch_of stamp.old.0 (in_row size.old bitmap.old row.old)) r (branch_of stamp.new.0 (in_row size.new bitmap.new row.new))) }
+    ensures due { OnErr result (is_refusable (C.holds condition.now) (first_of K.cmp entry.key.value (entries (branch_of stamp.old.0 (in_row size.old bitmap.old row.old)))) ≡ true) }
+    ensures err { OnErr result (branch_of stamp.new.0 (in_row size.new bitmap.new row.new) ≡ branch_of stamp.old.0 (in_row size.old bitmap.old row.old)) }
+{
+    put_in_branch(alloc, bitmap, stamp, size, row, entry, level, condition)
+}
+
+/// A put below a branch in a row of 16 places, which nobody else holds.
+#[cycle(put_in)]
+fn put_in_sixteen<K: PathKey + Drop, V: Drop, C: Condition<V>>(
+    alloc: Global,
+    bitmap: &mut u32,
+    stamp: &mut Stamp,
+    size: &mut u64,
+    row: &mut [Node<K, V>; 16],
+    entry: Entry<K, V>,
+    level: u32,
+    condition: &C,
+) -> Result<PutInside<K, V>, NoMemory>
+    requires trie { IsTrie K.cmp K.path_of level (branch_of stamp.old.0 (in_row size.old bitmap.old row.old)) }
+    requires path { entry.path.0 ≡ K.path_of entry.key.value }
+    requires agree { KeysAgree K.cmp K.path_of level entry.path.0 (entries (branch_of stamp.old.0 (in_row size.old bitmap.old row.old))) }
+    requires room { length (entries (branch_of stamp.old.0 (in_row size.old bitmap.old row.old))) < 2 ^ 63 }
+    ensures ok { IfOk result (λ r. PutsInside K.cmp K.path_of level entry (C.holds condition.now) (branch_of stamp.old.0 (in_row size.old bitmap.old row.old)) r (branch_of stamp.new.0 (in_row size.new bitmap.new row.new))) }
+    ensures due { OnErr result (is_refusable (C.holds condition.now) (first_of K.cmp entry.key.value (entries (branch_of stamp.old.0 (in_row size.old bitmap.old row.old)))) ≡ true) }
+    ensures err { OnErr result (branch_of stamp.new.0 (in_row size.new bitmap.new row.new) ≡ branch_of stamp.old.0 (in_row size.old bitmap.old row.old)) }
+{
+    put_in_branch(alloc, bitmap, stamp, size, row, entry, level, condition)
+}
+
+/// A put below a branch in a row of 32 places, which nobody else holds.
+#[cycle(put_in)]
+fn put_in_all<K: PathKey + Drop, V: Drop, C: Condition<V>>(
+    alloc: Global,
+    bitmap: &mut u32,
+    stamp: &mut Stamp,
+    size: &mut u64,
+    row: &mut [Node<K, V>; 32],
+    entry: Entry<K, V>,
+    level: u32,
+    condition: &C,
+) -> Result<PutInside<K, V>, NoMemory>
+    requires trie { IsTrie K.cmp K.path_of level (branch_of stamp.old.0 (in_row size.old bitmap.old row.old)) }
+    requires path { entry.path.0 ≡ K.path_of entry.key.value }
+    requires agree { KeysAgree K.cmp K.path_of level entry.path.0 (entries (branch_of stamp.old.0 (in_row size.old bitmap.old row.old))) }
+    requires room { length (entries (branch_of stamp.old.0 (in_row size.old bitmap.old row.old))) < 2 ^ 63 }
+    ensures ok { IfOk result (λ r. PutsInside K.cmp K.path_of level entry (C.holds condition.now) (branch_of stamp.old.0 (in_row size.old bitmap.old row.old)) r (branch_of stamp.new.0 (in_row size.new bitmap.new row.new))) }
+    ensures due { OnErr result (is_refusable (C.holds condition.now) (first_of K.cmp entry.key.value (entries (branch_of stamp.old.0 (in_row size.old bitmap.old row.old)))) ≡ true) }
+    ensures err { OnErr result (branch_of stamp.new.0 (in_row size.new bitmap.new row.new) ≡ branch_of stamp.old.0 (in_row size.old bitmap.old row.old)) }
+{
+    put_in_branch(alloc, bitmap, stamp, size, row, entry, level, condition)
+}
+
+/// A put of a key whose digit no child of a branch has, where nobody else holds the branch's row: a
+/// leaf among its children, in a row of the next size if this one is full.
+fn put_leaf<K: PathKey + Drop, V: Drop, C: Condition<V>>(
+    alloc: Global,
+    bitmap: &mut u32,
+    stamp: &mut Stamp,
+    size: &mut u64,
+    row: &mut [Node<K, V>],
+    digit: u32,
+    at: usize,
+    entry: Entry<K, V>,
+    condition: &C,
+) -> Result<PutInside<K, V>, NoMemory>
+    requires digit { digit < fan_out }
+    requires lacks { (bit_at bitmap.old digit == 1) ≡ false }
+    requires at { at ≤ count_ones bitmap.old }
+    requires row { count_ones bitmap.old ≤ length row.old }
+    requires size { size.old + 1 < 2 ^ 64 }
+    ensures ok { IfOk result (λ r. PutsLeaf entry (C.holds condition.now None) (branch entry.stamp.0 (size.old + 1) (bit_or bitmap.old (1 * 2 ^ digit % 2 ^ 32)) (trees (insert (map tree (take (count_ones bitmap.old) row.old)) at (bucket entry.stamp.0 ((entry.key.value, entry.value.value) ∷ []))))) (branch_of stamp.old.0 (in_row size.old bitmap.old row.old)) r (branch_of stamp.new.0 (in_row size.new bitmap.new row.new))) }
+    ensures due { OnErr result (C.holds condition.now None ≡ true) }
+    ensures err { OnErr result (branch_of stamp.new.0 (in_row size.new bitmap.new row.new) ≡ branch_of stamp.old.0 (in_row size.old bitmap.old row.old)) }
+{
+    if !holds_of_absent(condition) {
+        return Ok(PutInside::Done(Done {
             previous: None,
-            written: true,
-        });
+            written: false,
+        }));
     }
-    let child = &mut below.children[at];
+    let Entry {
+        key,
+        value,
+        stamp: new_stamp,
+        ..
+    } = entry;
+    let leaf = make_leaf(new_stamp, key, value);
+    if bitmap.count_ones() as usize == row.len() {
+        let grown = outgrow(alloc, *bitmap, *size, row, digit, at, leaf, new_stamp)?;
+        return Ok(PutInside::GivesWay(grown));
+    }
+    gain_child(bitmap, stamp, size, row, digit, at, leaf, new_stamp);
+    Ok(PutInside::Done(Done {
+        previous: None,
+        written: true,
+    }))
+}
+
+/// A put below a branch whose row nobody else holds.
+#[cycle(put_in)]
+fn put_in_branch<K: PathKey + Drop, V: Drop, C: Condition<V>>(
+    alloc: Global,
+    bitmap: &mut u32,
+    stamp: &mut Stamp,
+    size: &mut u64,
+    row: &mut [Node<K, V>],
+    entry: Entry<K, V>,
+    level: u32,
+    condition: &C,
+) -> Result<PutInside<K, V>, NoMemory>
+    requires trie { IsTrie K.cmp K.path_of level (branch_of stamp.old.0 (in_row size.old bitmap.old row.old)) }
+    requires path { entry.path.0 ≡ K.path_of entry.key.value }
+    requires agree { KeysAgree K.cmp K.path_of level entry.path.0 (entries (branch_of stamp.old.0 (in_row size.old bitmap.old row.old))) }
+    requires room { length (entries (branch_of stamp.old.0 (in_row size.old bitmap.old row.old))) < 2 ^ 63 }
+    ensures ok { IfOk result (λ r. PutsInside K.cmp K.path_of level entry (C.holds condition.now) (branch_of stamp.old.0 (in_row size.old bitmap.old row.old)) r (branch_of stamp.new.0 (in_row size.new bitmap.new row.new))) }
+    ensures due { OnErr result (is_refusable (C.holds condition.now) (first_of K.cmp entry.key.value (entries (branch_of stamp.old.0 (in_row size.old bitmap.old row.old)))) ≡ true) }
+    ensures err { OnErr result (branch_of stamp.new.0 (in_row size.new bitmap.new row.new) ≡ branch_of stamp.old.0 (in_row size.old bitmap.old row.old)) }
+{
+    let digit = entry.path.digit(level);
+    let at = place(*bitmap, digit);
+    if !has_digit(*bitmap, digit) {
+        return put_leaf(alloc, bitmap, stamp, size, row, digit, at, entry, condition);
+    }
+    let new_stamp = entry.stamp;
+    let child = &mut row[at];
     let before = count(child);
     let done = put_in_at(alloc, child, entry, level + 1, condition)?;
     if !done.written {
-        return Ok(done);
+        return Ok(PutInside::Done(done));
     }
-    below.size = below.size + count(child) - before;
+    *size = *size + count(child) - before;
     *stamp = new_stamp;
-    Ok(done)
+    Ok(PutInside::Done(done))
 }
 
 /// Puts the value at the key, where the condition holds of the value that the key has. The root is

@@ -4,6 +4,7 @@ ghost use Rattle.std.specs.Prelude.{ℕ, ◌≡◌, ◌&&◌, option_map, is_som
 ghost use Rattle.trie_shape.specs.Map.{value_at, without};
 ghost use Rattle.trie_shape.specs.Tree.{IsTrie, entries};
 ghost use Rattle.trie_shape.specs.View.{tree, branch_of};
+ghost use Rattle.trie_shape.specs.Inside.{lent};
 ghost use Rattle.trie_shape.specs.Roots.{IsRoot, map_of, word_of};
 ghost use Rattle.trie_shape.specs.Shape.{nodes, Restamps};
 ghost use Rattle.trie_node.specs.Changes.{IsRemoval};
@@ -14,16 +15,16 @@ use crate::put::Written;
 use crate::removal_outcome::Removal;
 use hash_path::{Path, PathKey};
 use std::alloc::Global;
-use std::slice;
 use trie_shape::{
-    Always, Branch, Condition, NoMemory, Node, Stamp, has_digit, place, with_rest, without_rest,
+    Always, Branch, Condition, Contents, NoMemory, Node, Stamp, has_digit, nth, open_node, place,
+    with_rest, without_rest,
 };
 
 /// The removal of the key from a branch that stands at the level.
 #[cycle(removal)]
 fn remove_below<'a, K: PathKey + Drop, V: Drop, C: Condition<V>>(
     alloc: Global,
-    below: &'a Branch<K, V>,
+    below: Branch<'a, K, V>,
     key: &K,
     path: Path,
     stamp: Stamp,
@@ -31,16 +32,16 @@ fn remove_below<'a, K: PathKey + Drop, V: Drop, C: Condition<V>>(
     condition: &C,
 ) -> Result<Removal<'a, K, V>, NoMemory>
     requires path { path.0 ≡ K.path_of key.now }
-    requires trie { IsTrie K.cmp K.path_of level (branch_of 0 below.now) }
-    ensures due { OnErr result (is_removable K.cmp key.now (C.holds condition.now) (entries (branch_of 0 below.now)) ≡ true) }
-    ensures ok { IfOk result (λ r. (before : ℕ) → Removes K.cmp K.path_of level stamp.0 key.now (C.holds condition.now) (branch_of before below.now) r) }
+    requires trie { IsTrie K.cmp K.path_of level (branch_of 0 (lent below)) }
+    ensures due { OnErr result (is_removable K.cmp key.now (C.holds condition.now) (entries (branch_of 0 (lent below.entry))) ≡ true) }
+    ensures ok { IfOk result (λ r. (before : ℕ) → Removes K.cmp K.path_of level stamp.0 key.now (C.holds condition.now) (branch_of before (lent below.entry)) r) }
 {
     let digit = path.digit(level);
     if !has_digit(below.bitmap, digit) {
         return Ok(Removal::Nothing(None));
     }
     let at = place(below.bitmap, digit);
-    let child = &below.children[at];
+    let child = nth(below.children, at);
     match remove_at(alloc, child, key, path, stamp, level + 1, condition)? {
         Removal::Nothing(found) => Ok(Removal::Nothing(found)),
         Removal::Gone(value) => {
@@ -71,12 +72,9 @@ pub(crate) fn remove_at<'a, K: PathKey + Drop, V: Drop, C: Condition<V>>(
     ensures due { OnErr result (is_removable K.cmp key.now (C.holds condition.now) (entries (tree node.now)) ≡ true) }
     ensures ok { IfOk result (λ r. Removes K.cmp K.path_of level stamp.0 key.now (C.holds condition.now) (tree node.now) r) }
 {
-    match node {
-        Node::Branch { below, .. } => {
-            remove_below(alloc, below, key, path, stamp, level, condition)
-        }
-        Node::Leaf { pair, .. } => take_pair(alloc, slice::from_ref(pair), key, stamp, condition),
-        Node::Bucket { pairs, .. } => take_pair(alloc, pairs.as_slice(), key, stamp, condition),
+    match open_node(node) {
+        Contents::Branch(below) => remove_below(alloc, below, key, path, stamp, level, condition),
+        Contents::Pairs(pairs) => take_pair(alloc, pairs, key, stamp, condition),
     }
 }
 

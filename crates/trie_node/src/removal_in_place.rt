@@ -8,7 +8,7 @@ ghost use Rattle.trie_shape.specs.Roots.{IsRoot, map_of, word_of};
 ghost use Rattle.trie_shape.specs.Map.{value_at, without};
 ghost use Rattle.trie_node.specs.Changes.{IsRemoval};
 ghost use Rattle.trie_shape.specs.Tree.{IsTrie, entries};
-ghost use Rattle.trie_shape.specs.View.{tree, branch_of};
+ghost use Rattle.trie_shape.specs.View.{tree, branch_of, in_row};
 ghost use Rattle.trie_node.specs.RemovalInPlace.{TakesOut, TakesInside};
 
 use crate::bucket_in_place::remove_from_pairs;
@@ -19,7 +19,7 @@ use hash_path::{Path, PathKey};
 use std::alloc::Global;
 use std::sync::Arc;
 use trie_shape::{
-    Always, Branch, Condition, NoMemory, Node, Stamp, count_out, has_digit, lose_child, place,
+    Always, Condition, NoMemory, Node, Stamp, count_out, has_digit, lose_child, place,
 };
 
 /// What a removal did to a node.
@@ -33,13 +33,15 @@ pub(crate) enum RemovedIn<V> {
     Left(Arc<V, Global>),
 }
 
-/// What a removal below a branch came to.
+/// What a removal from a node where it stands came to.
 #[derive(Drop)]
 pub(crate) enum TakenInside<K, V> {
     /// The removal is done.
     Done(RemovedIn<V>),
     /// This node is to take the branch's place.
     GivesWay(Node<K, V>, Arc<V, Global>),
+    /// The node cannot be written where it stands, and is as it was.
+    Elsewhere,
 }
 
 /// The removal of the key from a node that stands at the level: where it stands as far as nobody
@@ -60,28 +62,103 @@ pub(crate) fn remove_in_at<K: PathKey + Drop, V: Drop, C: Condition<V>>(
     ensures due { OnErr result (is_some (first_of K.cmp key.now (entries (tree node.old))) ≡ true) }
     ensures err { OnErr result (tree node.new ≡ tree node.old) }
 {
-    match node {
-        Node::Branch { stamp: old, below } => {
-            if let Some(below) = Arc::get_mut(below) {
-                match remove_in_branch(alloc, old, below, key, path, stamp, level, condition)? {
-                    TakenInside::Done(removed) => return Ok(removed),
-                    TakenInside::GivesWay(rest, value) => {
-                        *node = rest;
-                        return Ok(RemovedIn::Left(value));
-                    }
-                }
-            }
+    match remove_in_node(alloc, node, key, path, stamp, level, condition)? {
+        TakenInside::Done(removed) => Ok(removed),
+        TakenInside::GivesWay(rest, value) => {
+            *node = rest;
+            Ok(RemovedIn::Left(value))
         }
-        Node::Leaf { .. } => {}
-        Node::Bucket { stamp: old, pairs } => {
-            if pairs.len() > 2 {
-                if let Some(pairs) = Arc::get_mut(pairs) {
-                    return remove_from_pairs(old, pairs, key, stamp, condition);
-                }
-            }
-        }
+        TakenInside::Elsewhere => remove_copied(alloc, node, key, path, stamp, level, condition),
     }
-    remove_copied(alloc, node, key, path, stamp, level, condition)
+}
+
+/// The removal of the key from a node that stands at the level, where nobody else holds the node.
+#[cycle(remove_in)]
+fn remove_in_node<K: PathKey + Drop, V: Drop, C: Condition<V>>(
+    alloc: Global,
+    node: &mut Node<K, V>,
+    key: &K,
+    path: Path,
+    stamp: Stamp,
+    level: u32,
+    condition: &C,
+) -> Result<TakenInside<K, V>, NoMemory>
+    requires path { path.0 ≡ K.path_of key.now }
+    requires trie { IsTrie K.cmp K.path_of level (tree node.old) }
+    ensures ok { IfOk result (λ r. TakesInside K.cmp K.path_of level stamp.0 key.now (C.holds condition.now) (tree node.old) r (tree node.new)) }
+    ensures due { OnErr result (is_some (first_of K.cmp key.now (entries (tree node.old))) ≡ true) }
+    ensures err { OnErr result (tree node.new ≡ tree node.old) }
+{
+    match node {
+        Node::Vacant => Ok(TakenInside::Elsewhere),
+        Node::Leaf { .. } => Ok(TakenInside::Elsewhere),
+        Node::Bucket { stamp: old, pairs } => {
+            if pairs.len() <= 2 {
+                return Ok(TakenInside::Elsewhere);
+            }
+            match Arc::get_mut(pairs) {
+                Some(pairs) => Ok(TakenInside::Done(remove_from_pairs(
+                    old, pairs, key, stamp, condition,
+                )?)),
+                None => Ok(TakenInside::Elsewhere),
+            }
+        }
+        Node::Two {
+            bitmap,
+            stamp: old,
+            size,
+            row,
+        } => match Arc::get_mut(row) {
+            Some(row) => remove_in_two(
+                alloc, bitmap, old, size, row, key, path, stamp, level, condition,
+            ),
+            None => Ok(TakenInside::Elsewhere),
+        },
+        Node::Four {
+            bitmap,
+            stamp: old,
+            size,
+            row,
+        } => match Arc::get_mut(row) {
+            Some(row) => remove_in_four(
+                alloc, bitmap, old, size, row, key, path, stamp, level, condition,
+            ),
+            None => Ok(TakenInside::Elsewhere),
+        },
+        Node::Eight {
+            bitmap,
+            stamp: old,
+            size,
+            row,
+        } => match Arc::get_mut(row) {
+            Some(row) => remove_in_eight(
+                alloc, bitmap, old, size, row, key, path, stamp, level, condition,
+            ),
+            None => Ok(TakenInside::Elsewhere),
+        },
+        Node::Sixteen {
+            bitmap,
+            stamp: old,
+            size,
+            row,
+        } => match Arc::get_mut(row) {
+            Some(row) => remove_in_sixteen(
+                alloc, bitmap, old, size, row, key, path, stamp, level, condition,
+            ),
+            None => Ok(TakenInside::Elsewhere),
+        },
+        Node::All {
+            bitmap,
+            stamp: old,
+            size,
+            row,
+        } => match Arc::get_mut(row) {
+            Some(row) => remove_in_all(
+                alloc, bitmap, old, size, row, key, path, stamp, level, condition,
+            ),
+            None => Ok(TakenInside::Elsewhere),
+        },
+    }
 }
 
 /// A removal by copies of the nodes of the key's way.
@@ -111,12 +188,14 @@ fn remove_copied<K: PathKey + Drop, V: Drop, C: Condition<V>>(
     }
 }
 
-/// The removal of the key from a branch that nobody else holds.
+/// The removal of the key from a branch in a row of 2 places, which nobody else holds.
 #[cycle(remove_in)]
-fn remove_in_branch<K: PathKey + Drop, V: Drop, C: Condition<V>>(
+fn remove_in_two<K: PathKey + Drop, V: Drop, C: Condition<V>>(
     alloc: Global,
+    bitmap: &mut u32,
     stamp: &mut Stamp,
-    below: &mut Branch<K, V>,
+    size: &mut u64,
+    row: &mut [Node<K, V>; 2],
     key: &K,
     path: Path,
     new_stamp: Stamp,
@@ -124,26 +203,151 @@ fn remove_in_branch<K: PathKey + Drop, V: Drop, C: Condition<V>>(
     condition: &C,
 ) -> Result<TakenInside<K, V>, NoMemory>
     requires path { path.0 ≡ K.path_of key.now }
-    requires trie { IsTrie K.cmp K.path_of level (branch_of stamp.old.0 below.old) }
-    ensures ok { IfOk result (λ r. TakesInside K.cmp K.path_of level new_stamp.0 key.now (C.holds condition.now) (branch_of stamp.old.0 below.old) r (branch_of stamp.new.0 below.new)) }
-    ensures due { OnErr result (is_some (first_of K.cmp key.now (entries (branch_of stamp.old.0 below.old))) ≡ true) }
-    ensures err { OnErr result (branch_of stamp.new.0 below.new ≡ branch_of stamp.old.0 below.old) }
+    requires trie { IsTrie K.cmp K.path_of level (branch_of stamp.old.0 (in_row size.old bitmap.old row.old)) }
+    ensures ok { IfOk result (λ r. TakesInside K.cmp K.path_of level new_stamp.0 key.now (C.holds condition.now) (branch_of stamp.old.0 (in_row size.old bitmap.old row.old)) r (branch_of stamp.new.0 (in_row size.new bitmap.new row.new))) }
+    ensures due { OnErr result (is_some (first_of K.cmp key.now (entries (branch_of stamp.old.0 (in_row size.old bitmap.old row.old)))) ≡ true) }
+    ensures err { OnErr result (branch_of stamp.new.0 (in_row size.new bitmap.new row.new) ≡ branch_of stamp.old.0 (in_row size.old bitmap.old row.old)) }
+{
+    remove_in_branch(
+        alloc, bitmap, stamp, size, row, key, path, new_stamp, level, condition,
+    )
+}
+
+/// The removal of the key from a branch in a row of 4 places, which nobody else holds.
+#[cycle(remove_in)]
+fn remove_in_four<K: PathKey + Drop, V: Drop, C: Condition<V>>(
+    alloc: Global,
+    bitmap: &mut u32,
+    stamp: &mut Stamp,
+    size: &mut u64,
+    row: &mut [Node<K, V>; 4],
+    key: &K,
+    path: Path,
+    new_stamp: Stamp,
+    level: u32,
+    condition: &C,
+) -> Result<TakenInside<K, V>, NoMemory>
+    requires path { path.0 ≡ K.path_of key.now }
+    requires trie { IsTrie K.cmp K.path_of level (branch_of stamp.old.0 (in_row size.old bitmap.old row.old)) }
+    ensures ok { IfOk result (λ r. TakesInside K.cmp K.path_of level new_stamp.0 key.now (C.holds condition.now) (branch_of stamp.old.0 (in_row size.old bitmap.old row.old)) r (branch_of stamp.new.0 (in_row size.new bitmap.new row.new))) }
+    ensures due { OnErr result (is_some (first_of K.cmp key.now (entries (branch_of stamp.old.0 (in_row size.old bitmap.old row.old)))) ≡ true) }
+    ensures err { OnErr result (branch_of stamp.new.0 (in_row size.new bitmap.new row.new) ≡ branch_of stamp.old.0 (in_row size.old bitmap.old row.old)) }
+{
+    remove_in_branch(
+        alloc, bitmap, stamp, size, row, key, path, new_stamp, level, condition,
+    )
+}
+
+/// The removal of the key from a branch in a row of 8 places, which nobody else holds.
+#[cycle(remove_in)]
+fn remove_in_eight<K: PathKey + Drop, V: Drop, C: Condition<V>>(
+    alloc: Global,
+    bitmap: &mut u32,
+    stamp: &mut Stamp,
+    size: &mut u64,
+    row: &mut [Node<K, V>; 8],
+    key: &K,
+    path: Path,
+    new_stamp: Stamp,
+    level: u32,
+    condition: &C,
+) -> Result<TakenInside<K, V>, NoMemory>
+    requires path { path.0 ≡ K.path_of key.now }
+    requires trie { IsTrie K.cmp K.path_of level (branch_of stamp.old.0 (in_row size.old bitmap.old row.old)) }
+    ensures ok { IfOk result (λ r. TakesInside K.cmp K.path_of level new_stamp.0 key.now (C.holds condition.now) (branch_of stamp.old.0 (in_row size.old bitmap.old row.old)) r (branch_of stamp.new.0 (in_row size.new bitmap.new row.new))) }
+    ensures due { OnErr result (is_some (first_of K.cmp key.now (entries (branch_of stamp.old.0 (in_row size.old bitmap.old row.old)))) ≡ true) }
+    ensures err { OnErr result (branch_of stamp.new.0 (in_row size.new bitmap.new row.new) ≡ branch_of stamp.old.0 (in_row size.old bitmap.old row.old)) }
+{
+    remove_in_branch(
+        alloc, bitmap, stamp, size, row, key, path, new_stamp, level, condition,
+    )
+}
+
+/// The removal of the key from a branch in a row of 16 places, which nobody else holds.
+#[cycle(remove_in)]
+fn remove_in_sixteen<K: PathKey + Drop, V: Drop, C: Condition<V>>(
+    alloc: Global,
+    bitmap: &mut u32,
+    stamp: &mut Stamp,
+    size: &mut u64,
+    row: &mut [Node<K, V>; 16],
+    key: &K,
+    path: Path,
+    new_stamp: Stamp,
+    level: u32,
+    condition: &C,
+) -> Result<TakenInside<K, V>, NoMemory>
+    requires path { path.0 ≡ K.path_of key.now }
+    requires trie { IsTrie K.cmp K.path_of level (branch_of stamp.old.0 (in_row size.old bitmap.old row.old)) }
+    ensures ok { IfOk result (λ r. TakesInside K.cmp K.path_of level new_stamp.0 key.now (C.holds condition.now) (branch_of stamp.old.0 (in_row size.old bitmap.old row.old)) r (branch_of stamp.new.0 (in_row size.new bitmap.new row.new))) }
+    ensures due { OnErr result (is_some (first_of K.cmp key.now (entries (branch_of stamp.old.0 (in_row size.old bitmap.old row.old)))) ≡ true) }
+    ensures err { OnErr result (branch_of stamp.new.0 (in_row size.new bitmap.new row.new) ≡ branch_of stamp.old.0 (in_row size.old bitmap.old row.old)) }
+{
+    remove_in_branch(
+        alloc, bitmap, stamp, size, row, key, path, new_stamp, level, condition,
+    )
+}
+
+/// The removal of the key from a branch in a row of 32 places, which nobody else holds.
+#[cycle(remove_in)]
+fn remove_in_all<K: PathKey + Drop, V: Drop, C: Condition<V>>(
+    alloc: Global,
+    bitmap: &mut u32,
+    stamp: &mut Stamp,
+    size: &mut u64,
+    row: &mut [Node<K, V>; 32],
+    key: &K,
+    path: Path,
+    new_stamp: Stamp,
+    level: u32,
+    condition: &C,
+) -> Result<TakenInside<K, V>, NoMemory>
+    requires path { path.0 ≡ K.path_of key.now }
+    requires trie { IsTrie K.cmp K.path_of level (branch_of stamp.old.0 (in_row size.old bitmap.old row.old)) }
+    ensures ok { IfOk result (λ r. TakesInside K.cmp K.path_of level new_stamp.0 key.now (C.holds condition.now) (branch_of stamp.old.0 (in_row size.old bitmap.old row.old)) r (branch_of stamp.new.0 (in_row size.new bitmap.new row.new))) }
+    ensures due { OnErr result (is_some (first_of K.cmp key.now (entries (branch_of stamp.old.0 (in_row size.old bitmap.old row.old)))) ≡ true) }
+    ensures err { OnErr result (branch_of stamp.new.0 (in_row size.new bitmap.new row.new) ≡ branch_of stamp.old.0 (in_row size.old bitmap.old row.old)) }
+{
+    remove_in_branch(
+        alloc, bitmap, stamp, size, row, key, path, new_stamp, level, condition,
+    )
+}
+
+/// The removal of the key from a branch whose row nobody else holds.
+#[cycle(remove_in)]
+fn remove_in_branch<K: PathKey + Drop, V: Drop, C: Condition<V>>(
+    alloc: Global,
+    bitmap: &mut u32,
+    stamp: &mut Stamp,
+    size: &mut u64,
+    row: &mut [Node<K, V>],
+    key: &K,
+    path: Path,
+    new_stamp: Stamp,
+    level: u32,
+    condition: &C,
+) -> Result<TakenInside<K, V>, NoMemory>
+    requires path { path.0 ≡ K.path_of key.now }
+    requires trie { IsTrie K.cmp K.path_of level (branch_of stamp.old.0 (in_row size.old bitmap.old row.old)) }
+    ensures ok { IfOk result (λ r. TakesInside K.cmp K.path_of level new_stamp.0 key.now (C.holds condition.now) (branch_of stamp.old.0 (in_row size.old bitmap.old row.old)) r (branch_of stamp.new.0 (in_row size.new bitmap.new row.new))) }
+    ensures due { OnErr result (is_some (first_of K.cmp key.now (entries (branch_of stamp.old.0 (in_row size.old bitmap.old row.old)))) ≡ true) }
+    ensures err { OnErr result (branch_of stamp.new.0 (in_row size.new bitmap.new row.new) ≡ branch_of stamp.old.0 (in_row size.old bitmap.old row.old)) }
 {
     let digit = path.digit(level);
-    if !has_digit(below.bitmap, digit) {
+    if !has_digit(*bitmap, digit) {
         return Ok(TakenInside::Done(RemovedIn::Nothing(None)));
     }
-    let at = place(below.bitmap, digit);
-    let child = &mut below.children[at];
+    let at = place(*bitmap, digit);
+    let child = &mut row[at];
     match remove_in_at(alloc, child, key, path, new_stamp, level + 1, condition)? {
         RemovedIn::Nothing(found) => Ok(TakenInside::Done(RemovedIn::Nothing(found))),
         RemovedIn::Gone(value) => {
-            match lose_child(stamp, below, digit, at, new_stamp, level) {
+            match lose_child(bitmap, stamp, size, row, digit, at, new_stamp, level) {
                 Some(rest) => Ok(TakenInside::GivesWay(rest, value)),
                 None => Ok(TakenInside::Done(RemovedIn::Left(value))),
             }
         }
-        RemovedIn::Left(value) => match count_out(stamp, below, new_stamp, level) {
+        RemovedIn::Left(value) => match count_out(*bitmap, stamp, size, row, new_stamp, level) {
             Some(rest) => Ok(TakenInside::GivesWay(rest, value)),
             None => Ok(TakenInside::Done(RemovedIn::Left(value))),
         },

@@ -1,7 +1,9 @@
 pub mod Views
+pub mod Opened
 pub mod Empty
 pub mod Appended
 pub mod Bits
+pub mod Ones
 pub mod Tries
 pub mod Passing
 pub mod Ways
@@ -26,3 +28,4 @@ pub mod Walked
 pub mod Below
 pub mod Unions
 pub mod Descents
+pub mod Places

@@ -10,3 +10,4 @@ pub mod Drawn
 pub mod Order
 pub mod Counts
 pub mod Listings
+pub mod Inside

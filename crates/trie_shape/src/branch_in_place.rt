@@ -1,42 +1,123 @@
-//! Branches that lose a pair where they stand.
+//! Branches that gain or lose a pair where they stand.
 
-ghost use Rattle.std.specs.Prelude.{◌≡◌, ◌<◌, ◌-◌, ◌*◌, ◌%◌, ◌^◌, IfSome, IfNone, length, map, bit_and};
-ghost use Rattle.std.specs.Int.{bit_not, w32};
-ghost use Rattle.std.specs.List.{remove};
+ghost use Rattle.std.specs.Prelude.{◌≡◌, ◌==◌, ◌<◌, ◌≤◌, ◌+◌, ◌-◌, ◌*◌, ◌%◌, ◌^◌, true, false, IfSome, IfNone, length, map, take, bit_and, bit_or};
+ghost use Rattle.std.specs.Int.{bit_at, bit_not, w32};
+ghost use Rattle.std.specs.Int.RustNames.{count_ones};
+ghost use Rattle.std.specs.List.{insert, remove};
 ghost use Rattle.hash_path.specs.Digits.{fan_out};
 ghost use Rattle.trie_shape.specs.Tree.{branch, trees};
-ghost use Rattle.trie_shape.specs.View.{tree, branch_of};
+ghost use Rattle.trie_shape.specs.View.{tree, branch_of, in_row};
 ghost use Rattle.trie_shape.specs.Drawn.{drawn_up};
 
 use crate::contraction::is_pairs;
-use crate::node::{Branch, Node};
+use crate::node::Node;
 use crate::stamps::Stamp;
+use std::mem;
+
+/// A bitmap with a digit that it lacks.
+pub(crate) fn with_digit(bitmap: u32, digit: u32) -> u32
+    requires digit { digit < fan_out }
+    requires lacks { (bit_at bitmap digit == 1) ≡ false }
+    ensures value { result ≡ bit_or bitmap (1 * 2 ^ digit % 2 ^ 32) }
+    ensures ones { count_ones result ≡ count_ones bitmap + 1 }
+{
+    bitmap | (1 << digit)
+}
+
+/// A bitmap without a digit that it has.
+fn without_digit(bitmap: u32, digit: u32) -> u32
+    requires digit { digit < fan_out }
+    requires has { (bit_at bitmap digit == 1) ≡ true }
+    ensures value { result ≡ bit_and bitmap (bit_not w32 (1 * 2 ^ digit % 2 ^ 32)) }
+    ensures ones { count_ones result + 1 ≡ count_ones bitmap }
+{
+    bitmap & !(1 << digit)
+}
+
+/// Puts a node among the first `used` of a row. What stood in the place behind them is dropped.
+pub(crate) fn open_up<K: Drop, V: Drop>(
+    row: &mut [Node<K, V>],
+    at: usize,
+    used: usize,
+    node: Node<K, V>,
+)
+    requires at { at ≤ used }
+    requires used { used < length row.old }
+    ensures len { length row.new ≡ length row.old }
+    ensures row { take (used + 1) row.new ≡ insert (take used row.old) at node }
+{
+    row[used] = node;
+    row[at..used + 1].rotate_right(1);
+}
+
+/// Gives a branch whose row has room one child more, of a digit that no child has, at its place. For
+/// the crates that write whole roots.
+pub fn gain_child<K: Drop, V: Drop>(
+    bitmap: &mut u32,
+    stamp: &mut Stamp,
+    size: &mut u64,
+    row: &mut [Node<K, V>],
+    digit: u32,
+    at: usize,
+    child: Node<K, V>,
+    new_stamp: Stamp,
+)
+    requires digit { digit < fan_out }
+    requires lacks { (bit_at bitmap.old digit == 1) ≡ false }
+    requires at { at ≤ count_ones bitmap.old }
+    requires row { count_ones bitmap.old < length row.old }
+    requires size { size.old + 1 < 2 ^ 64 }
+    ensures { branch_of stamp.new.0 (in_row size.new bitmap.new row.new) ≡ branch new_stamp.0 (size.old + 1) (bit_or bitmap.old (1 * 2 ^ digit % 2 ^ 32)) (trees (insert (map tree (take (count_ones bitmap.old) row.old)) at (tree child))) }
+{
+    let used = bitmap.count_ones() as usize;
+    open_up(row, at, used, child);
+    *size += 1;
+    *bitmap = with_digit(*bitmap, digit);
+    *stamp = new_stamp;
+}
+
+/// Takes the node at a place out of the first `used` of a row. The nodes behind it move up, and the
+/// last of the places is vacant then.
+fn close_up<K: Drop, V: Drop>(row: &mut [Node<K, V>], at: usize, used: usize)
+    requires at { at < used }
+    requires used { used ≤ length row.old }
+    ensures len { length row.new ≡ length row.old }
+    ensures row { take (used - 1) row.new ≡ remove (take used row.old) at }
+{
+    row[at..used].rotate_left(1);
+    row[used - 1] = Node::Vacant;
+}
 
 /// Takes the child at a place, which has the digit, out of a branch. Below the root, an only child
 /// that is left and is a leaf or bucket is handed out, to take the branch's place. For
 /// the crates that write whole roots.
 pub fn lose_child<K: Drop, V: Drop>(
+    bitmap: &mut u32,
     stamp: &mut Stamp,
-    below: &mut Branch<K, V>,
+    size: &mut u64,
+    row: &mut [Node<K, V>],
     digit: u32,
     at: usize,
     new_stamp: Stamp,
     level: u32,
 ) -> Option<Node<K, V>>
     requires digit { digit < fan_out }
-    requires at { at < length below.old.children.items }
-    requires size { 0 < below.old.size }
-    ensures gives { IfSome result (λ n. tree n ≡ drawn_up level (branch new_stamp.0 (below.old.size - 1) (bit_and below.old.bitmap (bit_not w32 (1 * 2 ^ digit % 2 ^ 32))) (trees (remove (map tree below.old.children.items) at)))) }
-    ensures stays { IfNone result (branch_of stamp.new.0 below.new ≡ drawn_up level (branch new_stamp.0 (below.old.size - 1) (bit_and below.old.bitmap (bit_not w32 (1 * 2 ^ digit % 2 ^ 32))) (trees (remove (map tree below.old.children.items) at)))) }
+    requires has { (bit_at bitmap.old digit == 1) ≡ true }
+    requires at { at < count_ones bitmap.old }
+    requires row { count_ones bitmap.old ≤ length row.old }
+    requires size { 0 < size.old }
+    ensures gives { IfSome result (λ n. tree n ≡ drawn_up level (branch new_stamp.0 (size.old - 1) (bit_and bitmap.old (bit_not w32 (1 * 2 ^ digit % 2 ^ 32))) (trees (remove (map tree (take (count_ones bitmap.old) row.old)) at)))) }
+    ensures stays { IfNone result (branch_of stamp.new.0 (in_row size.new bitmap.new row.new) ≡ drawn_up level (branch new_stamp.0 (size.old - 1) (bit_and bitmap.old (bit_not w32 (1 * 2 ^ digit % 2 ^ 32))) (trees (remove (map tree (take (count_ones bitmap.old) row.old)) at)))) }
 {
-    if level > 0 && below.children.len() == 2 {
-        if is_pairs(&below.children[1 - at]) {
-            return Some(below.children.remove(1 - at));
+    let used = bitmap.count_ones() as usize;
+    if level > 0 && used == 2 {
+        if is_pairs(&row[1 - at]) {
+            return Some(mem::replace(&mut row[1 - at], Node::Vacant));
         }
     }
-    let _gone = below.children.remove(at);
-    below.size -= 1;
-    below.bitmap &= !(1 << digit);
+    close_up(row, at, used);
+    *size -= 1;
+    *bitmap = without_digit(*bitmap, digit);
     *stamp = new_stamp;
     None
 }
@@ -44,21 +125,24 @@ pub fn lose_child<K: Drop, V: Drop>(
 /// Counts a pair out of a branch whose child has lost it. Below the root, an only child that is a
 /// leaf or bucket is handed out, to take the branch's place. For the crates that write whole roots.
 pub fn count_out<K: Drop, V: Drop>(
+    bitmap: u32,
     stamp: &mut Stamp,
-    below: &mut Branch<K, V>,
+    size: &mut u64,
+    row: &mut [Node<K, V>],
     new_stamp: Stamp,
     level: u32,
 ) -> Option<Node<K, V>>
-    requires size { 0 < below.old.size }
-    ensures gives { IfSome result (λ n. tree n ≡ drawn_up level (branch new_stamp.0 (below.old.size - 1) below.old.bitmap (trees (map tree below.old.children.items)))) }
-    ensures stays { IfNone result (branch_of stamp.new.0 below.new ≡ drawn_up level (branch new_stamp.0 (below.old.size - 1) below.old.bitmap (trees (map tree below.old.children.items)))) }
+    requires row { count_ones bitmap ≤ length row.old }
+    requires size { 0 < size.old }
+    ensures gives { IfSome result (λ n. tree n ≡ drawn_up level (branch new_stamp.0 (size.old - 1) bitmap (trees (map tree (take (count_ones bitmap) row.old))))) }
+    ensures stays { IfNone result (branch_of stamp.new.0 (in_row size.new bitmap row.new) ≡ drawn_up level (branch new_stamp.0 (size.old - 1) bitmap (trees (map tree (take (count_ones bitmap) row.old))))) }
 {
-    if level > 0 && below.children.len() == 1 {
-        if is_pairs(&below.children[0]) {
-            return Some(below.children.remove(0));
+    if level > 0 && bitmap.count_ones() == 1 {
+        if is_pairs(&row[0]) {
+            return Some(mem::replace(&mut row[0], Node::Vacant));
         }
     }
-    below.size -= 1;
+    *size -= 1;
     *stamp = new_stamp;
     None
 }

@@ -1,16 +1,19 @@
 //! Branches that have lost a pair, drawn up where one leaf or bucket is left.
 
-ghost use Rattle.std.specs.Prelude.{◌≡◌, ◌<◌, ◌-◌, ◌*◌, ◌%◌, ◌^◌, IfOk, length, map, bit_and, slice_set as set};
-ghost use Rattle.std.specs.Int.{bit_not, w32};
+ghost use Rattle.std.specs.Prelude.{◌≡◌, ◌==◌, ◌<◌, ◌-◌, ◌*◌, ◌%◌, ◌^◌, true, IfOk, length, map, bit_and, slice_set as set};
+ghost use Rattle.std.specs.Int.{bit_at, bit_not, w32};
+ghost use Rattle.std.specs.Int.RustNames.{count_ones};
 ghost use Rattle.std.specs.List.{remove};
 ghost use Rattle.hash_path.specs.Digits.{fan_out};
 ghost use Rattle.trie_shape.specs.Tree.{branch, trees};
 ghost use Rattle.trie_shape.specs.View.{tree};
 ghost use Rattle.trie_shape.specs.Drawn.{is_bucket, drawn_up};
 
-use crate::copies::{push_copies, with_child};
+use crate::contents::{Branch, nth};
+use crate::copies::with_child;
 use crate::no_memory::NoMemory;
-use crate::node::{Branch, Node, make_branch};
+use crate::node::Node;
+use crate::rows::branch_of_parts;
 use crate::stamps::Stamp;
 use std::alloc::Global;
 
@@ -19,9 +22,8 @@ pub(crate) fn is_pairs<K, V>(node: &Node<K, V>) -> bool
     ensures { result ≡ is_bucket (tree node.now) }
 {
     match node {
-        Node::Branch { .. } => false,
-        Node::Leaf { .. } => true,
-        Node::Bucket { .. } => true,
+        Node::Vacant | Node::Leaf { .. } | Node::Bucket { .. } => true,
+        _ => false,
     }
 }
 
@@ -30,47 +32,44 @@ pub(crate) fn is_pairs<K, V>(node: &Node<K, V>) -> bool
 pub fn with_rest<K: Drop, V: Drop>(
     alloc: Global,
     stamp: Stamp,
-    old: &Branch<K, V>,
+    old: Branch<'_, K, V>,
     at: usize,
     child: Node<K, V>,
     level: u32,
 ) -> Result<Node<K, V>, NoMemory>
-    requires at { at < length old.now.children.items }
-    requires size { 0 < old.now.size }
-    ensures { IfOk result (λ n. tree n ≡ drawn_up level (branch stamp.0 (old.now.size - 1) old.now.bitmap (trees (set (map tree old.now.children.items) at (tree child))))) }
+    requires at { at < length old.children.now }
+    requires size { 0 < old.size }
+    requires count { length old.children.now ≡ count_ones old.bitmap }
+    ensures { IfOk result (λ n. tree n ≡ drawn_up level (branch stamp.0 (old.entry.size - 1) old.entry.bitmap (trees (set (map tree old.entry.children.now) at (tree child))))) }
 {
     if level > 0 && old.children.len() == 1 && is_pairs(&child) {
         return Ok(child);
     }
-    with_child(
-        alloc,
-        stamp,
-        old.size - 1,
-        old.bitmap,
-        old.children.as_slice(),
-        at,
-        child,
-    )
+    let left = old.size - 1;
+    with_child(alloc, stamp, left, old.bitmap, old.children, at, child)
 }
 
 /// A branch without its child of a digit, which stands at a place.
 fn without_child<K: Drop, V: Drop>(
     alloc: Global,
     stamp: Stamp,
-    old: &Branch<K, V>,
+    old: Branch<'_, K, V>,
     digit: u32,
     at: usize,
 ) -> Result<Node<K, V>, NoMemory>
     requires digit { digit < fan_out }
-    requires at { at < length old.now.children.items }
-    requires size { 0 < old.now.size }
-    ensures { IfOk result (λ n. tree n ≡ branch stamp.0 (old.now.size - 1) (bit_and old.now.bitmap (bit_not w32 (1 * 2 ^ digit % 2 ^ 32))) (trees (remove (map tree old.now.children.items) at))) }
+    requires has { (bit_at old.bitmap digit == 1) ≡ true }
+    requires at { at < length old.children.now }
+    requires size { 0 < old.size }
+    requires count { length old.children.now ≡ count_ones old.bitmap }
+    ensures { IfOk result (λ n. tree n ≡ branch stamp.0 (old.entry.size - 1) (bit_and old.entry.bitmap (bit_not w32 (1 * 2 ^ digit % 2 ^ 32))) (trees (remove (map tree old.entry.children.now) at))) }
 {
-    let children = old.children.as_slice();
-    let mut all = Vec::with_capacity(alloc, children.len() - 1)?;
-    push_copies(&mut all, &children[..at])?;
-    push_copies(&mut all, &children[at + 1..])?;
-    make_branch(alloc, stamp, old.size - 1, old.bitmap & !(1 << digit), all)
+    let children = old.children;
+    let (front, back) = (&children[..at], &children[at + 1..]);
+    let size = old.size - 1;
+    let bitmap = old.bitmap & !(1 << digit);
+    let mut none = [];
+    branch_of_parts(alloc, stamp, size, bitmap, front, &mut none, back)
 }
 
 /// A branch without its child of a digit, which stands at a place. Below the root, an only child
@@ -79,18 +78,20 @@ fn without_child<K: Drop, V: Drop>(
 pub fn without_rest<K: Drop, V: Drop>(
     alloc: Global,
     stamp: Stamp,
-    old: &Branch<K, V>,
+    old: Branch<'_, K, V>,
     digit: u32,
     at: usize,
     level: u32,
 ) -> Result<Node<K, V>, NoMemory>
     requires digit { digit < fan_out }
-    requires at { at < length old.now.children.items }
-    requires size { 0 < old.now.size }
-    ensures { IfOk result (λ n. tree n ≡ drawn_up level (branch stamp.0 (old.now.size - 1) (bit_and old.now.bitmap (bit_not w32 (1 * 2 ^ digit % 2 ^ 32))) (trees (remove (map tree old.now.children.items) at)))) }
+    requires has { (bit_at old.bitmap digit == 1) ≡ true }
+    requires at { at < length old.children.now }
+    requires size { 0 < old.size }
+    requires count { length old.children.now ≡ count_ones old.bitmap }
+    ensures { IfOk result (λ n. tree n ≡ drawn_up level (branch stamp.0 (old.entry.size - 1) (bit_and old.entry.bitmap (bit_not w32 (1 * 2 ^ digit % 2 ^ 32))) (trees (remove (map tree old.entry.children.now) at)))) }
 {
     if level > 0 && old.children.len() == 2 {
-        let other = &old.children[1 - at];
+        let other = nth(old.children, 1 - at);
         if is_pairs(other) {
             return other.try_clone();
         }

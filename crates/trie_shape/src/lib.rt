@@ -8,14 +8,17 @@
 mod bitmap;
 mod branch_in_place;
 mod condition;
+mod contents;
 mod contraction;
 mod copies;
+mod growing;
 mod laws;
 mod looks;
 mod no_memory;
 mod node;
 mod pairs;
 mod reading;
+mod rows;
 mod search;
 mod stamps;
 mod union_laws;
@@ -28,8 +31,9 @@ pub use laws::{
 };
 pub use looks::Look;
 pub use no_memory::NoMemory;
-pub use node::{Node, empty_root};
+pub use node::Node;
 pub use reading::{child, look, size, stamp};
+pub use rows::empty_root;
 pub use search::{find, find_along};
 pub use stamps::Stamp;
 pub use union_laws::{union_of_maps, unions_of_maps};
@@ -39,8 +43,11 @@ pub use walk_laws::{
 
 // For the crates that write whole roots. None of them hands these on.
 pub use bitmap::{has_digit, place};
-pub use branch_in_place::{count_out, lose_child};
+pub use branch_in_place::{count_out, gain_child, lose_child};
+pub use contents::{Branch, Contents, nth, open_node};
 pub use contraction::{with_rest, without_rest};
 pub use copies::{with_child, with_more};
-pub use node::{Branch, make_branch, make_bucket, make_leaf};
+pub use growing::outgrow;
+pub use node::{make_bucket, make_leaf};
 pub use pairs::{find_pair, put_pair};
+pub use rows::make_branch;

@@ -1,29 +1,25 @@
 //! A node, and what it shares with its other handles.
 
 ghost use Rattle.std.specs.Prelude.{◌≡◌, IfOk, [], ◌∷◌, map};
-ghost use Rattle.trie_shape.specs.Tree.{branch, bucket, trees};
+ghost use Rattle.trie_shape.specs.Tree.{bucket};
 ghost use Rattle.trie_shape.specs.View.{tree, pair_values};
-ghost use Rattle.trie_shape.specs.Shape.{nodes};
-ghost use Rattle.trie_shape.specs.Roots.{IsRoot, map_of, word_of};
 
 use crate::no_memory::NoMemory;
 use crate::stamps::Stamp;
-use hash_path::PathKey;
 use std::alloc::Global;
 use std::sync::Arc;
 
-/// A node of a trie, as it lies in its holder's place: a stamp and one pair, or a stamp and a shared
-/// handle on the children of a branch or on the pairs of a bucket.
+/// A node of a trie, as it lies in its holder's place: a stamp and one pair, a stamp and a shared
+/// handle on the pairs of a bucket, or the head of a branch and a shared handle on its row.
 ///
-/// A leaf costs no memory of its own: it stands among its branch's children.
+/// A leaf costs no memory of its own: it stands among its branch's children. A branch is one block,
+/// its row: a row has 2, 4, 8, 16 or 32 places, and the places behind the last child are vacant. The
+/// fields are open to the crates that write whole roots, and to no crate above them.
 #[cycle(node)]
 #[derive(Drop)]
 pub enum Node<K, V> {
-    /// A branch: the stamp of the last write through it, and what it shares with its other handles.
-    Branch {
-        stamp: Stamp,
-        below: Arc<Branch<K, V>, Global>,
-    },
+    /// No node: a place of a row behind the last child.
+    Vacant,
     /// One pair.
     Leaf {
         stamp: Stamp,
@@ -34,16 +30,42 @@ pub enum Node<K, V> {
         stamp: Stamp,
         pairs: Arc<Vec<(Arc<K, Global>, Arc<V, Global>)>, Global>,
     },
-}
-
-/// What lies behind the pointer of a branch. Its fields are open to the crates that write
-/// whole roots, and to no crate above them.
-#[cycle(node)]
-#[derive(Drop)]
-pub struct Branch<K, V> {
-    pub size: u64,
-    pub bitmap: u32,
-    pub children: Vec<Node<K, V>>,
+    /// A branch in a row of two places: the digits that it has children of, the stamp of the last write
+    /// through it, the number of pairs below it, and the row.
+    Two {
+        bitmap: u32,
+        stamp: Stamp,
+        size: u64,
+        row: Arc<[Node<K, V>; 2], Global>,
+    },
+    /// A branch in a row of four places.
+    Four {
+        bitmap: u32,
+        stamp: Stamp,
+        size: u64,
+        row: Arc<[Node<K, V>; 4], Global>,
+    },
+    /// A branch in a row of eight places.
+    Eight {
+        bitmap: u32,
+        stamp: Stamp,
+        size: u64,
+        row: Arc<[Node<K, V>; 8], Global>,
+    },
+    /// A branch in a row of sixteen places.
+    Sixteen {
+        bitmap: u32,
+        stamp: Stamp,
+        size: u64,
+        row: Arc<[Node<K, V>; 16], Global>,
+    },
+    /// A branch in a row of a place for each digit.
+    All {
+        bitmap: u32,
+        stamp: Stamp,
+        size: u64,
+        row: Arc<[Node<K, V>; 32], Global>,
+    },
 }
 
 impl<K: Drop, V: Drop> Node<K, V> {
@@ -52,10 +74,7 @@ impl<K: Drop, V: Drop> Node<K, V> {
         ensures { IfOk result (λ n. tree n ≡ tree self.now) }
     {
         match self {
-            Node::Branch { stamp, below } => Ok(Node::Branch {
-                stamp: *stamp,
-                below: Arc::try_clone(below)?,
-            }),
+            Node::Vacant => Ok(Node::Vacant),
             Node::Leaf { stamp, pair } => Ok(Node::Leaf {
                 stamp: *stamp,
                 pair: (Arc::try_clone(&pair.0)?, Arc::try_clone(&pair.1)?),
@@ -64,29 +83,63 @@ impl<K: Drop, V: Drop> Node<K, V> {
                 stamp: *stamp,
                 pairs: Arc::try_clone(pairs)?,
             }),
+            Node::Two {
+                bitmap,
+                stamp,
+                size,
+                row,
+            } => Ok(Node::Two {
+                bitmap: *bitmap,
+                stamp: *stamp,
+                size: *size,
+                row: Arc::try_clone(row)?,
+            }),
+            Node::Four {
+                bitmap,
+                stamp,
+                size,
+                row,
+            } => Ok(Node::Four {
+                bitmap: *bitmap,
+                stamp: *stamp,
+                size: *size,
+                row: Arc::try_clone(row)?,
+            }),
+            Node::Eight {
+                bitmap,
+                stamp,
+                size,
+                row,
+            } => Ok(Node::Eight {
+                bitmap: *bitmap,
+                stamp: *stamp,
+                size: *size,
+                row: Arc::try_clone(row)?,
+            }),
+            Node::Sixteen {
+                bitmap,
+                stamp,
+                size,
+                row,
+            } => Ok(Node::Sixteen {
+                bitmap: *bitmap,
+                stamp: *stamp,
+                size: *size,
+                row: Arc::try_clone(row)?,
+            }),
+            Node::All {
+                bitmap,
+                stamp,
+                size,
+                row,
+            } => Ok(Node::All {
+                bitmap: *bitmap,
+                stamp: *stamp,
+                size: *size,
+                row: Arc::try_clone(row)?,
+            }),
         }
     }
-}
-
-/// A branch of these children. For the crates that write whole roots.
-pub fn make_branch<K: Drop, V: Drop>(
-    alloc: Global,
-    stamp: Stamp,
-    size: u64,
-    bitmap: u32,
-    children: Vec<Node<K, V>>,
-) -> Result<Node<K, V>, NoMemory>
-    ensures { IfOk result (λ n. tree n ≡ branch stamp.0 size bitmap (trees (map tree children.items))) }
-{
-    let branch = Branch {
-        size,
-        bitmap,
-        children,
-    };
-    Ok(Node::Branch {
-        stamp,
-        below: Arc::new(alloc, branch)?,
-    })
 }
 
 /// A leaf of one pair. For the crates that write whole roots.
@@ -111,16 +164,4 @@ pub fn make_bucket<K: Drop, V: Drop>(
         stamp,
         pairs: Arc::new(alloc, pairs)?,
     })
-}
-
-/// The root of the empty map.
-pub fn empty_root<K: PathKey + Drop, V: Drop>(
-    alloc: Global,
-    stamp: Stamp,
-) -> Result<Node<K, V>, NoMemory>
-    ensures root { IfOk result (λ n. IsRoot K.cmp K.path_of (tree n)) }
-    ensures map { IfOk result (λ n. map_of K.cmp (tree n) ≡ []) }
-    ensures nodes { IfOk result (λ n. nodes (word_of K.path_of) (tree n) ≡ ([], stamp.0) ∷ []) }
-{
-    make_branch(alloc, stamp, 0, 0, Vec::new(alloc))
 }

@@ -6,20 +6,20 @@ ghost use Rattle.std.specs.FinMap.Entries.{put as put_in_order};
 ghost use Rattle.trie_shape.specs.View.{pair_values};
 
 use crate::no_memory::NoMemory;
-use hash_path::PathKey;
+use hash_path::{PathKey, Sought};
 use std::alloc::Global;
 use std::cmp::Ordering;
 use std::sync::Arc;
 
 /// The value of the key among pairs. For the crates that write whole roots.
-pub fn find_pair<'a, K: PathKey, V>(
+pub fn find_pair<'a, K: PathKey, V, Q: Sought<K>>(
     pairs: &'a [(Arc<K, Global>, Arc<V, Global>)],
-    key: &K,
+    key: Q,
 ) -> Option<&'a Arc<V, Global>>
-    ensures { option_map (λ v. v.now.value) result ≡ find K.cmp key.now (map pair_values pairs.now) }
+    ensures { option_map (λ v. v.now.value) result ≡ find K.cmp (Q.key_of key) (map pair_values pairs.now) }
 {
     for (k, v) in pairs {
-        if key.cmp(k) == Ordering::Equal {
+        if key.compare_with(k) == Ordering::Equal {
             return Some(v);
         }
     }

@@ -7,19 +7,18 @@ ghost use Rattle.trie_shape.specs.Shape.{Fits};
 ghost use Rattle.trie_shape.specs.Outline.{stamp_of, children};
 ghost use Rattle.trie_shape.specs.Looks.{Shows};
 
+use crate::contents::{Contents, nth, open_node};
 use crate::looks::Look;
 use crate::node::Node;
 use crate::stamps::Stamp;
-use std::slice;
 
 /// The number of pairs below a node. It takes no walk: each branch keeps its number.
 pub fn size<K, V>(node: &Node<K, V>) -> u64
     ensures { Fits (tree node.now) → result ≡ length (entries (tree node.now)) }
 {
-    match node {
-        Node::Branch { below, .. } => below.size,
-        Node::Leaf { .. } => 1,
-        Node::Bucket { pairs, .. } => pairs.len() as u64,
+    match open_node(node) {
+        Contents::Branch(below) => below.size,
+        Contents::Pairs(pairs) => pairs.len() as u64,
     }
 }
 
@@ -28,9 +27,14 @@ pub fn stamp<K, V>(node: &Node<K, V>) -> Stamp
     ensures { result.0 ≡ stamp_of (tree node.now) }
 {
     match node {
-        Node::Branch { stamp, .. } => *stamp,
+        Node::Vacant => Stamp::LOOSE,
         Node::Leaf { stamp, .. } => *stamp,
         Node::Bucket { stamp, .. } => *stamp,
+        Node::Two { stamp, .. } => *stamp,
+        Node::Four { stamp, .. } => *stamp,
+        Node::Eight { stamp, .. } => *stamp,
+        Node::Sixteen { stamp, .. } => *stamp,
+        Node::All { stamp, .. } => *stamp,
     }
 }
 
@@ -38,10 +42,9 @@ pub fn stamp<K, V>(node: &Node<K, V>) -> Stamp
 pub fn look<K, V>(node: &Node<K, V>) -> Look<'_, K, V>
     ensures { Shows result (tree node.now) }
 {
-    match node {
-        Node::Branch { below, .. } => Look::Branch(below.bitmap),
-        Node::Leaf { pair, .. } => Look::Pairs(slice::from_ref(pair)),
-        Node::Bucket { pairs, .. } => Look::Pairs(pairs.as_slice()),
+    match open_node(node) {
+        Contents::Branch(below) => Look::Branch(below.bitmap),
+        Contents::Pairs(pairs) => Look::Pairs(pairs),
     }
 }
 
@@ -50,9 +53,8 @@ pub fn child<K, V>(node: &Node<K, V>, n: u32) -> &Node<K, V>
     requires { n < length (children (tree node.now)) }
     ensures { tree result.now ≡ get_or (children (tree node.now)) n (tree result.now) }
 {
-    match node {
-        Node::Branch { below, .. } => &below.children[n as usize],
-        Node::Leaf { .. } => unreachable!(),
-        Node::Bucket { .. } => unreachable!(),
+    match open_node(node) {
+        Contents::Branch(below) => nth(below.children, n as usize),
+        Contents::Pairs(_) => unreachable!(),
     }
 }

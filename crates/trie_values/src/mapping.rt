@@ -72,7 +72,7 @@ fn map_subtrie<K: Drop, V, W: Drop, F: Fn(&K, &V) -> W>(
             for n in 0..bitmap.count_ones() {
                 children.push(map_subtrie(alloc, child(node, n), stamp, change, few)?)?;
             }
-            make_branch(alloc, stamp, size(node), bitmap, children)
+            make_branch(alloc, stamp, size(node), bitmap, children.as_mut_slice())
         }
     }
 }

@@ -1,6 +1,7 @@
 -- What a row is once it has taken the child of a root.
-use Rattle.std.proofs.Common.{◌≡◌, ℕ, ◌+◌, ◌*◌, ◌<◌, ◌≤◌, ◌==◌, ◌%◌, ◌^◌, false, List, [], length, Option, Some, None, IfSome, sym, ap, ◌∙◌, subst, arith, leb}
+use Rattle.std.proofs.Common.{◌≡◌, ℕ, suc, ◌+◌, ◌*◌, ◌<◌, ◌≤◌, ◌==◌, ◌%◌, ◌^◌, false, List, [], ◌∷◌, length, map, Option, Some, None, IfSome, refl, sym, ap, ◌∙◌, subst, arith, leb}
 use Rattle.std.proofs.lemmas.Bool.{le-leb}
+use Rattle.std.proofs.lemmas.List.{length-map}
 use Rattle.std.specs.declared.cmp.Ordering.{Ordering}
 use Rattle.std.specs.declared.cmp.Ordering.TheVariants.{Equal}
 use Rattle.std.specs.Cmp.{IsTotalOrder}
@@ -13,8 +14,11 @@ use Rattle.hash_path.specs.Digits.{fan_out, word_bits}
 use Rattle.trie_node.specs.Merges.{StampsPass, child_at, pairs_of}
 use Rattle.trie_shape.specs.Map.{union}
 use Rattle.trie_shape.specs.Roots.{IsRoot, map_of, word_of}
-use Rattle.trie_shape.specs.Shape.{NoneAbove, nodes}
+use Rattle.trie_shape.specs.Shape.{Fits, NoneAbove, count_of, nodes}
 use Rattle.trie_shape.specs.Tree.{Tree, branch, trees, entries, IsTrie}
+use Rattle.trie_shape.specs.View.{tree}
+use Rattle.trie_shape.specs.declared.node.Node.{Node}
+use Rattle.trie_shape.proofs.Bits.{length-digits_of}
 use Rattle.trie_shape.proofs.Listings.{listed_as}
 use Rattle.trie_shape.proofs.Roots.{find_entries, length_map_of, map_of_is_map, root_is_trie, trie_is_root}
 use Rattle.trie_shape.proofs.Tries.{place_within}
@@ -24,6 +28,14 @@ use Rattle.trie_node.proofs.StampTests.{listed_pass, none_above_pass, pass_liste
 use Rattle.united_roots.specs.Rows.{EachHasDigit, NoneHasDigit}
 use Rattle.united_roots.proofs.FirstDigit.{found_below, lacks_digit, root_side}
 use Rattle.united_roots.proofs.OneMore.{more_finds, more_pass, more_trie}
+
+count_of-trees : {K V : Type 0} (ts : List (Tree K V)) → count_of (trees ts) ≡ length ts
+count_of-trees [] = refl
+count_of-trees (t ∷ ts) = ap suc (count_of-trees ts)
+
+-- a row has a child for each digit of its bitmap
+pub row_counted : {K V : Type 0} (stamp size bitmap : ℕ) (ns : List (Node K V)) → Fits (branch stamp size bitmap (trees (map tree ns))) → length ns ≡ count_ones bitmap
+row_counted stamp size bitmap ns fits = sym (length-map ns tree) ∙ sym (count_of-trees (map tree ns)) ∙ fits.1 ∙ length-digits_of bitmap fits.0
 
 -- the new root has the pairs of a root too, and no node with a greater stamp
 pub record Takes {K V : Type 0} (R : K → K → Ordering) (path : K → ℕ) (newest : ℕ) (root old new : Tree K V) : Type 0 where

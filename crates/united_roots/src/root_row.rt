@@ -115,7 +115,14 @@ impl<K: PathKey + Drop, V: Drop> RootRow<K, V> {
         ensures entries { IfOk result (λ root. map_of K.cmp (tree root) ≡ self.entries) }
         ensures newest { IfOk result (λ root. NoneAbove self.newest (nodes (word_of K.path_of) (tree root))) }
     {
-        make_branch(alloc, self.newest, self.pairs, self.bitmap, self.children)
+        let mut children = self.children;
+        make_branch(
+            alloc,
+            self.newest,
+            self.pairs,
+            self.bitmap,
+            children.as_mut_slice(),
+        )
     }
 
     /// How many pairs there are.

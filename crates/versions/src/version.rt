@@ -15,7 +15,7 @@ use crate::change::Change;
 use crate::refusal::Refusal;
 use crate::view::View;
 use generation::Source;
-use hash_path::PathKey;
+use hash_path::{PathKey, Sought};
 use std::alloc::Global;
 use std::marker::Model;
 use std::sync::Arc;
@@ -83,15 +83,15 @@ impl<K: PathKey + Drop, V: Drop> Version<K, V> {
     }
 
     /// The value of the key, or none. It takes no memory.
-    pub fn get(&self, key: &K) -> Option<&Arc<V>>
-        ensures { option_map (λ value. value.now.value) result ≡ value_at K.cmp self.now.entries key.now }
+    pub fn get<Q: Sought<K>>(&self, key: Q) -> Option<&Arc<V>>
+        ensures { option_map (λ value. value.now.value) result ≡ value_at K.cmp self.now.entries (Q.key_of key) }
     {
-        self.get_along(key, key.path())
+        self.get_along(key, key.path_sought())
     }
 
     /// Whether the key has a value. It takes no memory.
-    pub fn contains_key(&self, key: &K) -> bool
-        ensures { result ≡ is_some (value_at K.cmp self.now.entries key.now) }
+    pub fn contains_key<Q: Sought<K>>(&self, key: Q) -> bool
+        ensures { result ≡ is_some (value_at K.cmp self.now.entries (Q.key_of key)) }
     {
         self.get(key).is_some()
     }

@@ -5,7 +5,7 @@ ghost use Rattle.trie_shape.specs.View.{tree};
 ghost use Rattle.versions.specs.Map.{IsMap, value_at};
 ghost use Rattle.versions.specs.declared.version.TheConstants.{MOST_PAIRS};
 
-use hash_path::PathKey;
+use hash_path::{PathKey, Sought};
 use std::marker::Model;
 use std::sync::Arc;
 use trie_node::{NoMemory, Node, root_is_map};
@@ -32,15 +32,15 @@ impl<K: PathKey, V> Model for View<K, V> {
 
 impl<K: PathKey, V> View<K, V> {
     /// The value of the key, or none. It takes no memory.
-    pub fn get(&self, key: &K) -> Option<&Arc<V>>
-        ensures { option_map (λ value. value.now.value) result ≡ value_at K.cmp self.now key.now }
+    pub fn get<Q: Sought<K>>(&self, key: Q) -> Option<&Arc<V>>
+        ensures { option_map (λ value. value.now.value) result ≡ value_at K.cmp self.now (Q.key_of key) }
     {
         trie_node::find(&self.root, key)
     }
 
     /// Whether the key has a value. It takes no memory.
-    pub fn contains_key(&self, key: &K) -> bool
-        ensures { result ≡ is_some (value_at K.cmp self.now key.now) }
+    pub fn contains_key<Q: Sought<K>>(&self, key: Q) -> bool
+        ensures { result ≡ is_some (value_at K.cmp self.now (Q.key_of key)) }
     {
         self.get(key).is_some()
     }

@@ -1,22 +1,26 @@
 //! Writes of a stripe that a closure decides on.
-ghost use Rattle.std.specs.Prelude.{◌≡◌, IfErr, IfOk, IfSome, OnErr, OnOk, Option, option_map};
+ghost use Rattle.std.specs.Prelude.{◌≡◌, Bool, IfOk, IfSome, OnErr, OnOk, Option, Result, if◌then◌else◌, option_map};
 ghost use Rattle.std.specs.Arc.{arc_value};
-ghost use Rattle.stripes.specs.Rules.{IsPutRefusal, first_digit as digit_of};
-ghost use Rattle.stripes.specs.Updates.{MayMake, with_value};
-ghost use Rattle.versions.specs.Map.{value_at};
+ghost use Rattle.stripes.specs.Rules.{first_digit as digit_of};
+ghost use Rattle.stripes.specs.Updates.{MayMake, MayPass, Sets, TriesToSet, value_if};
+ghost use Rattle.versions.specs.Commands.{is_full_for};
+ghost use Rattle.versions.specs.Map.{value_at, with_pair, without};
+ghost use Rattle.versions.specs.Puts.{FullExactly};
 
-use super::Stripe;
+use super::{MOST_PAIRS_OF_STRIPE, Stripe};
 use crate::keeps::Keeps;
 use hash_path::{Path, PathKey};
 use std::alloc::Global;
 use std::sync::Arc;
+use trie_node::NoMemory;
 use versions::Refusal;
 
 impl<K: PathKey + Drop, V: Drop, P: Keeps<K, V>> Stripe<K, V, P> {
     /// Calls `change` at the value that the key has, or at none. The key has then what it made: a value is stored, and
     /// for none the key is removed. The answer is the value before, or none.
     ///
-    /// It is refused as a put is. `change` has run then, and the stripe is as before.
+    /// It is refused as a put is: as `Full` exactly where a value was made, the key is new and there are as many pairs
+    /// as there may be. `change` has run then, and the stripe is as before.
     pub fn update<F: FnOnce(Option<&V>) -> Option<V>>(
         &mut self,
         alloc: Global,
@@ -29,39 +33,86 @@ impl<K: PathKey + Drop, V: Drop, P: Keeps<K, V>> Stripe<K, V, P> {
         requires callable { (old : _) → IfSome old (λ value. P.holds key.value value.now) → F.pre change old }
         requires rule { (old : _) (made : _) → IfSome old (λ value. P.holds key.value value.now) → F.post change old made → IfSome made (P.holds key.value) }
         ensures before { IfOk result (λ before. option_map arc_value before ≡ value_at K.cmp self.old.entries key.value) }
-        ensures entries { OnOk result ((made : Option V) × MayMake F.FnOnce change (value_at K.cmp self.old.entries key.value) made × (self.new.entries ≡ with_value K.cmp self.old.entries key.value made)) }
+        ensures made { (made : Option V) × MayMake F.FnOnce change (value_at K.cmp self.old.entries key.value) made × Sets K.cmp self.old.entries key.value made result self.new.entries }
         ensures digit { self.new.digit ≡ self.old.digit }
-        ensures refused { IfErr result IsPutRefusal }
         ensures err { OnErr result (self.new ≡ self.old) }
         ensures kept { IfOk result (λ before. IfSome before (λ value. P.holds key.value value.value)) }
     {
-        let made = self.made(&key, path, change);
+        let made = self.read(&key, path, change);
         self.set(alloc, key, path, made)
     }
 
-    // What `change` makes of the value that the key has, or of none.
-    fn made<F: FnOnce(Option<&V>) -> Option<V>>(&self, key: &K, path: Path, change: F) -> Option<V>
-        requires path { path.0 ≡ K.path_of key.now }
-        requires place { digit_of K.path_of key.now ≡ self.now.digit }
-        requires callable { (old : _) → IfSome old (λ value. P.holds key.now value.now) → F.pre change old }
-        requires rule { (old : _) (made : _) → IfSome old (λ value. P.holds key.now value.now) → F.post change old made → IfSome made (P.holds key.now) }
-        ensures made { MayMake F.FnOnce change (value_at K.cmp self.now.entries key.now) result }
-        ensures kept { IfSome result (P.holds key.now) }
+    /// What `update` does, where `change` answers something beside what it made: that is handed out.
+    pub fn update_with<T: Drop, F: FnOnce(Option<&V>) -> (Option<V>, T)>(
+        &mut self,
+        alloc: Global,
+        key: Arc<K>,
+        path: Path,
+        change: F,
+    ) -> Result<(Option<Arc<V>>, T), Refusal>
+        requires path { path.0 ≡ K.path_of key.value }
+        requires place { digit_of K.path_of key.value ≡ self.old.digit }
+        requires callable { (old : _) → IfSome old (λ value. P.holds key.value value.now) → F.pre change old }
+        requires rule { (old : _) (made : _) → IfSome old (λ value. P.holds key.value value.now) → F.post change old made → IfSome made.0 (P.holds key.value) }
+        ensures before { IfOk result (λ both. option_map arc_value both.0 ≡ value_at K.cmp self.old.entries key.value) }
+        ensures made { (made : Option V) × (answer : T) × MayMake F.FnOnce change (value_at K.cmp self.old.entries key.value) (made, answer) × Sets K.cmp self.old.entries key.value made result self.new.entries × IfOk result (λ both. both.1 ≡ answer) }
+        ensures digit { self.new.digit ≡ self.old.digit }
+        ensures err { OnErr result (self.new ≡ self.old) }
+        ensures kept { IfOk result (λ both. IfSome both.0 (λ value. P.holds key.value value.value)) }
     {
-        let old = self.value(key, path);
-        change(old)
+        let (made, answer) = self.read(&key, path, change);
+        match self.set(alloc, key, path, made) {
+            Ok(before) => Ok((before, answer)),
+            Err(refusal) => Err(refusal),
+        }
     }
 
-    // The value of the key, or none.
-    fn value(&self, key: &K, path: Path) -> Option<&V>
-        requires path { path.0 ≡ K.path_of key.now }
-        requires place { digit_of K.path_of key.now ≡ self.now.digit }
-        ensures value { option_map (λ value. value.now) result ≡ value_at K.cmp self.now.entries key.now }
-        ensures kept { IfSome result (λ value. P.holds key.now value.now) }
+    /// What `update` does, where `change` may fail: its error is handed out, and the stripe is as before.
+    pub fn try_update<E, F: FnOnce(Option<&V>) -> Result<Option<V>, E>>(
+        &mut self,
+        alloc: Global,
+        key: Arc<K>,
+        path: Path,
+        change: F,
+    ) -> Result<Result<Option<Arc<V>>, E>, Refusal>
+        requires path { path.0 ≡ K.path_of key.value }
+        requires place { digit_of K.path_of key.value ≡ self.old.digit }
+        requires callable { (old : _) → IfSome old (λ value. P.holds key.value value.now) → F.pre change old }
+        requires rule { (old : _) (made : _) → IfSome old (λ value. P.holds key.value value.now) → F.post change old made → IfOk made (λ new. IfSome new (P.holds key.value)) }
+        ensures before { IfOk result (λ done. IfOk done (λ before. option_map arc_value before ≡ value_at K.cmp self.old.entries key.value)) }
+        ensures made { (made : Result (Option V) E) × MayMake F.FnOnce change (value_at K.cmp self.old.entries key.value) made × TriesToSet K.cmp self.old.entries key.value made result self.new.entries }
+        ensures digit { self.new.digit ≡ self.old.digit }
+        ensures err { OnErr result (self.new ≡ self.old) }
+        ensures kept { IfOk result (λ done. IfOk done (λ before. IfSome before (λ value. P.holds key.value value.value))) }
     {
-        match self.get(key, path) {
-            Some(value) => Some(&**value),
-            None => None,
+        match self.read(&key, path, change) {
+            Ok(made) => Ok(Ok(self.set(alloc, key, path, made)?)),
+            Err(error) => Ok(Err(error)),
+        }
+    }
+
+    /// Removes the key where it has a value of which the test holds, and answers the value that was removed, or none.
+    ///
+    /// It is refused for want of memory alone. The test has run then, and the stripe is as before.
+    pub fn remove_passing<F: FnOnce(&V) -> bool>(
+        &mut self,
+        alloc: Global,
+        key: &K,
+        path: Path,
+        test: F,
+    ) -> Result<Option<Arc<V>>, NoMemory>
+        requires path { path.0 ≡ K.path_of key.now }
+        requires place { digit_of K.path_of key.now ≡ self.old.digit }
+        requires callable { (value : _) → P.holds key.now value.now → F.pre test value }
+        ensures removed { (passes : Bool) × MayPass F.FnOnce test (value_at K.cmp self.old.entries key.now) passes × OnOk result (self.new.entries ≡ (if passes then without K.cmp self.old.entries key.now else self.old.entries)) × IfOk result (λ removed. option_map arc_value removed ≡ value_if K.cmp passes self.old.entries key.now) }
+        ensures digit { self.new.digit ≡ self.old.digit }
+        ensures err { OnErr result (self.new ≡ self.old) }
+        ensures kept { IfOk result (λ removed. IfSome removed (λ value. P.holds key.now value.value)) }
+    {
+        if self.passes(key, path, test) {
+            self.remove(alloc, key, path)
+        } else {
+            Ok(None)
         }
     }
 
@@ -77,18 +128,49 @@ impl<K: PathKey + Drop, V: Drop, P: Keeps<K, V>> Stripe<K, V, P> {
         requires path { path.0 ≡ K.path_of key.value }
         requires place { digit_of K.path_of key.value ≡ self.old.digit }
         ensures before { IfOk result (λ before. option_map arc_value before ≡ value_at K.cmp self.old.entries key.value) }
-        ensures entries { OnOk result (self.new.entries ≡ with_value K.cmp self.old.entries key.value made) }
+        ensures sets { Sets K.cmp self.old.entries key.value made result self.new.entries }
         ensures digit { self.new.digit ≡ self.old.digit }
-        ensures refused { IfErr result IsPutRefusal }
         ensures err { OnErr result (self.new ≡ self.old) }
         ensures kept { IfOk result (λ before. IfSome before (λ value. P.holds key.value value.value)) }
     {
         match made {
-            Some(value) => {
-                let value = Arc::new(alloc, value)?;
-                self.put(alloc, key, path, value)
-            }
+            Some(value) => self.store(alloc, key, path, value),
             None => Ok(self.remove(alloc, &key, path)?),
         }
+    }
+
+    // What `put` does with a value that is not shared yet. A full stripe is looked for first, so that it is told whatever
+    // the memory.
+    fn store(
+        &mut self,
+        alloc: Global,
+        key: Arc<K>,
+        path: Path,
+        value: V,
+    ) -> Result<Option<Arc<V>>, Refusal>
+        requires rule { P.holds key.value value }
+        requires path { path.0 ≡ K.path_of key.value }
+        requires place { digit_of K.path_of key.value ≡ self.old.digit }
+        ensures before { IfOk result (λ before. option_map arc_value before ≡ value_at K.cmp self.old.entries key.value) }
+        ensures entries { OnOk result (self.new.entries ≡ with_pair K.cmp self.old.entries key.value value) }
+        ensures digit { self.new.digit ≡ self.old.digit }
+        ensures full { FullExactly result (is_full_for K.cmp MOST_PAIRS_OF_STRIPE self.old.entries key.value) }
+        ensures err { OnErr result (self.new ≡ self.old) }
+        ensures kept { IfOk result (λ before. IfSome before (λ value. P.holds key.value value.value)) }
+    {
+        if self.is_full_for(&key, path) {
+            return Err(Refusal::Full);
+        }
+        let value = Arc::new(alloc, value)?;
+        self.put(alloc, key, path, value)
+    }
+
+    // Whether the key is new and there are as many pairs as there may be.
+    fn is_full_for(&self, key: &K, path: Path) -> bool
+        requires path { path.0 ≡ K.path_of key.now }
+        requires place { digit_of K.path_of key.now ≡ self.now.digit }
+        ensures { result ≡ is_full_for K.cmp MOST_PAIRS_OF_STRIPE self.now.entries key.now }
+    {
+        self.len() == MOST_PAIRS_OF_STRIPE && self.get(key, path).is_none()
     }
 }

@@ -56,7 +56,7 @@ fn assert_said<R: AllocGlobal + Abort>(rt: &R, words: &[&str], wanted: &str) {
 }
 
 /// Words, and what is said of them.
-const GIVEN: [(&[&str], &str); 9] = [
+const GIVEN: [(&[&str], &str); 10] = [
     (
         &[],
         "4 workers, grain 1024, audit false, journal none, file none",
@@ -90,6 +90,7 @@ const GIVEN: [(&[&str], &str); 9] = [
         &["--help"],
         "help: Runs a script of clients on a table of maps, and prints the reply to each line",
     ),
+    (&["a", "--version"], "help: trierun 0.1.0"),
 ];
 
 #[test]

@@ -15,12 +15,12 @@ use std::sync::Arc;
 use test_keys::{ChosenKey, take_all};
 use trie_node::NoMemory;
 
-// The bytes of room for the first children of a branch and for two, of a branch, of room for one
-// child, and of a value.
-const SIZES: [usize; 5] = [128, 64, 48, 32, 16];
+// The bytes of a row of four places, of the first room for children, of a row of two places, of room for two children and
+// for one, and of a value.
+const SIZES: [usize; 6] = [136, 128, 72, 64, 32, 16];
 
 /// How many blocks are given back at most.
-pub(super) const MOST_GIVEN: usize = 60;
+pub(super) const MOST_GIVEN: usize = 90;
 
 // Blocks of memory.
 type Blocks = Vec<Vec<u8>>;
@@ -29,7 +29,7 @@ type Blocks = Vec<Vec<u8>>;
 fn spare(alloc: Global) -> Result<Blocks, AllocError> {
     let mut blocks = Vec::with_capacity(alloc, MOST_GIVEN)?;
     for number in 0..MOST_GIVEN {
-        blocks.push(Vec::with_capacity(alloc, SIZES[number % 5])?)?;
+        blocks.push(Vec::with_capacity(alloc, SIZES[number % 6])?)?;
     }
     Ok(blocks)
 }

@@ -73,17 +73,17 @@ fn near(alloc: Global, count: u64) -> Result<Vec<u64>, AllocError> {
     Ok(words)
 }
 
-// A bunch has 256 pairs at most: a subtrie of one more is entered, and a bucket of more is given in parts.
+// A bunch has 512 pairs at most: a subtrie of one more is entered, and a bucket of more is given in parts.
 #[test]
 fn bunches_end_where_they_are_full(rt: HostRuntime) {
     let alloc = rt.alloc();
-    for count in [255, 256, 257, 1_100] {
+    for count in [511, 512, 513, 1_100] {
         let words = near(alloc, count).expect(&rt, "no words");
         let (map, rows) = map_of(&rt, alloc, &words);
         assert_eq!(rt; rows.len() as u64, count);
         assert_halves(&rt, alloc, &map, &rows);
     }
-    for count in [255, 256, 257, 512, 513, 1_100] {
+    for count in [511, 512, 513, 1_024, 1_025, 1_100] {
         let words = beside_bucket(alloc, count).expect(&rt, "no words");
         let (map, rows) = map_of(&rt, alloc, &words);
         assert_halves(&rt, alloc, &map, &rows);

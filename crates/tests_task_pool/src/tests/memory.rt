@@ -1,5 +1,5 @@
-//! Counts where memory is wanting: at each request of a caller that works alone, since no thread can be started then, and
-//! from some piece on, while threads work.
+//! Counts where memory is wanting: at each request of a caller that runs all workers, since no thread can be started
+//! then, and from some piece on, while threads work.
 use super::{Counted, Seen, assert_is, counted, seen};
 use hash_path::Bound;
 use std::alloc::Global;
@@ -53,15 +53,16 @@ fn give(rt: &impl Abort, alloc: Global, shortage: &mut Shortage) {
         .expect(rt, "no room for the rest");
 }
 
-// With each try a request more is met. No thread gets a stack of what little there is, so the pieces of both workers are
-// left to the caller. It catches a count of some of the pairs, and pieces that are lost with a worker.
+// With each try a request more is met. No thread gets a stack of what little there is, so the caller runs both workers,
+// and each piece stands in the list of a worker. It catches a count of some of the pairs, and pieces that are lost with a
+// worker.
 #[test]
 fn a_count_is_refused_at_each_request(rt: HostRuntime) {
     let alloc = rt.alloc();
     let view = seen(&rt, alloc, PAIRS, false);
     let (refused, counted) = refused_and_counted(&rt, alloc, &view);
     assert!(rt; refused > 0);
-    assert_is(&rt, counted, (Some(64), (64, 3, false), 64));
+    assert_is(&rt, counted, (Some(64), (64, 3, false), 0));
 }
 
 // Takes all memory before the piece of a number is worked, by whichever thread, and keeps it. The first piece that is

@@ -1,9 +1,8 @@
 //! Questions by closures.
 use super::{Map, Seen, assert_is, empty, key, put, view_of};
-use combiner::Sum;
 use std::process::Abort;
 use std::sync::Wait;
-use trie_map::NoMemory;
+use trie_map::{Greatest, Least, NoMemory, Sum};
 
 // A map of ten keys in three stripes; the value of each is its number.
 fn ten<R: AllocGlobal + Wait + Abort>(rt: &R) -> Map {
@@ -15,12 +14,12 @@ fn ten<R: AllocGlobal + Wait + Abort>(rt: &R) -> Map {
 }
 
 // Of a view: how many values are even, whether one is 9, and whether all are below 9.
-fn asked(view: &Seen) -> Result<(u64, bool, bool), NoMemory> {
-    Ok((
-        view.count(|_, value| *value % 2 == 0)?,
-        view.exists(|_, value| *value == 9)?,
-        view.for_all(|_, value| *value < 9)?,
-    ))
+fn asked(view: &Seen) -> (u64, bool, bool) {
+    (
+        view.count(|_, value| *value % 2 == 0),
+        view.exists(|_, value| *value == 9),
+        view.for_all(|_, value| *value < 9),
+    )
 }
 
 // Of a view: the number and the value that are found above the bound.
@@ -30,8 +29,16 @@ fn found_above(view: &Seen, bound: u64) -> Result<Option<(u32, u64)>, NoMemory> 
 }
 
 // Of a view: the sum of the values.
-fn sum(view: &Seen) -> Result<i128, NoMemory> {
+fn sum(view: &Seen) -> i128 {
     view.fold(&Sum, |_, value| i128::from(*value))
+}
+
+// Of a view: the least and the greatest of the keys' numbers, each turned negative.
+fn extremes(view: &Seen) -> (Option<i64>, Option<i64>) {
+    (
+        view.fold(&Least, |key, _| Some(-i64::from(key.id))),
+        view.fold(&Greatest, |key, _| Some(-i64::from(key.id))),
+    )
 }
 
 // Of the map: how many keys are in the first stripe, whether a value is 10, and whether all are below 10.
@@ -55,28 +62,29 @@ fn sum_of_map<R: Wait>(rt: &R, map: &Map) -> Result<i128, NoMemory> {
 }
 
 // Of a view: the numbers of the keys, as the digits of one number, in the order of a walk.
-fn keys_of(view: &Seen) -> Result<u32, NoMemory> {
+fn keys_of(view: &Seen) -> u32 {
     let mut digits = 0u32;
-    for key in view.keys()? {
+    for key in view.keys() {
         digits = digits.wrapping_mul(10).wrapping_add(key.id);
     }
-    Ok(digits)
+    digits
 }
 
 // The same of the values.
-fn values_of(view: &Seen) -> Result<u64, NoMemory> {
+fn values_of(view: &Seen) -> u64 {
     let mut digits = 0u64;
-    for value in view.values()? {
+    for value in view.values() {
         digits = digits.wrapping_mul(10).wrapping_add(**value);
     }
-    Ok(digits)
+    digits
 }
 
 #[test]
 fn questions_about_a_view(rt: HostRuntime) {
     let view = view_of(&rt, &ten(&rt));
-    assert_is(&rt, asked(&view), Ok((5, true, false)));
-    assert_is(&rt, sum(&view), Ok(45));
+    assert_is(&rt, asked(&view), (5, true, false));
+    assert_is(&rt, sum(&view), 45);
+    assert_is(&rt, extremes(&view), (Some(-9), Some(0)));
 }
 
 #[test]
@@ -97,14 +105,15 @@ fn questions_about_a_map(rt: HostRuntime) {
 #[test]
 fn keys_and_values_are_walked_in_order(rt: HostRuntime) {
     let view = view_of(&rt, &ten(&rt));
-    assert_is(&rt, keys_of(&view), Ok(369_147_258));
-    assert_is(&rt, values_of(&view), Ok(369_147_258));
+    assert_is(&rt, keys_of(&view), 369_147_258);
+    assert_is(&rt, values_of(&view), 369_147_258);
 }
 
 #[test]
 fn questions_about_no_pairs(rt: HostRuntime) {
     let view = view_of(&rt, &empty(&rt));
-    assert_is(&rt, view.count(|_, _| true), Ok(0));
-    assert_is(&rt, view.exists(|_, _| true), Ok(false));
-    assert_is(&rt, view.for_all(|_, _| false), Ok(true));
+    assert_is(&rt, view.count(|_, _| true), 0);
+    assert_is(&rt, view.exists(|_, _| true), false);
+    assert_is(&rt, view.for_all(|_, _| false), true);
+    assert_is(&rt, extremes(&view), (None, None));
 }

@@ -3,30 +3,36 @@ use super::{Map, assert_is, at, empty, key, plain, put};
 use std::alloc::{AllocError, Global};
 use std::process::Abort;
 use std::sync::Wait;
-use test_keys::take_all;
+use test_keys::{Shortage, take_all};
 use trie_map::PutError;
 
-// The sizes of what a put asks for: an `Arc` of its key or value, and the first room for the children of a branch.
+// The sizes of what a put asks for that is one child too many for its branch: an `Arc` of its key or value, and a row of four
+// places.
 const SMALL: usize = 16;
 
-const LARGE: usize = 128;
+const LARGE: usize = 136;
 
 // How many blocks of each size a put is given at most.
 const MOST_SMALL: usize = 8;
 
 const MOST_LARGE: usize = 4;
 
-// How many sizes of block a call on all stripes is given.
-const STEPS: usize = 28;
+// How many sizes of room a call on all stripes is given, and by how many bytes they differ.
+const STEPS: u32 = 120;
+
+const STEP: usize = 256;
 
 // Whether each call on a map of two pairs answers as it has to where every request is refused: reads as ever, and the
 // others that there is no memory.
-fn without_memory<R: Wait>(rt: &R, map: &Map) -> [bool; 7] {
+fn without_memory<R: Wait>(rt: &R, map: &Map) -> [bool; 10] {
     [
         map.get(rt, &key(1, 0))
             .is_ok_and(|found| plain(found) == Some(1)),
+        map.get_copied(rt, &key(1, 0)) == Some(1),
+        map.read(rt, &key(1, 1), |found| found.copied()) == Some(2),
         map.contains_key(rt, &key(1, 1)),
         map.len(rt) == 2,
+        map.approx_len(rt) == 2,
         map.put(rt, key(2, 0), 3)
             .is_err_and(|e| e == PutError::NoMemory),
         map.clear(rt).is_err(),
@@ -43,7 +49,7 @@ fn reads_make_no_request_and_writes_are_refused(rt: HostRuntime) {
     let taken = take_all(rt.alloc()).expect(&rt, "no list");
     let answers = without_memory(&rt, &map);
     drop(taken);
-    assert_is(&rt, answers, [true; 7]);
+    assert_is(&rt, answers, [true; 10]);
     assert_is(&rt, map.len(&rt), 2);
 }
 
@@ -56,7 +62,7 @@ fn blocks(alloc: Global, count: usize, size: usize) -> Result<Vec<Vec<u8>>, Allo
     Ok(blocks)
 }
 
-// What a put of a second key answers where there is room for so many requests of each size alone.
+// What a put of a third key answers where there is room for so many requests of each size alone.
 fn put_in_room<R: Wait + Abort>(
     rt: &R,
     alloc: Global,
@@ -69,13 +75,13 @@ fn put_in_room<R: Wait + Abort>(
     let taken = take_all(alloc).expect(rt, "no list");
     drop(smalls);
     drop(larges);
-    let answer = map.put(rt, key(2, 0), 2);
+    let answer = map.put(rt, key(65, 0), 2);
     drop(taken);
     Ok(plain(answer?))
 }
 
-// What a put of a second key is answered where there is room for so many requests of each size alone, and the values of
-// the two keys then.
+// What a put of a third key is answered where there is room for so many requests of each size alone, and the values of
+// the first and the third key then. The three stand side by side, below the first digit that they share.
 fn put_beside<R: AllocGlobal + Wait + Abort>(
     rt: &R,
     small: usize,
@@ -83,8 +89,9 @@ fn put_beside<R: AllocGlobal + Wait + Abort>(
 ) -> (Result<Option<u64>, PutError>, [Option<u64>; 2]) {
     let map = empty(rt);
     put(rt, &map, key(1, 0), 1);
+    put(rt, &map, key(33, 0), 0);
     let answer = put_in_room(rt, rt.alloc(), &map, small, large);
-    (answer, [at(rt, &map, key(1, 0)), at(rt, &map, key(2, 0))])
+    (answer, [at(rt, &map, key(1, 0)), at(rt, &map, key(65, 0))])
 }
 
 // A put is given any number of blocks of each size, so each of its requests is the first that is refused once.
@@ -127,35 +134,20 @@ fn is_granted<R: Wait>(rt: &R, map: &Map, call: Call) -> bool {
     }
 }
 
-// Whether the call is granted where its requests are cut from one block of so many bytes.
-fn is_granted_in<R: Wait + Abort>(
-    rt: &R,
-    alloc: Global,
-    map: &Map,
-    call: Call,
-    bytes: usize,
-) -> bool {
-    let block: Vec<u8> = Vec::with_capacity(alloc, bytes).expect(rt, "no block");
-    let taken = take_all(alloc).expect(rt, "no list");
-    drop(block);
-    let granted = is_granted(rt, map, call);
-    drop(taken);
-    granted
-}
-
-// How many of the blocks, each larger than the one before, are enough for the call. The map stays as it is.
+// At how many of the sizes, each larger than the one before, there is room for the call. The map stays as it is.
 fn count_granted<R: AllocGlobal + Wait + Abort>(rt: &R, map: &Map, call: Call) -> u32 {
     let mut granted = 0u32;
-    for step in 0..STEPS {
-        if is_granted_in(rt, rt.alloc(), map, call, 1_040 + 768 * step) {
+    let mut shortage = Shortage::new(rt.alloc()).expect(rt, "no list");
+    for _ in 0..STEPS {
+        if is_granted(rt, map, call) {
             granted = granted.wrapping_add(1);
         }
-        assert_is(rt, map.len(rt), 32);
+        shortage.give(rt.alloc(), STEP).expect(rt, "no room");
     }
     granted
 }
 
-// A call is given one block, from which its requests are cut one after another until it is used up. The block grows, so
+// A call is given some room, from which its requests are cut one after another until it is used up. The room grows, so
 // that each request is the first that is refused.
 #[test]
 fn calls_on_all_stripes_are_refused_at_each_request(rt: HostRuntime) {
@@ -165,8 +157,9 @@ fn calls_on_all_stripes_are_refused_at_each_request(rt: HostRuntime) {
     }
     for call in [Call::View, Call::Snapshot, Call::SnapshotAndClear] {
         let granted = count_granted(&rt, &map, call);
+        assert_is(&rt, map.len(&rt), 32);
         assert!(rt;
-            1 <= granted && granted < STEPS as u32,
+            1 <= granted && granted < STEPS,
             "{call:?}: {granted} granted"
         );
     }

@@ -74,6 +74,6 @@ fn what_is_put_meanwhile_stays(rt: HostRuntime) {
     }
     work_all(&rt, &map);
     let view = view_of(&rt, &map);
-    assert_is(&rt, view.count(|_, value| *value == 1), Ok(3_000));
+    assert_is(&rt, view.count(|_, value| *value == 1), 3_000);
     assert_is(&rt, view.len(), 3_000);
 }

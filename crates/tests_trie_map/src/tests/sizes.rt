@@ -44,14 +44,14 @@ fn got<R: Wait>(rt: &R, map: &Map) -> Result<u64, NoMemory> {
 }
 
 // How many pairs the view says that it has, and how many a walk over it meets whose value is their key's number.
-fn viewed(view: &Seen) -> Result<(u64, u64), NoMemory> {
+fn viewed(view: &Seen) -> (u64, u64) {
     let mut right = 0u64;
-    for (key, value) in view.pairs()? {
+    for (key, value) in view.pairs() {
         if key.path == **value {
             right = right.wrapping_add(1);
         }
     }
-    Ok((view.len(), right))
+    (view.len(), right)
 }
 
 // Removes the keys, and answers how many had their number.
@@ -70,7 +70,7 @@ fn many_pairs(rt: HostRuntime) {
     let map = empty(&rt);
     assert_is(&rt, put_many(&rt, &map), Ok(0));
     assert_is(&rt, got(&rt, &map), Ok(MANY));
-    assert_is(&rt, viewed(&view_of(&rt, &map)), Ok((MANY, MANY)));
+    assert_is(&rt, viewed(&view_of(&rt, &map)), (MANY, MANY));
     assert_is(&rt, map.len(&rt), MANY);
     assert_is(&rt, removed(&rt, &map), Ok(MANY));
     assert_is(&rt, map.is_empty(&rt), true);
@@ -82,6 +82,24 @@ fn fill<R: Wait>(rt: &R, map: &Map) -> Result<(), PutError> {
         map.put(rt, in_first_stripe(number), number)?;
     }
     Ok(())
+}
+
+// What writes by a closure of a key that is new to the full stripe are answered. Where no value is made there is nothing
+// to refuse.
+fn made_of_new<R: Wait>(rt: &R, map: &Map) -> [bool; 5] {
+    let new = in_first_stripe(MOST_PAIRS_OF_STRIPE);
+    [
+        map.update(rt, new, |_| Some(1))
+            .is_err_and(|e| e == PutError::Full),
+        map.update_with(rt, new, |_| (Some(1), 2))
+            .is_err_and(|e| e == PutError::Full),
+        map.try_update(rt, new, |_| -> Result<Option<u64>, u32> { Ok(Some(1)) })
+            .is_err_and(|e| e == PutError::Full),
+        map.update(rt, new, |_| None)
+            .is_ok_and(|before| before.is_none()),
+        map.update_with(rt, new, |_| (None, 2))
+            .is_ok_and(|n| n == 2),
+    ]
 }
 
 // What calls on a key that is new to the full stripe are answered.
@@ -114,6 +132,17 @@ fn of_old<R: Wait>(rt: &R, map: &Map) -> Result<[u64; 6], PutError> {
     ])
 }
 
+// What writes by a closure of a key of the full stripe are answered, whose value is 8.
+fn made_of_old<R: Wait>(rt: &R, map: &Map) -> Result<[u64; 3], PutError> {
+    let old = in_first_stripe(5);
+    let tried = map.try_update(rt, old, |_| -> Result<Option<u64>, u32> { Ok(Some(10)) })?;
+    Ok([
+        tried.map_or(0, |before| plain(before).unwrap_or(0)),
+        plain(map.update(rt, old, |_| Some(11))?).unwrap_or(0),
+        map.update_with(rt, old, |was| (Some(12), was.map_or(0, |n| *n)))?,
+    ])
+}
+
 // Puts a key of another stripe, one that is new to the full stripe, and one more, which is not reached.
 fn extended<R: Wait>(rt: &R, alloc: Global, map: &Map) -> Result<(), PutError> {
     let mut pairs = Vec::new(alloc);
@@ -137,6 +166,8 @@ fn a_full_stripe(rt: HostRuntime) {
     assert_is(&rt, fill(&rt, &map), Ok(()));
     assert_is(&rt, of_new(&rt, &map), [true; 8]);
     assert_is(&rt, of_old(&rt, &map), Ok([5, 5, 6, 6, 1, 8]));
+    assert_is(&rt, made_of_new(&rt, &map), [true; 5]);
+    assert_is(&rt, made_of_old(&rt, &map), Ok([8, 10, 11]));
     let extension = extended(&rt, rt.alloc(), &map);
     assert_is(&rt, extension, Err(PutError::Full));
     assert_is(&rt, map.contains_key(&rt, &key(1, 0)), true);

@@ -2,7 +2,7 @@
 
 ghost use Rattle.std.specs.Prelude.{◌<◌};
 
-use super::memory::{ONE, P, Q, R, TWO, WAY, assert_same, spare_blocks, take_all_but};
+use super::memory::{P, Q, R, WAY, assert_same, spare_blocks, take_all_but};
 use super::random::{any_key, assert_holds, assert_is_map, insert};
 use super::{
     Trie, assert_is, assert_value, copy, key, new, put_in, remove_in, seen, shared_key,
@@ -80,7 +80,7 @@ fn a_refused_put_leaves_a_bucket_as_it_stands(rt: HostRuntime) {
 fn is_put_with(rt: &impl Abort, alloc: Global, trie: &mut Trie, given: usize) -> bool {
     let key = shared_key(rt, alloc, Q);
     let value = shared_value(rt, alloc, 3);
-    let mut spare = spare_blocks(rt, alloc, TWO);
+    let mut spare = spare_blocks(rt, alloc);
     let _taken = take_all_but(rt, alloc, &mut spare, given);
     trie.put_in(alloc, key, value, Stamp(2)).is_ok()
 }
@@ -97,7 +97,7 @@ fn assert_put_takes(rt: &impl Abort, alloc: Global, trie: &mut Trie, requests: u
 }
 
 // A leaf gives way to branches down to the seventh digit, of which the lowest has it and a new leaf: all
-// of a way but the root. Where another holds the root, that is copied too: two more.
+// of a way but the root. Where another holds the root, that is copied too: one more.
 #[test]
 fn refused_puts_leave_the_root_as_it_stands(rt: HostRuntime) {
     let alloc = rt.alloc();
@@ -109,12 +109,42 @@ fn refused_puts_leave_the_root_as_it_stands(rt: HostRuntime) {
     assert_same(&rt, alloc, &other, &before);
     drop(other);
     drop(shared);
-    assert_put_takes(&rt, alloc, &mut sole, WAY - 2);
+    assert_put_takes(&rt, alloc, &mut sole, WAY - 1);
+}
+
+// The key of a child of the root, by its digit.
+fn child(digit: u32) -> ChosenKey {
+    key(u64::from(digit), 0)
+}
+
+// A row grows where it is full, from 2 places to 4, 8, 16 and 32: no other child of a sole holder's root asks for memory,
+// and a refused one leaves the root as it was.
+#[test]
+fn a_full_row_grows_or_stays_as_it_is(rt: HostRuntime) {
+    let alloc = rt.alloc();
+    let mut trie = new(&rt, alloc, 1);
+    for digit in 0..32 {
+        let before = seen(&rt, alloc, &trie);
+        let is_full = [2, 4, 8, 16].contains(&digit);
+        let is_put = is_put_without_memory(&rt, alloc, &mut trie, child(digit));
+        assert_is(&rt, is_put, !is_full);
+        if is_full {
+            assert_same(&rt, alloc, &trie, &before);
+            put_in(&rt, alloc, &mut trie, (child(digit), 4), 1);
+        }
+        assert_value(&rt, &trie, child(digit), Some(4));
+    }
+    let all = seen(&rt, alloc, &trie);
+    assert_is(
+        &rt,
+        all.lines.first().copied(),
+        Some(super::branch(0, u32::MAX, 32)),
+    );
 }
 
 // Removes Q with so many requests granted. Whether it is done.
 fn is_removed_with(rt: &impl Abort, alloc: Global, trie: &mut Trie, given: usize) -> bool {
-    let mut spare = spare_blocks(rt, alloc, ONE);
+    let mut spare = spare_blocks(rt, alloc);
     let _taken = take_all_but(rt, alloc, &mut spare, given);
     trie.remove_in(alloc, &Q, Stamp(2)).is_ok()
 }

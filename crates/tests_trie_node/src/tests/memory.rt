@@ -14,40 +14,25 @@ use trie_node::{NoMemory, Stamp};
 // More blocks than are given back.
 pub(super) const MOST_GIVEN: usize = 16;
 
-// The requests for the branches of a way from the root to the seventh digit: the children of each and the branch itself.
-// The C library keeps seven blocks of one size ready, and no more, so the words of these tests part there.
-pub(super) const WAY: usize = 14;
+// The requests for the branches of a way from the root to the seventh digit: the row of each. The C library keeps seven
+// blocks of one size ready, and no more, so the words of these tests part there.
+pub(super) const WAY: usize = 7;
 
-// The bytes of a branch, and of the room for one child and for two.
-pub(super) const BRANCH: usize = 48;
-
-pub(super) const ONE: usize = 32;
-
-pub(super) const TWO: usize = 64;
+// The bytes of a row of two places: the count of its handles, and its nodes.
+pub(super) const TWO: usize = 72;
 
 // A block of so many bytes.
 pub(super) fn block(rt: &impl Abort, alloc: Global, size: usize) -> Vec<u8> {
     Vec::with_capacity(alloc, size).expect(rt, "no block")
 }
 
-// Adds a block for a branch, and one for its children.
-fn push_blocks(rt: &impl Abort, alloc: Global, blocks: &mut Vec<Vec<u8>>, children: usize) {
-    blocks.push(block(rt, alloc, BRANCH)).expect(rt, "no room");
-    blocks
-        .push(block(rt, alloc, children))
-        .expect(rt, "no room");
-}
-
-// Blocks for copies of the branches of a way that ends at two leaves below the seventh digit, where the
-// root has room for its children in so many bytes. They are asked for from the last: each branch's
-// children and then the branch, from the lowest branch up.
-pub(super) fn spare_blocks(rt: &impl Abort, alloc: Global, root: usize) -> Vec<Vec<u8>> {
+// Blocks for copies of the branches of a way that ends at two leaves below the seventh digit, each of which has one child
+// or two.
+pub(super) fn spare_blocks(rt: &impl Abort, alloc: Global) -> Vec<Vec<u8>> {
     let mut blocks = Vec::with_capacity(alloc, MOST_GIVEN).expect(rt, "no list");
-    push_blocks(rt, alloc, &mut blocks, root);
-    for _ in 0..5 {
-        push_blocks(rt, alloc, &mut blocks, ONE);
+    for _ in 0..WAY {
+        blocks.push(block(rt, alloc, TWO)).expect(rt, "no room");
     }
-    push_blocks(rt, alloc, &mut blocks, TWO);
     blocks
 }
 
@@ -88,7 +73,7 @@ fn put_with(
 ) -> Result<Trie, NoMemory> {
     let key = shared_key(rt, alloc, at);
     let value = shared_value(rt, alloc, 3);
-    let mut spare = spare_blocks(rt, alloc, TWO);
+    let mut spare = spare_blocks(rt, alloc);
     let _taken = take_all_but(rt, alloc, &mut spare, given);
     trie.with_put(alloc, key, value, Stamp(2))
 }
@@ -101,7 +86,7 @@ fn removed_with(
     at: ChosenKey,
     given: usize,
 ) -> Result<Trie, NoMemory> {
-    let mut spare = spare_blocks(rt, alloc, ONE);
+    let mut spare = spare_blocks(rt, alloc);
     let _taken = take_all_but(rt, alloc, &mut spare, given);
     trie.with_removed(alloc, &at, Stamp(2))
 }
@@ -119,7 +104,7 @@ pub(super) const R: ChosenKey = ChosenKey {
     id: 0,
 };
 
-// A put that makes a leaf and copies the branches of a way: two requests for a branch, and none for the leaf.
+// A put that makes a leaf and copies the branches of a way: one request for a branch, and none for the leaf.
 #[test]
 fn refused_puts_leave_the_root(rt: HostRuntime) {
     let alloc = rt.alloc();

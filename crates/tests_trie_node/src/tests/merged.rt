@@ -1,6 +1,6 @@
 ghost use Rattle.std.specs.Prelude.{◌<◌};
 
-use super::memory::{BRANCH, assert_same, block, take_all_but};
+use super::memory::{TWO, assert_same, block, take_all_but};
 use super::random::{any_key, assert_is_map, insert};
 use super::{
     Trie, assert_is, assert_lines, assert_pairs, branch, key, new, pairs, put, seen, trie_of,
@@ -170,11 +170,14 @@ fn bytes_of(children: usize) -> usize
     children * size_of::<Node<ChosenKey, u32>>()
 }
 
+// The bytes of a row of four places.
+const FOUR: usize = 136;
+
 // What a merge of two branches and of two below them requests: room for the children of each, from
-// the root down, and each branch, from below.
+// the root down, and each branch's row, from below.
 fn requested(rt: &impl Abort, alloc: Global) -> Vec<Vec<u8>> {
     let mut blocks = Vec::new(alloc);
-    for size in [BRANCH, BRANCH, bytes_of(4), bytes_of(1)] {
+    for size in [TWO, FOUR, bytes_of(4), bytes_of(1)] {
         blocks.push(block(rt, alloc, size)).expect(rt, "no room");
     }
     blocks

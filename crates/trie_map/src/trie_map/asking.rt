@@ -1,5 +1,5 @@
 //! Questions about a map that threads share.
-ghost use Rattle.std.specs.Prelude.{◌≡◌, Bool, IfOk, IfSome, length, option_map};
+ghost use Rattle.std.specs.Prelude.{◌≡◌, ◌≤◌, Bool, IfOk, IfSome, length, option_map};
 ghost use Rattle.std.specs.List.{list_all, list_any};
 ghost use Rattle.bulk_ops.specs.Answers.{items_of, passes, passing};
 ghost use Rattle.bulk_ops.specs.Meanings.{MayAnswer, Means};
@@ -26,9 +26,9 @@ impl<K: PathKey + Drop, V: Drop, P: Keeps<K, V>> TrieMap<K, V, P> {
     /// How many pairs pass the test, of the map as it stands at one moment of the call: a view is taken and walked.
     pub fn count<R: Wait, F: Fn(&K, &V) -> bool>(&self, rt: &R, test: F) -> Result<u64, NoMemory>
         requires callable { F.IsAlwaysCallable test }
-        ensures { IfOk result (λ count. (m : Map K V) × AllKeep K.cmp P.holds m × ((p : K → V → Bool) → Means (MayAnswer F.Fn test) p → count ≡ length (passing p m))) }
+        ensures { IfOk result (λ count. (m : Map K V) × AllKeep K.cmp P.holds m × ((p : K → V → Bool) → Means (MayAnswer F.Fn test) p → count ≡ length (passing p m)) × (count ≤ length m)) }
     {
-        self.view(rt)?.count(test)
+        Ok(self.view(rt)?.count(test))
     }
 
     /// Whether some pair passes the test, of the map as it stands at one moment of the call.
@@ -36,7 +36,7 @@ impl<K: PathKey + Drop, V: Drop, P: Keeps<K, V>> TrieMap<K, V, P> {
         requires callable { F.IsAlwaysCallable test }
         ensures { IfOk result (λ some. (m : Map K V) × AllKeep K.cmp P.holds m × ((p : K → V → Bool) → Means (MayAnswer F.Fn test) p → some ≡ list_any (passes p) m)) }
     {
-        self.view(rt)?.exists(test)
+        Ok(self.view(rt)?.exists(test))
     }
 
     /// Whether every pair passes the test, of the map as it stands at one moment of the call.
@@ -44,7 +44,7 @@ impl<K: PathKey + Drop, V: Drop, P: Keeps<K, V>> TrieMap<K, V, P> {
         requires callable { F.IsAlwaysCallable test }
         ensures { IfOk result (λ all. (m : Map K V) × AllKeep K.cmp P.holds m × ((p : K → V → Bool) → Means (MayAnswer F.Fn test) p → all ≡ list_all (passes p) m)) }
     {
-        self.view(rt)?.for_all(test)
+        Ok(self.view(rt)?.for_all(test))
     }
 
     /// A pair that passes the test, if there is one, of the map as it stands at one moment of the call: the first on a
@@ -71,7 +71,7 @@ impl<K: PathKey + Drop, V: Drop, P: Keeps<K, V>> TrieMap<K, V, P> {
         requires callable { G.IsAlwaysCallable item }
         ensures { IfOk result (λ all. (m : Map K V) × AllKeep K.cmp P.holds m × ((i : K → V → M.Item) → Means (MayAnswer G.Fn item) i → all ≡ folded (M.combine monoid.now) (M.unit_of monoid.now) (items_of i m))) }
     {
-        self.view(rt)?.fold(monoid, item)
+        Ok(self.view(rt)?.fold(monoid, item))
     }
 
     /// The map of the pairs that pass the test, of the map as it stands at one moment of the call. It has one owner, and
@@ -82,7 +82,7 @@ impl<K: PathKey + Drop, V: Drop, P: Keeps<K, V>> TrieMap<K, V, P> {
         test: F,
     ) -> Result<Version<K, V>, NoMemory>
         requires callable { F.IsAlwaysCallable test }
-        ensures entries { IfOk result (λ made. (m : Map K V) × AllKeep K.cmp P.holds m × ((p : K → V → Bool) → Means (MayAnswer F.Fn test) p → made.entries ≡ passing p m)) }
+        ensures entries { IfOk result (λ made. (m : Map K V) × AllKeep K.cmp P.holds m × ((p : K → V → Bool) → Means (MayAnswer F.Fn test) p → made.entries ≡ passing p m) × (length made.entries ≤ length m)) }
         ensures limit { IfOk result (λ made. made.limit ≡ MOST_PAIRS) }
     {
         self.view(rt)?.filter(test)
@@ -96,7 +96,7 @@ impl<K: PathKey + Drop, V: Drop, P: Keeps<K, V>> TrieMap<K, V, P> {
         change: G,
     ) -> Result<Version<K, W>, NoMemory>
         requires callable { G.IsAlwaysCallable change }
-        ensures entries { IfOk result (λ made. (m : Map K V) × AllKeep K.cmp P.holds m × ((f : K → V → W) → Means (MayAnswer G.Fn change) f → made.entries ≡ changed f m)) }
+        ensures entries { IfOk result (λ made. (m : Map K V) × AllKeep K.cmp P.holds m × ((f : K → V → W) → Means (MayAnswer G.Fn change) f → made.entries ≡ changed f m) × (length made.entries ≤ length m)) }
         ensures limit { IfOk result (λ made. made.limit ≡ MOST_PAIRS) }
     {
         self.view(rt)?.map_values(change)
@@ -121,9 +121,9 @@ impl<K: PathKey + Drop + Send + Sync, V: Drop + Send + Sync, P: Keeps<K, V>> Tri
     /// What `query` answers, of the map as it stands at one moment of the call, worked by a crew of threads over a view.
     ///
     /// The stripes are held for the view alone, as by `view`: while the crew works no lock is held, and writers go on.
-    /// What runs where, and what is refused, is as for [`View::query_by`](crate::View::query_by): a map with no more
+    /// What runs where, and what is refused, is as for [`View::par_query`](crate::View::par_query): a map with no more
     /// pairs than the crew's grain is worked by the caller alone.
-    pub fn query_by<R, Q>(
+    pub fn par_query<R, Q>(
         &self,
         rt: &R,
         query: &Q,
@@ -136,6 +136,6 @@ impl<K: PathKey + Drop + Send + Sync, V: Drop + Send + Sync, P: Keeps<K, V>> Tri
         requires { Q.ready query.now }
         ensures { IfOk result (λ answer. IsAnsweredOfKept K.cmp P.holds (Q.answered query.now) (Q.target_of query.now) answer.0 answer.1) }
     {
-        self.view(rt)?.query_by(rt, query, crew)
+        self.view(rt)?.par_query(rt, query, crew)
     }
 }

@@ -1,13 +1,14 @@
 //! Writes of a map that a closure decides on, under the lock of the key's stripe.
-ghost use Rattle.std.specs.Prelude.{◌≡◌, IfOk, IfSome, Option, option_map};
+ghost use Rattle.std.specs.Prelude.{◌≡◌, Err, IfErr, IfOk, IfSome, None, Ok, Option, Some, is_some, option_map, true};
 ghost use Rattle.std.specs.Arc.{arc_value};
-ghost use Rattle.stripes.specs.Updates.{MayMake};
+ghost use Rattle.stripes.specs.Updates.{MayMake, MayPass};
 
 use super::TrieMap;
 use crate::put_error::PutError;
 use hash_path::PathKey;
 use std::sync::{Arc, Wait};
 use stripes::Keeps;
+use trie_node::NoMemory;
 
 impl<K: PathKey + Drop, V: Drop, P: Keeps<K, V>> TrieMap<K, V, P> {
     /// Calls `change` at the value that the key has, or at none, and stores what it makes of it, as one step: no other
@@ -20,7 +21,7 @@ impl<K: PathKey + Drop, V: Drop, P: Keeps<K, V>> TrieMap<K, V, P> {
     /// `change` runs once, while the stripe of the key is locked: calls of keys of that stripe wait for it, and it must
     /// not call the map, since the thread would wait for itself. It may rest on the rule for the value that it is
     /// given, and what it makes has to keep it. It is refused as `put` is; `change` has then run, or not, and the map is
-    /// as before.
+    /// as before. It is refused as `Full` only where `change` was called at none, and made a value.
     pub fn update<R: Wait, F: FnOnce(Option<&V>) -> Option<V>>(
         &self,
         rt: &R,
@@ -30,6 +31,7 @@ impl<K: PathKey + Drop, V: Drop, P: Keeps<K, V>> TrieMap<K, V, P> {
         requires callable { (old : _) → IfSome old (λ value. P.holds key value.now) → F.pre change old }
         requires rule { (old : _) (made : _) → IfSome old (λ value. P.holds key value.now) → F.post change old made → IfSome made (P.holds key) }
         ensures made { IfOk result (λ before. (made : Option V) × MayMake F.FnOnce change (option_map arc_value before) made) }
+        ensures full { result ≡ Err PutError.Full → (value : V) × MayMake F.FnOnce change None (Some value) }
         ensures kept { IfOk result (λ before. IfSome before (λ found. P.holds key found.value)) }
     {
         let path = key.path();
@@ -39,5 +41,80 @@ impl<K: PathKey + Drop, V: Drop, P: Keeps<K, V>> TrieMap<K, V, P> {
             Ok(before) => Ok(before),
             Err(refusal) => Err(PutError::of(refusal)),
         }
+    }
+
+    /// What `update` does, where `change` answers something beside what it makes: that is handed out. The value before
+    /// is dropped when the lock is free again.
+    ///
+    /// So a number is drawn from a counter: `counts.update_with(rt, word, |old| { let n = old.map_or(1, |n|
+    /// n.saturating_add(1)); (Some(n), n) })?`.
+    pub fn update_with<R: Wait, T: Drop, F: FnOnce(Option<&V>) -> (Option<V>, T)>(
+        &self,
+        rt: &R,
+        key: K,
+        change: F,
+    ) -> Result<T, PutError>
+        requires callable { (old : _) → IfSome old (λ value. P.holds key value.now) → F.pre change old }
+        requires rule { (old : _) (made : _) → IfSome old (λ value. P.holds key value.now) → F.post change old made → IfSome made.0 (P.holds key) }
+        ensures made { IfOk result (λ answer. (old : Option V) × (made : Option V) × IfSome old (P.holds key) × MayMake F.FnOnce change old (made, answer)) }
+        ensures full { result ≡ Err PutError.Full → (value : V) × (answer : T) × MayMake F.FnOnce change None (Some value, answer) }
+    {
+        let path = key.path();
+        let key = Arc::new(self.alloc, key)?;
+        let mut stripe = self.row.stripe_at(rt, path);
+        let done = stripe.update_with(self.alloc, key, path, change);
+        drop(stripe);
+        match done {
+            Ok((_, answer)) => Ok(answer),
+            Err(refusal) => Err(PutError::of(refusal)),
+        }
+    }
+
+    /// What `update` does, where `change` may fail: the map is then as before, and the error of `change` is answered.
+    ///
+    /// It is refused as `update` is: that is the outer error, and the inner one is that of `change`.
+    pub fn try_update<R: Wait, E, F: FnOnce(Option<&V>) -> Result<Option<V>, E>>(
+        &self,
+        rt: &R,
+        key: K,
+        change: F,
+    ) -> Result<Result<Option<Arc<V>>, E>, PutError>
+        requires callable { (old : _) → IfSome old (λ value. P.holds key value.now) → F.pre change old }
+        requires rule { (old : _) (made : _) → IfSome old (λ value. P.holds key value.now) → F.post change old made → IfOk made (λ new. IfSome new (P.holds key)) }
+        ensures made { IfOk result (λ done. IfOk done (λ before. (made : Option V) × MayMake F.FnOnce change (option_map arc_value before) (Ok made))) }
+        ensures failed { IfOk result (λ done. IfErr done (λ error. (old : Option V) × IfSome old (P.holds key) × MayMake F.FnOnce change old (Err error))) }
+        ensures full { result ≡ Err PutError.Full → (value : V) × MayMake F.FnOnce change None (Ok (Some value)) }
+        ensures kept { IfOk result (λ done. IfOk done (λ before. IfSome before (λ found. P.holds key found.value))) }
+    {
+        let path = key.path();
+        let key = Arc::new(self.alloc, key)?;
+        let mut stripe = self.row.stripe_at(rt, path);
+        stripe.law();
+        match stripe.try_update(self.alloc, key, path, change) {
+            Ok(done) => Ok(done),
+            Err(refusal) => Err(PutError::of(refusal)),
+        }
+    }
+
+    /// Removes the key where it has a value of which the test holds, as one step, and answers the value that was
+    /// removed, or none.
+    ///
+    /// The test runs at most once, while the stripe of the key is locked, as `change` does in `update`. It is refused
+    /// for want of memory alone; the test has then run, and the map is as before.
+    pub fn remove_where<R: Wait, F: FnOnce(&V) -> bool>(
+        &self,
+        rt: &R,
+        key: &K,
+        test: F,
+    ) -> Result<Option<Arc<V>>, NoMemory>
+        requires callable { (value : _) → P.holds key.now value.now → F.pre test value }
+        ensures tested { IfOk result (λ removed. (found : Option V) × IfSome found (P.holds key.now) × MayPass F.FnOnce test found (is_some removed)) }
+        ensures removed { IfOk result (λ removed. IfSome removed (λ value. MayPass F.FnOnce test (Some value.value) true)) }
+        ensures kept { IfOk result (λ removed. IfSome removed (λ value. P.holds key.now value.value)) }
+    {
+        let path = key.path();
+        let mut stripe = self.row.stripe_at(rt, path);
+        stripe.law();
+        stripe.remove_passing(self.alloc, key, path, test)
     }
 }

@@ -1,5 +1,5 @@
 //! The removal of the pairs that fail a test.
-ghost use Rattle.std.specs.Prelude.{◌≡◌, ◌≤◌, Bool, IfOk, IfSome, IsTrue, OnErr, Some, false, if◌then◌else◌, is_some, length, true};
+ghost use Rattle.std.specs.Prelude.{◌≡◌, ◌≤◌, All, Bool, IfOk, IfSome, IsTrue, OnErr, Some, false, if◌then◌else◌, is_some, length, true};
 ghost use Rattle.bulk_ops.specs.Meanings.{MayAnswer, Means};
 ghost use Rattle.stripes.specs.Rules.{AllKeep, first_digit as digit_of};
 ghost use Rattle.trie_map.specs.Questions.{failing};
@@ -27,7 +27,8 @@ impl<K: PathKey + Drop, V: Drop, P: Keeps<K, V>> TrieMap<K, V, P> {
     /// then is gone.
     pub fn retain<R: Wait, F: Fn(&K, &V) -> bool>(&self, rt: &R, test: F) -> Result<u64, NoMemory>
         requires callable { F.IsAlwaysCallable test }
-        ensures { IfOk result (λ removed. (m : Map K V) × AllKeep K.cmp P.holds m × ((p : K → V → Bool) → Means (MayAnswer F.Fn test) p → removed ≤ length (failing p m))) }
+        ensures few { IfOk result (λ removed. (m : Map K V) × AllKeep K.cmp P.holds m × ((p : K → V → Bool) → Means (MayAnswer F.Fn test) p → removed ≤ length (failing p m)) × (removed ≤ length m)) }
+        ensures failed { IfOk result (λ removed. (gone : Map K V) × (length gone ≡ removed) × All (λ pair. P.holds pair.0 pair.1 × MayAnswer F.Fn test pair.0 pair.1 false) gone) }
     {
         let view = self.view(rt)?;
         self.remove_all_failing(rt, &view, &test)
@@ -42,7 +43,9 @@ impl<K: PathKey + Drop, V: Drop, P: Keeps<K, V>> TrieMap<K, V, P> {
         test: &F,
     ) -> Result<u64, NoMemory>
         requires callable { F.IsAlwaysCallable test.now }
-        ensures { IfOk result (λ removed. (p : K → V → Bool) → Means (MayAnswer F.Fn test.now) p → removed ≤ length (failing p view.now)) }
+        ensures few { IfOk result (λ removed. removed ≤ length view.now) }
+        ensures means { IfOk result (λ removed. (p : K → V → Bool) → Means (MayAnswer F.Fn test.now) p → removed ≤ length (failing p view.now)) }
+        ensures failed { IfOk result (λ removed. (gone : Map K V) × (length gone ≡ removed) × All (λ pair. P.holds pair.0 pair.1 × MayAnswer F.Fn test.now pair.0 pair.1 false) gone) }
     {
         view.len();
         let mut removed = 0u64;
@@ -63,7 +66,8 @@ impl<K: PathKey + Drop, V: Drop, P: Keeps<K, V>> TrieMap<K, V, P> {
         test: &F,
     ) -> Result<bool, NoMemory>
         requires { F.IsAlwaysCallable test.now }
-        ensures { IfOk result (λ removed. IsTrue removed → MayAnswer F.Fn test.now key.now.value seen.now.value false) }
+        ensures seen { IfOk result (λ removed. IsTrue removed → MayAnswer F.Fn test.now key.now.value seen.now.value false) }
+        ensures failed { IfOk result (λ removed. IsTrue removed → (value : V) × P.holds key.now.value value × MayAnswer F.Fn test.now key.now.value value false) }
     {
         if answer_at(test, key, seen) {
             return Ok(false);
@@ -79,6 +83,7 @@ impl<K: PathKey + Drop, V: Drop, P: Keeps<K, V>> TrieMap<K, V, P> {
         test: &F,
     ) -> Result<Option<Arc<V>>, NoMemory>
         requires { F.IsAlwaysCallable test.now }
+        ensures { IfOk result (λ removed. IfSome removed (λ value. P.holds key.now.value value.value × MayAnswer F.Fn test.now key.now.value value.value false)) }
     {
         let path = key.path();
         let mut stripe = self.row.stripe_at(rt, path);
@@ -98,6 +103,7 @@ fn remove_failing<K: PathKey + Drop, V: Drop, P: Keeps<K, V>, F: Fn(&K, &V) -> b
     requires callable { F.IsAlwaysCallable test.now }
     requires path { path.0 ≡ K.path_of key.now.value }
     requires place { digit_of K.path_of key.now.value ≡ stripe.old.digit }
+    ensures kept { IfOk result (λ removed. IfSome removed (λ value. P.holds key.now.value value.value)) }
     ensures removed { IfOk result (λ removed. IfSome removed (λ value. MayAnswer F.Fn test.now key.now.value value.value false)) }
     ensures entries { IfOk result (λ removed. stripe.new.entries ≡ (if is_some removed then without K.cmp stripe.old.entries key.now.value else stripe.old.entries)) }
     ensures digit { stripe.new.digit ≡ stripe.old.digit }

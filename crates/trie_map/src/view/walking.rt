@@ -1,4 +1,4 @@
-//! Walks over a view that are never refused.
+//! Walks over a view.
 ghost use Rattle.std.specs.Prelude.{◌≡◌, All, IsPermutation};
 ghost use Rattle.trie_shape.specs.Order.{walked};
 
@@ -9,7 +9,7 @@ use std::sync::Arc;
 use stripes::Keeps;
 
 impl<K: PathKey + Drop, V: Drop, P: Keeps<K, V>> View<K, V, P> {
-    /// A walk over all pairs, as `pairs` gives it. It is never refused, so `for (key, value) in &view` walks it too.
+    /// A walk over all pairs, as `pairs` gives it, and as `for (key, value) in &view` walks it.
     pub fn iter(&self) -> Pairs<'_, K, V>
         ensures rest { result.rest ≡ walked K.cmp K.path_of self.now }
         ensures once { IsPermutation self.now result.rest }

@@ -11,16 +11,16 @@ use super::Version;
 use crate::change::Change;
 use crate::refusal::Refusal;
 use crate::room::WithinRoom;
-use hash_path::{Path, PathKey};
+use hash_path::{Path, PathKey, Sought};
 use std::alloc::Global;
 use std::sync::Arc;
 use trie_node::{Always, Condition, NoMemory, root_is_map, writes_keep_stamps_below};
 
 impl<K: PathKey + Drop, V: Drop> Version<K, V> {
     /// `get`, where the caller has the key's path word already: the key is not hashed again.
-    pub fn get_along(&self, key: &K, path: Path) -> Option<&Arc<V>>
-        requires { path.0 ≡ K.path_of key.now }
-        ensures { option_map (λ value. value.now.value) result ≡ value_at K.cmp self.now.entries key.now }
+    pub fn get_along<Q: Sought<K>>(&self, key: Q, path: Path) -> Option<&Arc<V>>
+        requires { path.0 ≡ K.path_of (Q.key_of key) }
+        ensures { option_map (λ value. value.now.value) result ≡ value_at K.cmp self.now.entries (Q.key_of key) }
     {
         trie_node::find_along(&self.root, key, path)
     }

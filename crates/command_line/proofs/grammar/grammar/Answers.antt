@@ -1,11 +1,12 @@
-use Rattle.std.proofs.Common.{rules, ap₂, codes, ◌≡◌, ◌∙◌}
+use Rattle.std.proofs.Common.{rules, ap₂, ◌≡◌, ◌∙◌}
 use Rattle.std.proofs.lemmas.Result.{IfOk-weaker}
-use Rattle.clap.specs.Words.{app_of, new_app, with_rule}
+use Rattle.clap.specs.Words.{app_of, with_rule}
+use Rattle.command_line.specs.CommandLine.{trierun}
 use Rattle.command_line.proofs.grammar.grammar.Goals as goal
 
 pub returns : goal.returns
 returns c =
-    let name_is : app_of c.about.result ≡ new_app (codes "trierun") = search rules in
+    let name_is : app_of c.about.result ≡ trierun = search rules in
     let first = c.in_ok-arg.ensures.shape c.workers.ensures.local ∙ ap₂ with_rule name_is c.workers.ensures.rule in
     let second = c.in_ok-arg-2.ensures.shape c.grain.ensures.local ∙ ap₂ with_rule first c.grain.ensures.rule in
     let third = c.in_ok-arg-3.ensures.shape c.journal.ensures.local ∙ ap₂ with_rule second c.journal.ensures.rule in

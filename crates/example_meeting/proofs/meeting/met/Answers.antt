@@ -1,6 +1,6 @@
 use Rattle.std.proofs.Common.{rules, ◌≡◌}
 use Rattle.std.specs.Prelude.{Ok}
-use Rattle.tambyulo.specs.Clients.Seats.{fresh}
+use Rattle.tambyulo_clients.specs.Seats.{fresh}
 use Rattle.example_meeting.proofs.Meetings.{if_ok, put_before_get}
 use Rattle.example_meeting.proofs.meeting.met.Goals as goal
 

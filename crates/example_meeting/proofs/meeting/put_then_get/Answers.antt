@@ -1,5 +1,5 @@
 use Rattle.std.specs.Arc.{arc_value}
-use Rattle.tambyulo.specs.Clients.Machine.{open_handle}
+use Rattle.tambyulo_clients.specs.Machine.{open_handle}
 use Rattle.example_meeting.proofs.Meetings.{put_then_got}
 use Rattle.example_meeting.proofs.meeting.put_then_get.Goals as goal
 

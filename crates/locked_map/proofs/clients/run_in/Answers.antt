@@ -1,7 +1,6 @@
 use Rattle.std.proofs.Common.{rules, ◌≡◌, ◌<◌, length, vec_len, slice_index_or, ap, subst, sym, ◌∙◌}
 use Rattle.std.proofs.lemmas.List.{get_or-map, length-map}
-use Rattle.locked_map.specs.Seats.{pairs}
-use Rattle.locked_map.proofs.Seating.{moved, some_of}
+use Rattle.locked_map.proofs.Seating.{fresh_by_number, moved, some_of}
 use Rattle.locked_map.proofs.clients.run_in.Goals as goal
 
 pub run_all-requires-after_bounds : goal.run_all-requires-after_bounds
@@ -11,7 +10,7 @@ run_all-requires-after_bounds g c κs within k d h =
     let asked : k < length c.args.clients.items = subst (λ n. k < n) (sym (length-map jobs (λ b. b.client)) ∙ ap length same) h in
     let is = ap (λ xs. slice_index_or xs k d.client) (sym same) ∙ get_or-map (λ b. b.client) jobs k d d.client h in (
       subst g.C.Client.needs is (c.requires.needs k d.client asked),
-      ap (λ x. x.list) (sym (get_or-map (λ b. b.seat) jobs k d d.seat h) ∙ c.in_ok-jobs.ensures.seats k d.seat (subst (λ n. k < n) (sym (length-map jobs (λ b. b.seat))) h)),
+      fresh_by_number _ k (sym (get_or-map (λ b. b.seat) jobs k d d.seat h) ∙ c.in_ok-jobs.ensures.seats k d.seat (subst (λ n. k < n) (sym (length-map jobs (λ b. b.seat))) h)),
     )
 
 pub returns-clause-each : goal.returns-clause-each
@@ -30,11 +29,15 @@ returns-clause-each g c k client o h =
     let e = some_of ended k back in
     let b = some_of jobs k there in
     let s = e.seat in
-    moved g.C.Client.gives _ _ _ _ _ _
-    (sym (get_or-map (λ b. b.client) jobs k b client there) ∙ ap (λ xs. slice_index_or xs k client) same)
-    (ap (λ x. pairs x.list) (sym (get_or-map (λ e. e.seat) ended k e s back) ∙ ap (λ xs. slice_index_or xs k s) (sym seats)) ∙ sym (c.in-Ok.ensures.each k s held))
-    (sym (get_or-map (λ e. e.out) ended k e o back) ∙ ap (λ xs. slice_index_or xs k o) (sym outs))
-    (c.in_ok-ended.ensures.each k b e begun)
+    let closed = c.in-Ok.ensures in (
+      slice_index_or c.in_ok-outs.seats.items k s,
+      moved g.C.Client.gives _ _ _ _ _ _
+          (sym (get_or-map (λ b. b.client) jobs k b client there) ∙ ap (λ xs. slice_index_or xs k client) same)
+          (sym (get_or-map (λ e. e.seat) ended k e s back) ∙ ap (λ xs. slice_index_or xs k s) (sym seats))
+          (sym (get_or-map (λ e. e.out) ended k e o back) ∙ ap (λ xs. slice_index_or xs k o) (sym outs))
+          (c.in_ok-ended.ensures.each k b e begun),
+      record { entries = closed.each k s held; floors = closed.floors k s held; full = closed.full k s held; unknown = closed.unknown k s held },
+    )
 
 pub returns-clause-seats : goal.returns-clause-seats
 returns-clause-seats g c k d h =

@@ -5,9 +5,9 @@ use Rattle.tests_core_steps.proofs.client.make_all.Goals as goal
 pub returns-in-Ok : goal.returns-in-Ok
 returns-in-Ok g c =
     run_leaves g.K.Ord.cmp g.V.PartialEq.eq g.Q.Asks.target_of g.Q.Asks.answered (divided g.K.PathKey.path_of g.Q.Bulk.decides)
-    c.args.core.now.state c.run.new.self.state _ _ c.in-Ok.ensures.run
+    c.args.core.now c.run.new.self _ _ c.in-Ok.ensures.run
 
 pub returns : goal.returns
 returns g c =
     run_leaves g.K.Ord.cmp g.V.PartialEq.eq g.Q.Asks.target_of g.Q.Asks.answered (divided g.K.PathKey.path_of g.Q.Bulk.decides)
-    c.args.core.now.state c.run.new.self.state _ _ c.in-Err.ensures.err
+    c.args.core.now c.run.new.self _ _ c.in-Err.ensures.err

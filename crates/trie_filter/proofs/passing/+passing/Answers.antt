@@ -7,7 +7,7 @@ use Rattle.trie_shape.proofs.Divides.{trie_fits}
 use Rattle.trie_filter.specs.Few.{IsFew, items_of}
 use Rattle.trie_filter.specs.Passing.{IsLeft}
 use Rattle.trie_values.specs.Values.{MayAnswer}
-use Rattle.trie_filter.proofs.Left.{branch_depth, drawn_left, pairs_left}
+use Rattle.trie_filter.proofs.Left.{branch_depth, drawn_left, pairs_left, row_counted}
 use Rattle.trie_filter.proofs.Underway.{IsUnderway, next_trie, rest_more, room, underway_done, underway_gone, underway_kept, underway_start}
 use Rattle.trie_filter.proofs.passing.+passing.Goals as goal
 use Rattle.trie_filter.proofs.passing.+passing.Goals.{pass_children-in-Some+in_ok-row, pass_children-in_default}
@@ -123,6 +123,12 @@ pass_subtrie-returns-in_ok-left-in-Pairs g t c =
     let a = c.args in
     pairs_left g.K.Ord.cmp g.K.PathKey.path_of g.met.K.Ord.total g.met.K.PathKey.exact (MayAnswer g.F.Fn a.test.now) a.level a.stamp.0 c.in-Pairs.pairs (tree a.node.now)
     (option_map tree c.in_ok-left-in-Pairs.left) c.in-Pairs.ensures c.requires.trie c.in_ok-left-in-Pairs.ensures
+
+pub pass_subtrie-drawn_up-requires-clause-count : goal.pass_subtrie-drawn_up-requires-clause-count
+pass_subtrie-drawn_up-requires-clause-count g t c =
+    let a = c.args in
+    let row = c.in_ok-row-in-Branch.row in
+    row_counted g.K.Ord.cmp g.K.PathKey.path_of g.met.K.Ord.total g.met.K.PathKey.exact (MayAnswer g.F.Fn a.test.now) a.level a.stamp.0 _ row.bitmap row.size (items_of row.children) c.in_ok-row-in-Branch.ensures.row
 
 pub pass_subtrie-returns-in_ok-left-in-Branch : goal.pass_subtrie-returns-in_ok-left-in-Branch
 pass_subtrie-returns-in_ok-left-in-Branch g t c =

@@ -7,11 +7,16 @@ use Rattle.trie_shape.proofs.Roots.{root_is_trie, trie_is_root}
 use Rattle.trie_filter.specs.Few.{items_of}
 use Rattle.trie_values.specs.Values.{MayAnswer}
 use Rattle.trie_filter.proofs.Chosen.{exact_chosen, length_chosen}
-use Rattle.trie_filter.proofs.Left.{map_left, pairs_depth, root_left, stamps_left}
+use Rattle.trie_filter.proofs.Left.{map_left, pairs_depth, root_left, row_counted, stamps_left}
 use Rattle.trie_filter.proofs.passing.with_passing.Goals as goal
 
 pub pass_children-requires-clause-trie : goal.pass_children-requires-clause-trie
 pass_children-requires-clause-trie g c = root_is_trie g.K.Ord.cmp g.K.PathKey.path_of g.met.K.Ord.total g.met.K.PathKey.exact g.met.K.PathKey.small (tree c.args.root.now) c.requires.root
+
+pub into_branch-requires : goal.into_branch-requires
+into_branch-requires g c =
+    let row = c.in_ok-row-in-Branch.row in
+    row_counted g.K.Ord.cmp g.K.PathKey.path_of g.met.K.Ord.total g.met.K.PathKey.exact (MayAnswer g.F.Fn c.args.test.now) 0 c.args.stamp.0 _ row.bitmap row.size (items_of row.children) c.in_ok-row-in-Branch.ensures.row
 
 pub unreachable-requires : goal.unreachable-requires
 unreachable-requires g c =

@@ -1,11 +1,11 @@
 use Rattle.std.proofs.Common.{rules, ◌≡◌, ◌+◌, ◌<◌, ◌++◌, [], ◌∷◌, length, map, bit_or, option_map, IfSome, sym, ap, ◌∙◌, subst, arith}
-use Rattle.std.proofs.lemmas.List.{map-append}
+use Rattle.std.proofs.lemmas.List.{length-map, map-append}
 use Rattle.hash_path.specs.Digits.{fan_out}
 use Rattle.trie_node.specs.Merges.{child_at}
-use Rattle.trie_shape.specs.Tree.{entries, entries_of_all, trees, IsTrie}
+use Rattle.trie_shape.specs.Tree.{branch, entries, entries_of_all, trees, IsTrie}
 use Rattle.trie_shape.specs.View.{tree}
 use Rattle.trie_shape.proofs.Divides.{trie_fits}
-use Rattle.trie_node.proofs.MergedRows.{IsRow, side, can_same, can_below, merges_same, row_kept, row_more, row_done, length_row, room_row}
+use Rattle.trie_node.proofs.MergedRows.{IsRow, side, can_same, can_below, merges_same, row_kept, row_more, row_counted, row_done, length_row, room_row}
 use Rattle.trie_shape.proofs.Views.{on_ok}
 use Rattle.trie_node.proofs.merging.+merging.Goals as goal
 use Rattle.trie_node.proofs.merging.+merging.Goals.{merge_branches-in-Some+in_ok-push, merge_branches-in_default}
@@ -87,6 +87,20 @@ merge_branches-loop-digit-preserved g t c =
           }
     ]
 
+pub merge_branches-make_branch-requires : goal.merge_branches-make_branch-requires
+merge_branches-make_branch-requires g t c =
+    let R = g.K.Ord.cmp in
+    let path = g.K.PathKey.path_of in
+    let exact = g.met.K.PathKey.exact in
+    let a = c.args in
+    let lt = tree a.left.now in
+    let rt = tree a.right.now in
+    let l = side R path exact a.level a.left_bitmap lt c.requires.left c.requires.both.left_trie in
+    let r = side R path exact a.level a.right_bitmap rt c.requires.right c.requires.both.right_trie in
+    let children = c.loop-digit.children.items in
+    let whole = subst (λ k. IsRow R path a.level a.stamp.0 (bit_or a.left_bitmap a.right_bitmap) lt rt k (map tree children)) {x = c.loop-digit.digit} {y = fan_out} (omega (arith, c.loop-digit-test.false)) c.loop-digit.invariant.row in
+    ap length c.as_mut_slice.ensures.value ∙ sym (length-map children tree) ∙ row_counted R path exact a.level a.left_bitmap a.right_bitmap lt rt l r c.requires.both a.stamp.0 (map tree children) whole
+
 pub merge_branches-returns : goal.merge_branches-returns
 merge_branches-returns g t c =
     let R = g.K.Ord.cmp in
@@ -99,4 +113,4 @@ merge_branches-returns g t c =
     let r = side R path exact a.level a.right_bitmap rt c.requires.right c.requires.both.right_trie in
     let row = map tree c.loop-digit.children.items in
     let whole = subst (λ k. IsRow R path a.level a.stamp.0 (bit_or a.left_bitmap a.right_bitmap) lt rt k row) {x = c.loop-digit.digit} {y = fan_out} (omega (arith, c.loop-digit-test.false)) c.loop-digit.invariant.row in
-    on_ok c.make_branch.result _ _ (λ n made. row_done R path exact a.level a.left_bitmap a.right_bitmap lt rt l r c.requires.both a.stamp.0 row whole c.loop-digit.pairs c.loop-digit.invariant.counted (tree n) made) c.make_branch.ensures
+    on_ok c.make_branch.result _ _ (λ n made. row_done R path exact a.level a.left_bitmap a.right_bitmap lt rt l r c.requires.both a.stamp.0 row whole c.loop-digit.pairs c.loop-digit.invariant.counted (tree n) (made ∙ ap (λ xs. branch a.stamp.0 c.loop-digit.pairs (bit_or a.left_bitmap a.right_bitmap) (trees (map tree xs))) c.as_mut_slice.ensures.value)) c.make_branch.ensures

@@ -8,7 +8,8 @@ use Rattle.trie_shape.specs.View.{tree}
 use Rattle.trie_node.specs.Writes.{Writes}
 use Rattle.trie_shape.proofs.Bits.{agree_more}
 use Rattle.trie_shape.proofs.Divides.{trie_fits}
-use Rattle.trie_node.proofs.Splits.{one_digit, level_within, place_beside, puts_beside, puts_further}
+use Rattle.trie_shape.proofs.Ones.{ones_single}
+use Rattle.trie_node.proofs.Splits.{one_digit, one_digit_other, level_within, place_beside, puts_beside, puts_further}
 use Rattle.trie_shape.proofs.Views.{on_ok}
 use Rattle.trie_node.proofs.Words.{word_is_small}
 use Rattle.trie_node.proofs.put.+split.Goals as goal
@@ -63,6 +64,18 @@ split-requires g t c κs inside =
     let same : digit a.old_path.0 a.level ≡ digit a.entry.path.0 a.level = sym c.digit-old_digit.ensures.value ∙ c.if-old_digit-digit.true ∙ c.digit-digit.ensures.value in
     let agree = subst (λ n. a.old_path.0 % 2 ^ n ≡ a.entry.path.0 % 2 ^ n) {x = digit_bits + digit_bits * a.level} {y = digit_bits * (a.level + 1)} (omega arith) (agree_more a.old_path.0 a.entry.path.0 a.level c.requires.agree same) in
     (omega (arith, within), (search rules, (search rules, (c.requires.bucket, (below, (c.requires.word, (c.requires.path, (c.requires.apart, (agree, (c.requires.size, c.requires.room))))))))))
+
+pub with_child-requires-clause-count : goal.with_child-requires-clause-count
+with_child-requires-clause-count g t c =
+    ap length c.from_ref.ensures.value ∙ sym (ones_single c.digit-digit.result c.digit-digit.ensures.small)
+
+pub add_leaf-requires-clause-count : goal.add_leaf-requires-clause-count
+add_leaf-requires-clause-count g t c =
+    ap length c.from_ref-else-old_digit-digit.ensures.value ∙ sym (ones_single c.digit-old_digit.result c.digit-old_digit.ensures.small)
+
+pub add_leaf-requires-clause-lacks : goal.add_leaf-requires-clause-lacks
+add_leaf-requires-clause-lacks g t c =
+    one_digit_other c.digit-old_digit.result c.digit-digit.result c.digit-old_digit.ensures.small (λ same. c.if-old_digit-digit.false (sym same))
 
 pub add_leaf-requires-clause-place : goal.add_leaf-requires-clause-place
 add_leaf-requires-clause-place g t c =

@@ -1,10 +1,13 @@
-use Rattle.std.proofs.Common.{rules, ◌≡◌, ◌≢◌, ◌≤◌, length, arith, ◌∷◌, ◌++◌, []}
+use Rattle.std.proofs.Common.{rules, ◌≡◌, ◌≢◌, ◌≤◌, length, arith, ◌∷◌, ◌++◌, [], ap}
+use Rattle.batch_cli.specs.Filing.{ProgramSeat}
 use Rattle.batch_cli.proofs.Lines.{all_made, line_made, line_passed, none_make}
 use Rattle.batch_cli.proofs.client.ScriptClientClientByteTextI64ScriptQuery.run.Goals.{then-line-self+in_ok-answer+in_ok-push, else-line-self}
 use Rattle.batch_cli.proofs.client.ScriptClientClientByteTextI64ScriptQuery.run.Goals as goal
 
 pub loop-line-init : goal.loop-line-init
-loop-line-init g c = rw (c.requires.fresh, c.new-replies.ensures.items) none_make
+loop-line-init g c =
+    let empty : c.args.seat.now.list ≡ [] = ap (λ (s : ProgramSeat). s.list) c.requires.fresh in
+    rw (empty, c.new-replies.ensures.items) none_make
 
 pub loop-line-preserved : goal.loop-line-preserved
 loop-line-preserved g c =

@@ -1,6 +1,6 @@
 use Rattle.std.proofs.Common.{take}
 use Rattle.batch_cli.specs.Filing.{events_at}
-use Rattle.batch_cli.specs.Runs.{LinesMake, lines_by}
+use Rattle.script_runs.specs.Runs.{LinesMake, lines_by}
 use Rattle.batch_cli.proofs.client.ScriptClientClientByteTextI64ScriptQuery.run.Given as goal
 
 -- the seat has filed the events of its lines so far, and the replies are theirs

@@ -26,7 +26,7 @@ loop-step-init g c =
     let kind = asked g.K.Ord.cmp g.V.PartialEq.eq g.Q.Asks.target_of g.Q.Asks.answered in
     let division = divided g.K.PathKey.path_of g.Q.Bulk.decides in
     record {
-      run = subst (λ os. HasRun kind division c.args.self.now.state [] os c.args.self.now.state) (sym c.new-outcomes.ensures.items) (run_none kind division c.args.self.now.state);
+      run = subst (λ os. HasRun kind division c.args.self.now [] os c.args.self.now) (sym c.new-outcomes.ensures.items) (run_none kind division c.args.self.now);
       count = ap length c.new-outcomes.ensures.items;
     }
 
@@ -38,8 +38,8 @@ loop-step-preserved g c =
     let steps = c.args.steps.now in
     let done = map asked_by (take (c.loop-step.step-index + 1) steps) in
     record {
-      run = subst (λ os. HasRun kind division c.args.self.now.state done os c.one_more.new.self.state) (sym made.1)
-          (steps_more kind division c.args.self.now.state c.loop-step.self c.one_more.new.self steps c.loop-step.step-index c.step-item.result c.loop-step.outcomes.items made.0
+      run = subst (λ os. HasRun kind division c.args.self.now done os c.one_more.new.self) (sym made.1)
+          (steps_more kind division c.args.self.now c.loop-step.self c.one_more.new.self steps c.loop-step.step-index c.step-item.result c.loop-step.outcomes.items made.0
           c.loop-step-test.true c.step-item.is c.loop-step.invariant.run made.2);
       count = omega (arith, ap length made.1, length_push c.loop-step.outcomes.items made.0, c.loop-step.invariant.count);
     }
@@ -49,8 +49,8 @@ returns-clause-run g c =
     let kind = asked g.K.Ord.cmp g.V.PartialEq.eq g.Q.Asks.target_of g.Q.Asks.answered in
     let division = divided g.K.PathKey.path_of g.Q.Bulk.decides in
     let steps = c.args.steps.now in
-    subst (λ xs. Ran kind division c.args.self.now.state (map asked_by xs) c.loop-step.outcomes.items c.loop-step.self.state) (take_all c.loop-step.step-index steps (omega (arith, c.loop-step-test.false)))
-    (ran kind division c.law_of_coverings.ensures c.args.self.now.state c.loop-step.self.state (map asked_by (take c.loop-step.step-index steps)) c.loop-step.outcomes.items c.workers.ensures.core c.loop-step.invariant.run)
+    subst (λ xs. Ran kind division c.args.self.now (map asked_by xs) c.loop-step.outcomes.items c.loop-step.self) (take_all c.loop-step.step-index steps (omega (arith, c.loop-step-test.false)))
+    (ran kind division c.law_of_coverings.ensures c.args.self.now c.loop-step.self (map asked_by (take c.loop-step.step-index steps)) c.loop-step.outcomes.items c.workers.ensures.core c.loop-step.invariant.run)
 
 pub returns-then-is_err-clause-short : goal.returns-then-is_err-clause-short
 returns-then-is_err-clause-short g c =
@@ -65,7 +65,7 @@ returns-then-is_err-clause-err g c =
     let failed = sym c.is_err.ensures.value ∙ c.if-is_err.true in
     let same = err_here c.one_more.result failed c.one_more.ensures.outcomes in
     let left = err_here c.one_more.result failed c.one_more.ensures.err in
-    let so_far = ran kind division c.law_of_coverings.ensures c.args.self.now.state c.loop-step.self.state (map asked_by (take c.loop-step.step-index steps)) c.loop-step.outcomes.items c.workers.ensures.core c.loop-step.invariant.run in
-    subst (λ t. Ran kind division c.args.self.now.state (map asked_by (take (length c.one_more.new.outcomes.items) steps)) c.one_more.new.outcomes.items t.state) (sym left)
-    (subst (λ os. Ran kind division c.args.self.now.state (map asked_by (take (length os) steps)) os c.loop-step.self.state) (sym same)
-    (subst (λ n. Ran kind division c.args.self.now.state (map asked_by (take n steps)) c.loop-step.outcomes.items c.loop-step.self.state) (sym c.loop-step.invariant.count) so_far))
+    let so_far = ran kind division c.law_of_coverings.ensures c.args.self.now c.loop-step.self (map asked_by (take c.loop-step.step-index steps)) c.loop-step.outcomes.items c.workers.ensures.core c.loop-step.invariant.run in
+    subst (λ t. Ran kind division c.args.self.now (map asked_by (take (length c.one_more.new.outcomes.items) steps)) c.one_more.new.outcomes.items t) (sym left)
+    (subst (λ os. Ran kind division c.args.self.now (map asked_by (take (length os) steps)) os c.loop-step.self) (sym same)
+    (subst (λ n. Ran kind division c.args.self.now (map asked_by (take n steps)) c.loop-step.outcomes.items c.loop-step.self) (sym c.loop-step.invariant.count) so_far))

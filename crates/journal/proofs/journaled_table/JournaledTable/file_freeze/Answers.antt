@@ -1,12 +1,12 @@
-use Rattle.std.proofs.Common.{rules, ◌≡◌, ◌++◌, ◌∷◌, [], false, refl, sym, subst}
+use Rattle.std.proofs.Common.{rules, ◌≡◌, ◌++◌, ◌∷◌, [], false, refl, sym, ◌∙◌, subst}
 use Rattle.std.specs.Arc.{arc_value}
 use Rattle.boxcar.specs.Table.{Shows}
 use Rattle.handles.specs.Machine.{Request, Step, freeze}
 use Rattle.handles.specs.Views.{Foresees, machine, frozen_outcome, lacks_memory}
 use Rattle.journal.specs.Answers.{answered}
-use Rattle.journal.specs.Kept.{openers_of}
+use Rattle.journal.specs.Kept.{IsKept, openers_of}
 use Rattle.journal.specs.Tokens.{entry_at}
-use Rattle.journal.proofs.Foresight.{step_as_foreseen, filed_as_counted}
+use Rattle.journal.proofs.Foresight.{step_as_foreseen, filed_as_counted, stays_where_lacking}
 use Rattle.journal.proofs.Runs.{kept_more}
 use Rattle.journal.proofs.Events.{files_event, frozen_after}
 use Rattle.journal.proofs.Openers.{each_frozen, openers_frozen}
@@ -44,3 +44,14 @@ returns-clause-filed g c =
     files_event kind g.J.Room.table l.table c.freeze.new.self l.journal.items c.push_reserved.new.self.items c.in_ok-token.token c.in_ok-token.mine c.args.caller.seat r (answered frozen_outcome c.args.answer) _ c.args.self.now (openers_of l.freezes.items) (openers_of c.set_beside.new.freezes.items)
     c.self.view_is is c.in_ok-token.ensures.same shows entry (search rules) (filed_as_counted kind frozen_outcome c.args.answer (λ x. refl) c.requires.counted) step
     (openers_frozen kind c.args.handle (arc_value c.args.query) c.args.answer l.freezes.items _ c.set_beside.new.freezes.items c.again.result c.in_ok-token.token (search rules) c.set_beside.ensures (search rules))
+
+pub invariant_of-self-then-lacks_memory : goal.invariant_of-self-then-lacks_memory
+invariant_of-self-then-lacks_memory g c =
+    let kind = machine g.K.Ord.cmp g.V.PartialEq.eq g.Q.Asks.target_of g.Q.Asks.answered in
+    let l = c.self.inside in
+    let r : Request g.row.K.Denot g.row.V.Denot g.row.Q.Denot = freeze c.args.handle (arc_value c.args.query) in
+    let table = stays_where_lacking kind l.table c.freeze.new.self r frozen_outcome c.freeze.result c.freeze.ensures.step (sym c.lacks_memory.ensures ∙ c.if-lacks_memory.true) in
+    let journal : c.entered.new.journal.items ≡ l.journal.items = c.entered.ensures.items in
+    let freezes : c.reserve.new.self.items ≡ l.freezes.items = c.reserve.ensures.items in
+    subst (λ t. IsKept kind g.J.Room.table t c.entered.new.journal.items c.reserve.new.self.items) (sym table)
+    (subst (λ xs. IsKept kind g.J.Room.table l.table xs c.reserve.new.self.items) (sym journal) (subst (IsKept kind g.J.Room.table l.table l.journal.items) (sym freezes) c.self.invariant))

@@ -1,4 +1,4 @@
-use Rattle.std.proofs.Common.{rules, ◌≡◌, ◌++◌, ◌∷◌, [], Some, refl, subst}
+use Rattle.std.proofs.Common.{rules, ◌≡◌, ◌++◌, ◌∷◌, [], refl, subst}
 use Rattle.boxcar.specs.Table.{Shows}
 use Rattle.bulk_ops.specs.Answers as plain
 use Rattle.handles.specs.Machine.{Request, abandon, made, refused}
@@ -31,5 +31,5 @@ returns-in-Ok-clause-adds g c =
 
 pub returns-in-Err-clause-adds : goal.returns-in-Err-clause-adds
 returns-in-Err-clause-adds g c =
-    let adds : Adds c.args.seat.now (abandon c.ticket.inside.job) (refused c.in-Err.refusal) c.mark.new.self = ended_adds c.args.seat.now c.mark.new.self (abandon c.ticket.inside.job) c.in-Err.refusal (Some c.ticket.inside.job) refl c.in-Err.ensures.unfiled (search rules) in
+    let adds : Adds c.args.seat.now (abandon c.ticket.inside.job) (refused c.in-Err.refusal) c.mark.new.self = ended_adds c.args.seat.now c.mark.new.self (abandon c.ticket.inside.job) c.in-Err.refusal c.ticket.inside.job refl c.in-Err.ensures.unfiled (search rules) in
     subst (λ t. Adds c.args.seat.now (abandon t.job) (refused c.in-Err.refusal) c.mark.new.self) c.ticket.view_is adds

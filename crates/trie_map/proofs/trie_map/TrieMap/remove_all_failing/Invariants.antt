@@ -1,6 +1,8 @@
-use Rattle.std.proofs.Common.{◌+◌, ◌≤◌, Bool, length}
+use Rattle.std.proofs.Common.{◌≡◌, ◌+◌, ◌≤◌, Bool, false, length}
+use Rattle.std.specs.Prelude.{All}
 use Rattle.bulk_ops.specs.Meanings.{MayAnswer, Means}
 use Rattle.trie_map.specs.Questions.{failing}
+use Rattle.versions.specs.Map.{Map}
 use Rattle.trie_map.proofs.trie_map.TrieMap.remove_all_failing.Given as goal
 
 -- those so far that are gone, and those to come that fail, are no more than those of the view that fail
@@ -11,4 +13,5 @@ invariant-loop-key g l = record {
   callable : goal.F-IsAlwaysCallable g l.test;
   few : l.removed + length l.key-iterator ≤ length l.view;
   gone : (p : g.row.K.Denot → g.row.V.Denot → Bool) → Means (MayAnswer g.F.Fn l.test) p → l.removed + length (failing p l.key-iterator) ≤ length (failing p l.view);
+  failed : (gone : Map g.row.K.Denot g.row.V.Denot) × (length gone ≡ l.removed) × All (λ (x : g.row.K.Denot × g.row.V.Denot). g.P.Keeps.holds x.0 x.1 × MayAnswer g.F.Fn l.test x.0 x.1 false) gone;
 }

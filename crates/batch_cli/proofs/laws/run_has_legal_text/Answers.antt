@@ -1,5 +1,0 @@
-use Rattle.batch_cli.proofs.LegalTexts.{run_may}
-use Rattle.batch_cli.proofs.laws.run_has_legal_text.Goals as goal
-
-pub returns : goal.returns
-returns c = λ script journal text lawful run. c.law_of_runs.ensures journal run.end (run_may c.law_of_statements.ensures script journal text lawful run) run.legal

@@ -1,0 +1,102 @@
+//! The calls of a history.
+
+use std::fmt;
+
+/// How many keys there are.
+pub const KEYS: usize = 4;
+
+/// The keys, in the order of their stripes: those of the digits 0, 8, 21 and 31. A view takes the stripes in this order.
+pub const ALL_KEYS: [u64; KEYS] = [5, 13, 16, LAST_KEY];
+
+pub const LAST_KEY: u64 = 26;
+
+/// A call.
+#[derive(Clone, Copy)]
+pub enum Call {
+    /// A call on one key.
+    Key(u64, KeyCall),
+    /// A call on the whole map.
+    Map(MapCall),
+}
+
+/// A call on one key, with the values that it is given.
+#[derive(Clone, Copy)]
+pub enum KeyCall {
+    Get,
+    GetCopied,
+    Read,
+    Put(u64),
+    PutIfAbsent(u64),
+    Replace(u64),
+    ReplaceIf(u64, u64),
+    Remove,
+    RemoveIf(u64),
+    RemoveWhereOdd,
+    Update(u64),
+    GetOrElseUpdate(u64),
+}
+
+/// A call on the whole map.
+#[derive(Clone, Copy)]
+pub enum MapCall {
+    View,
+    Snapshot,
+    Len,
+    Clear,
+}
+
+impl fmt::Display for Call {
+    fn fmt<W: fmt::Write>(&self, f: &mut fmt::Formatter<W>) -> fmt::Result {
+        match self {
+            Call::Key(key, call) => {
+                write!(f, "{} {key}", call.name())?;
+                call.write_values(f)
+            }
+            Call::Map(call) => f.write_str(call.name()),
+        }
+    }
+}
+
+impl KeyCall {
+    // The name of the call.
+    fn name(&self) -> &'static str {
+        match self {
+            KeyCall::Get => "get",
+            KeyCall::GetCopied => "get_copied",
+            KeyCall::Read => "read",
+            KeyCall::Put(_) => "put",
+            KeyCall::PutIfAbsent(_) => "put_if_absent",
+            KeyCall::Replace(_) => "replace",
+            KeyCall::ReplaceIf(_, _) => "replace_if",
+            KeyCall::Remove => "remove",
+            KeyCall::RemoveIf(_) => "remove_if",
+            KeyCall::RemoveWhereOdd => "remove_where_odd",
+            KeyCall::Update(_) => "update",
+            KeyCall::GetOrElseUpdate(_) => "get_or_else_update",
+        }
+    }
+
+    // Writes the values that the call is given, each behind a space.
+    fn write_values<W: fmt::Write>(&self, f: &mut fmt::Formatter<W>) -> fmt::Result {
+        match self {
+            KeyCall::Get | KeyCall::GetCopied | KeyCall::Read => Ok(()),
+            KeyCall::Remove | KeyCall::RemoveWhereOdd => Ok(()),
+            KeyCall::ReplaceIf(old, value) => write!(f, " {old} {value}"),
+            KeyCall::Put(value) | KeyCall::PutIfAbsent(value) => write!(f, " {value}"),
+            KeyCall::Replace(value) | KeyCall::RemoveIf(value) => write!(f, " {value}"),
+            KeyCall::Update(value) | KeyCall::GetOrElseUpdate(value) => write!(f, " {value}"),
+        }
+    }
+}
+
+impl MapCall {
+    // The name of the call.
+    fn name(&self) -> &'static str {
+        match self {
+            MapCall::View => "view",
+            MapCall::Snapshot => "snapshot",
+            MapCall::Len => "len",
+            MapCall::Clear => "clear",
+        }
+    }
+}

@@ -1,0 +1,15 @@
+//! What the program reads and prints besides replies: the words of its command line, the bytes that they name, the file
+//! of a journal, and why it failed.
+#![tactic(auto)]
+
+mod faults;
+mod journal_file;
+mod reading;
+mod standard_error;
+mod words;
+
+pub use faults::{DONE, FAILED, REFUSED, RunFault, failed, shown};
+pub use journal_file::{keep, write_journal};
+pub use reading::{input, read_journal, read_script};
+pub use standard_error::StandardError;
+pub use words::given_options;

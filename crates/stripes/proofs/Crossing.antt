@@ -1,0 +1,52 @@
+-- The locks of a map may be shared by threads, and go from one to another, where keys and values may.
+use denote.RattleType.{RattleType}
+use denote.Exit.{Exit, unchanged, leaves, hidden, under}
+use denote.Param.Send.{IsSend, IsSync, Quiet, owning_send, sendable, struct_send, struct_sync}
+use denote.Struct.Owning.{fields, shape, to}
+use denote.Struct.Struct.{exits_of}
+use Rattle.std.proofs.Crossing as heap
+use Rattle.std.specs.contracts.alloc.Global as Heap
+use Rattle.std.specs.contracts.impls.GlobalAllocator.TheImpl as allocator
+use Rattle.std.specs.contracts.sync.Mutex as Mutex
+use Rattle.std.specs.contracts.vec.Vec as Vec
+use Rattle.std.specs.declared.cmp.Ord as Ord
+use Rattle.std.specs.declared.cmp.PartialEq as PartialEq
+use Rattle.std.specs.declared.cmp.PartialOrd as PartialOrd
+use Rattle.hash_path.specs.declared.key.PathKey as PathKey
+use Rattle.stripes.specs.declared.keeps.Keeps as Keeps
+use Rattle.crossbeam_utils.specs.contracts.cache_padded.CachePadded as CachePadded
+use Rattle.stripes.specs.contracts.locks.Locks as Locks
+use Rattle.stripes.specs.contracts.locks.Locks.TheInside as Inside
+use Rattle.stripes.specs.contracts.stripe.Stripe as Stripe
+use Rattle.trie_shape.proofs.node.Node.TheLaws.TheKnot as nodes
+
+-- what is hidden at exit is quiet where it is quiet in sight
+quiet : {D X : Type 0} (to : D → X) (e : Exit X) → Quiet e → Quiet (hidden (under to e))
+quiet to unchanged q = λ x w. tt
+quiet to (leaves L l S s r) q = λ d. q (to d)
+
+module _ (K V P : RattleType) (key : PathKey.Ghosts K.Denot) (order : Ord.Ghosts K.Denot) (keq : PartialEq.Ghosts K.Denot) (kord : PartialOrd.Ghosts K.Denot) (keeps : Keeps.Ghosts P.Denot K.Denot V.Denot) where
+  abbrev List : RattleType
+  List = Vec.the_row (CachePadded.the_row (Mutex.the_row (Stripe.the_row K V P key order keq kord keeps))) Heap.the_row allocator.ghosts
+
+  list_send : IsSend K → IsSync K → IsSend V → IsSync V → IsSend List
+  list_send ks ky vs vy = search (sendable, heap.crosses, nodes.crosses_both) depth 40 fits 20000
+
+  list_sync : IsSend K → IsSync K → IsSend V → IsSync V → IsSync List
+  list_sync ks ky vs vy = search (sendable, heap.crosses, nodes.crosses_both) depth 40 fits 20000
+
+  fields_send : IsSend List → IsSend (Inside.the_row K V P key order keq kord keeps)
+  fields_send list =
+      let T = Inside.the_type K V P key order keq kord keeps in
+      owning_send T (list, tt) (λ d. tt) (λ k. quiet (to T) (exits_of k (fields T)) ((struct_send (shape T) (list, tt)).leaving k))
+
+  fields_sync : IsSync List → IsSync (Inside.the_row K V P key order keq kord keeps)
+  fields_sync list =
+      let T = Inside.the_type K V P key order keq kord keeps in
+      record { shared = λ d b o κ. ((struct_sync (shape T) (list, tt)).shared (to T d) b o κ, tt) }
+
+  pub locks_send : IsSend K → IsSend V → IsSync K → IsSync V → IsSend (Locks.the_row K V P key order keq kord keeps)
+  locks_send ks vs ky vy = let inside = fields_send (list_send ks ky vs vy) in search sendable
+
+  pub locks_sync : IsSend K → IsSend V → IsSync K → IsSync V → IsSync (Locks.the_row K V P key order keq kord keeps)
+  locks_sync ks vs ky vy = let inside = fields_sync (list_sync ks ky vs vy) in search sendable

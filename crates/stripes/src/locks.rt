@@ -1,0 +1,53 @@
+//! The locks of a map as a list, in a type of their own.
+ghost use Rattle.std.specs.Prelude.{◌≡◌, ℕ, length};
+ghost use Rattle.std.specs.Borrow.{ftrue};
+
+use crate::keeps::Keeps;
+use crate::stripe::Stripe;
+use crossbeam_utils::CachePadded;
+use hash_path::PathKey;
+use std::marker::Model;
+use std::sync::Mutex;
+
+/// A lock of a map, on a cache line of its own.
+pub type Lock<K, V, P> = CachePadded<Mutex<Stripe<K, V, P>>>;
+
+/// The locks of a map. A clause sees how many there are.
+///
+/// That threads may share them, where they may share keys and values, is proved here once, for this type. So the check
+/// of a program that shares a struct of maps does not look into the trie of each.
+#[derive(Drop)]
+pub struct Locks<K: PathKey, V, P: Keeps<K, V>> {
+    list: Vec<Lock<K, V, P>>,
+}
+
+impl<K: PathKey, V, P: Keeps<K, V>> Model for Locks<K, V, P> {
+    ghost Value = { ℕ };
+
+    ghost view = { λ locks. length locks.list.items };
+
+    ghost also_owns = { λ _. ftrue };
+
+    ghost also_shares = { λ _ _ _. ftrue };
+}
+
+// A struct with `also_owns` has neither by itself. This one owns nothing beside its list.
+unsafe impl<K: PathKey + Send + Sync, V: Send + Sync, P: Keeps<K, V>> Send for Locks<K, V, P> {}
+
+unsafe impl<K: PathKey + Send + Sync, V: Send + Sync, P: Keeps<K, V>> Sync for Locks<K, V, P> {}
+
+impl<K: PathKey, V, P: Keeps<K, V>> Locks<K, V, P> {
+    /// The locks of the list.
+    pub fn new(list: Vec<Lock<K, V, P>>) -> Locks<K, V, P>
+        ensures { result ≡ length list.items }
+    {
+        Locks { list }
+    }
+
+    /// The locks in their order.
+    pub fn as_slice(&self) -> &[Lock<K, V, P>]
+        ensures { length result.now ≡ self.now }
+    {
+        self.list.as_slice()
+    }
+}

@@ -1,0 +1,52 @@
+//! What a closure answers of a value that stays where it is.
+ghost use Rattle.std.specs.Prelude.{◌≡◌, IfSome, option_map};
+ghost use Rattle.stripes.specs.Rules.{first_digit as digit_of};
+ghost use Rattle.stripes.specs.Updates.{MayPass};
+ghost use Rattle.versions.specs.Map.{value_at};
+
+use super::Stripe;
+use crate::keeps::Keeps;
+use hash_path::{Path, PathKey, Sought};
+
+impl<K: PathKey + Drop, V: Drop, P: Keeps<K, V>> Stripe<K, V, P> {
+    /// What `look` answers of the value of the key, or of none. No handle is cloned.
+    pub fn read<T, Q: Sought<K>, F: FnOnce(Option<&V>) -> T>(
+        &self,
+        key: Q,
+        path: Path,
+        look: F,
+    ) -> T
+        requires path { path.0 ≡ K.path_of (Q.key_of key) }
+        requires place { digit_of K.path_of (Q.key_of key) ≡ self.now.digit }
+        requires callable { (found : _) → IfSome found (λ value. P.holds (Q.key_of key) value.now) → F.pre look found }
+        ensures { (found : _) × (option_map (λ value. value.now) found ≡ value_at K.cmp self.now.entries (Q.key_of key)) × IfSome found (λ value. P.holds (Q.key_of key) value.now) × F.post look found result }
+    {
+        look(self.value(key, path))
+    }
+
+    /// Whether the key has a value, and the test holds of it.
+    pub fn passes<F: FnOnce(&V) -> bool>(&self, key: &K, path: Path, test: F) -> bool
+        requires path { path.0 ≡ K.path_of key.now }
+        requires place { digit_of K.path_of key.now ≡ self.now.digit }
+        requires callable { (value : _) → P.holds key.now value.now → F.pre test value }
+        ensures { MayPass F.FnOnce test (value_at K.cmp self.now.entries key.now) result }
+    {
+        match self.value(key, path) {
+            Some(value) => test(value),
+            None => false,
+        }
+    }
+
+    // The value of the key, or none.
+    fn value<Q: Sought<K>>(&self, key: Q, path: Path) -> Option<&V>
+        requires path { path.0 ≡ K.path_of (Q.key_of key) }
+        requires place { digit_of K.path_of (Q.key_of key) ≡ self.now.digit }
+        ensures value { option_map (λ value. value.now) result ≡ value_at K.cmp self.now.entries (Q.key_of key) }
+        ensures kept { IfSome result (λ value. P.holds (Q.key_of key) value.now) }
+    {
+        match self.get(key, path) {
+            Some(value) => Some(&**value),
+            None => None,
+        }
+    }
+}

@@ -1,0 +1,92 @@
+use Rattle.std.proofs.Common.{ap, ◌∙◌, arith}
+use Rattle.iter.specs.Intervals.{cover, whole}
+use Rattle.ruled_deques.specs.EndsView.{given}
+use Rattle.task_pool.specs.Worked.{once}
+use Rattle.task_pool.proofs.worker.IdleWorker.run.Goals as goal
+use Rattle.task_pool.proofs.worker.IdleWorker.run.Goals.{in-Some+in_ok-state-in-Some+then-is_settled, in-Some+in_ok-state-in-Some+else-is_settled, in-None+else-failed-shared, else-loop-test, then-loop-test+then-is_stopped, then-loop-test+else-is_stopped+in-None+then-failed-shared}
+
+pub loop-preserved : goal.loop-preserved
+loop-preserved g c =
+    elim c.match-take.branch [
+      | in-Some+in_ok-state-in-Some+then-is_settled w ↦ (
+        ap (λ s. s.ends.place) w.state-is ∙ w.in_ok-state-in-Some.ensures.same.0 ∙ w.in-Some.ensures.same.0 ∙ c.loop.invariant.0,
+        λ p. omega (
+          arith,
+          ap (λ n. cover (given whole n) p) (ap (λ s. s.ends.place) w.state-is ∙ w.in_ok-state-in-Some.ensures.same.0 ∙ w.in-Some.ensures.same.0),
+          ap (λ s. cover s.ends.taken p) w.state-is,
+          ap (λ s. cover s.ends.pushed p) w.state-is,
+          ap (λ s. cover s.partial p) w.state-is,
+          ap (λ s. cover s.leftover.items p) w.state-is,
+          ap (λ xs. cover xs p) w.in_ok-state-in-Some.ensures.same.1,
+          w.in_ok-state-in-Some.ensures.did p,
+          w.in-Some.ensures.took (λ i. once i p),
+          ap (λ xs. cover xs p) w.in-Some.ensures.same.1,
+          c.loop.invariant.1 p,
+        ),
+      )
+      | in-Some+in_ok-state-in-Some+else-is_settled w ↦ (
+        ap (λ s. s.ends.place) w.state-is ∙ w.in_ok-state-in-Some.ensures.same.0 ∙ w.in-Some.ensures.same.0 ∙ c.loop.invariant.0,
+        λ p. omega (
+          arith,
+          ap (λ n. cover (given whole n) p) (ap (λ s. s.ends.place) w.state-is ∙ w.in_ok-state-in-Some.ensures.same.0 ∙ w.in-Some.ensures.same.0),
+          ap (λ s. cover s.ends.taken p) w.state-is,
+          ap (λ s. cover s.ends.pushed p) w.state-is,
+          ap (λ s. cover s.partial p) w.state-is,
+          ap (λ s. cover s.leftover.items p) w.state-is,
+          ap (λ xs. cover xs p) w.in_ok-state-in-Some.ensures.same.1,
+          w.in_ok-state-in-Some.ensures.did p,
+          w.in-Some.ensures.took (λ i. once i p),
+          ap (λ xs. cover xs p) w.in-Some.ensures.same.1,
+          c.loop.invariant.1 p,
+        ),
+      )
+      | in-None+else-failed-shared w ↦ (
+        ap (λ s. s.ends.place) w.state-is ∙ w.in-None.ensures.same.0 ∙ c.loop.invariant.0,
+        λ p. omega (
+          arith,
+          ap (λ n. cover (given whole n) p) (ap (λ s. s.ends.place) w.state-is ∙ w.in-None.ensures.same.0),
+          ap (λ s. cover s.ends.taken p) w.state-is,
+          ap (λ s. cover s.ends.pushed p) w.state-is,
+          ap (λ s. cover s.partial p) w.state-is,
+          ap (λ s. cover s.leftover.items p) w.state-is,
+          w.in-None.ensures.took (λ i. once i p),
+          ap (λ xs. cover xs p) w.in-None.ensures.same.1,
+          c.loop.invariant.1 p,
+        ),
+      )
+    ]
+
+pub invariant_of-result : goal.invariant_of-result
+invariant_of-result g c = record {
+  balance = λ p. elim c.loop-test.branch [
+    | else-loop-test w ↦ omega (
+      arith,
+      ap (λ s. cover (given whole s.ends.place) p) w.state-is,
+      ap (λ s. cover s.ends.taken p) w.state-is,
+      ap (λ s. cover s.ends.pushed p) w.state-is,
+      ap (λ s. cover s.partial p) w.state-is,
+      ap (λ s. cover s.leftover.items p) w.state-is,
+      c.loop.invariant.1 p,
+    )
+    | then-loop-test+then-is_stopped w ↦ omega (
+      arith,
+      ap (λ s. cover (given whole s.ends.place) p) w.state-is,
+      ap (λ s. cover s.ends.taken p) w.state-is,
+      ap (λ s. cover s.ends.pushed p) w.state-is,
+      ap (λ s. cover s.partial p) w.state-is,
+      ap (λ s. cover s.leftover.items p) w.state-is,
+      c.loop.invariant.1 p,
+    )
+    | then-loop-test+else-is_stopped+in-None+then-failed-shared w ↦ omega (
+      arith,
+      ap (λ n. cover (given whole n) p) (ap (λ s. s.ends.place) w.state-is ∙ w.in-None.ensures.same.0),
+      ap (λ s. cover s.ends.taken p) w.state-is,
+      ap (λ s. cover s.ends.pushed p) w.state-is,
+      ap (λ s. cover s.partial p) w.state-is,
+      ap (λ s. cover s.leftover.items p) w.state-is,
+      w.in-None.ensures.took (λ i. once i p),
+      ap (λ xs. cover xs p) w.in-None.ensures.same.1,
+      c.loop.invariant.1 p,
+    )
+  ];
+}

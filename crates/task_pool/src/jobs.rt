@@ -1,0 +1,73 @@
+//! The workers, before their threads begin.
+ghost use Rattle.std.specs.Prelude.{◌≡◌, ◌<◌, [], ℕ, IfOk, Some, length, slice_index_or};
+ghost use Rattle.iter.specs.Intervals.{whole};
+ghost use Rattle.ruled_deques.specs.EndsView.{given};
+
+use crate::partial::{OfBulk, Partial};
+use crate::task::{OfView, Task};
+use crate::worker::{IdleWorker, WorkerState};
+use combiner::Bulk;
+use hash_path::PathKey;
+use ruled_deques::{Deques, WorkerEnds};
+use std::alloc::Global;
+use trie_node::NoMemory;
+use versions::View;
+
+// A worker that has worked nothing.
+fn new_worker<'a, C, K, V, B, D>(
+    alloc: Global,
+    view: &View<K, V>,
+    bulk: &'a B,
+    ends: WorkerEnds<Task<C, K, V>, D>,
+) -> Result<IdleWorker<'a, C, K, V, B, D>, NoMemory>
+where
+    C: OfView<K, V> + OfBulk<B>,
+    K: PathKey + Drop,
+    V: Drop,
+    B: Bulk<K, V>,
+    D: Deques,
+    requires view { view.now ≡ C.map }
+    requires bulk { Some bulk.now ≡ C.bulk }
+    requires ready { B.ready bulk.now }
+    requires pushed { ends.pushed ≡ given whole ends.place }
+    requires taken { ends.taken ≡ [] }
+    ensures { IfOk result (λ worker. worker.state.ends.place ≡ ends.place) }
+{
+    let partial = Partial::new(alloc, view, bulk)?;
+    let leftover = Vec::new(alloc);
+    Ok(IdleWorker {
+        state: WorkerState {
+            ends,
+            partial,
+            leftover,
+        },
+    })
+}
+
+/// A worker for each deque.
+pub fn make_workers<'a, C, K, V, B, D>(
+    alloc: Global,
+    view: &View<K, V>,
+    bulk: &'a B,
+    all: Vec<WorkerEnds<Task<C, K, V>, D>>,
+) -> Result<Vec<IdleWorker<'a, C, K, V, B, D>>, NoMemory>
+where
+    C: OfView<K, V> + OfBulk<B>,
+    K: PathKey + Drop,
+    V: Drop,
+    B: Bulk<K, V>,
+    D: Deques,
+    requires view { view.now ≡ C.map }
+    requires bulk { Some bulk.now ≡ C.bulk }
+    requires ready { B.ready bulk.now }
+    requires each { (i : ℕ) (d : _) → i < length all.items → slice_index_or all.items i d ≡ record { place = i; pushed = given whole i; taken = [] } }
+    ensures len { IfOk result (λ workers. length workers.items ≡ length all.items) }
+    ensures places { IfOk result (λ workers. (i : ℕ) (d : _) → i < length workers.items → (slice_index_or workers.items i d).state.ends.place ≡ i) }
+{
+    let mut workers = Vec::new(alloc);
+    for ends in all {
+        let worker = new_worker(alloc, view, bulk, ends)?;
+        workers.push(worker)?;
+    }
+    Ok(workers)
+}

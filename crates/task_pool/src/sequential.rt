@@ -1,0 +1,70 @@
+//! The work of the caller.
+ghost use Rattle.std.specs.Prelude.{◌≡◌, ◌+◌, ◌++◌, ◌∷◌, [], ℕ, IfOk};
+ghost use Rattle.iter.specs.Intervals.{AreApart, cover};
+ghost use Rattle.task_pool.specs.Worked.{once};
+
+use crate::gate::Gate;
+use crate::partial::{OfBulk, Partial};
+use crate::shared::Shared;
+use crate::task::{OfView, Task};
+use combiner::Bulk;
+use hash_path::PathKey;
+use splitter::law_of_cuts;
+use trie_node::NoMemory;
+
+/// Cuts a piece down to the grain and works all of it.
+pub fn work_alone<'a, C, K, V, B, G>(
+    shared: &Shared<'_, G>,
+    partial: Partial<'a, C, K, V, B>,
+    number: u32,
+    task: Task<C, K, V>,
+) -> Result<Partial<'a, C, K, V, B>, NoMemory>
+where
+    C: OfView<K, V> + OfBulk<B>,
+    K: PathKey + Drop,
+    V: Drop,
+    B: Bulk<K, V>,
+    G: Gate,
+    requires grain { shared.now.grain ≡ C.grain }
+    requires apart { AreApart (partial ++ task ∷ []) }
+    ensures { IfOk result (λ all. (p : ℕ) → cover all p ≡ cover partial.entry p + once task p) }
+{
+    law_of_cuts::<K, V>();
+    match task.halves(shared.grain) {
+        Err(_) => Err(NoMemory),
+        Ok((lower, rest)) => match rest {
+            None => {
+                shared.gate.before(number, lower.lo(), lower.hi());
+                partial.work(shared.alloc, lower)
+            }
+            Some(upper) => {
+                let partial = work_alone(shared, partial, number, lower)?;
+                work_alone(shared, partial, number, upper)
+            }
+        },
+    }
+}
+
+/// Works the pieces that the workers left over.
+pub fn work_leftovers<'a, C, K, V, B, G>(
+    shared: &Shared<'_, G>,
+    partial: Partial<'a, C, K, V, B>,
+    number: u32,
+    leftover: Vec<Task<C, K, V>>,
+) -> Result<Partial<'a, C, K, V, B>, NoMemory>
+where
+    C: OfView<K, V> + OfBulk<B>,
+    K: PathKey + Drop,
+    V: Drop,
+    B: Bulk<K, V>,
+    G: Gate,
+    requires grain { shared.now.grain ≡ C.grain }
+    requires apart { AreApart (partial ++ leftover.items) }
+    ensures { IfOk result (λ all. (p : ℕ) → cover all p ≡ cover partial.entry p + cover leftover.items p) }
+{
+    let mut all = partial;
+    for task in leftover {
+        all = work_alone(shared, all, number, task)?;
+    }
+    Ok(all)
+}

@@ -1,0 +1,148 @@
+//! One worker of a crew.
+ghost use Rattle.std.specs.Prelude.{◌≡◌, ◌+◌, ℕ, IfOk, None};
+ghost use Rattle.iter.specs.Intervals.{cover, whole};
+ghost use Rattle.ruled_deques.specs.EndsView.{given};
+ghost use Rattle.splitter.specs.Cuts.{cut_point};
+ghost use Rattle.task_pool.specs.Worked.{once};
+
+use crate::gate::Gate;
+use crate::partial::{OfBulk, Partial};
+use crate::shared::Shared;
+use crate::task::{OfView, Task};
+use combiner::Bulk;
+use hash_path::PathKey;
+use ruled_deques::{Deques, WorkerEnds};
+use splitter::law_of_cuts;
+use std::thread;
+use trie_node::NoMemory;
+
+/// A worker's ends of the deques, its partial result, and the pieces that it leaves to the caller.
+#[derive(Drop)]
+pub struct WorkerState<'a, C: OfView<K, V> + OfBulk<B>, K: PathKey, V, B: Bulk<K, V>, D: Deques> {
+    pub ends: WorkerEnds<Task<C, K, V>, D>,
+    pub partial: Partial<'a, C, K, V, B>,
+    pub leftover: Vec<Task<C, K, V>>,
+}
+
+/// A worker that holds no piece.
+///
+/// What it was given and what it has taken is what it has worked, pushed or left over, each position as often.
+#[derive(Drop)]
+pub struct IdleWorker<'a, C: OfView<K, V> + OfBulk<B>, K: PathKey, V, B: Bulk<K, V>, D: Deques> {
+    pub state: WorkerState<'a, C, K, V, B, D>,
+    pub ghost balance: { (p : ℕ) → cover (given whole state.ends.place) p + cover state.ends.taken p ≡ cover state.partial p + cover state.ends.pushed p + cover state.leftover.items p },
+}
+
+impl<'a, C, K, V, B, D> WorkerState<'a, C, K, V, B, D>
+where
+    C: OfView<K, V> + OfBulk<B>,
+    K: PathKey + Drop,
+    V: Drop,
+    B: Bulk<K, V>,
+    D: Deques,
+{
+    // Cuts a piece down to the grain and works it. Upper halves wait in the worker's own deque.
+    fn process<G: Gate>(
+        mut self,
+        shared: &Shared<'_, G>,
+        task: Task<C, K, V>,
+    ) -> Result<WorkerState<'a, C, K, V, B, D>, NoMemory>
+        requires { shared.now.grain ≡ C.grain }
+        ensures same { IfOk result (λ done. (done.ends.place ≡ self.entry.ends.place) × (done.ends.taken ≡ self.entry.ends.taken)) }
+        ensures did { IfOk result (λ done. (p : ℕ) → cover done.partial p + cover done.ends.pushed p + cover done.leftover.items p ≡ cover self.entry.partial p + cover self.entry.ends.pushed p + cover self.entry.leftover.items p + once task p) }
+    {
+        law_of_cuts::<K, V>();
+        match task.halves(shared.grain) {
+            Err(_) => Err(NoMemory),
+            Ok((lower, rest)) => match rest {
+                None => self.work_or_leave(shared, lower),
+                Some(upper) => {
+                    shared.note_split();
+                    match self.ends.push(upper) {
+                        Ok(()) => self.process(shared, lower),
+                        Err(upper) => {
+                            let state = self.process(shared, lower)?;
+                            state.process(shared, upper)
+                        }
+                    }
+                }
+            },
+        }
+    }
+
+    // Works a piece that cannot be cut, or leaves it to the caller where it shares a position with what was worked.
+    fn work_or_leave<G: Gate>(
+        self,
+        shared: &Shared<'_, G>,
+        task: Task<C, K, V>,
+    ) -> Result<WorkerState<'a, C, K, V, B, D>, NoMemory>
+        requires { cut_point K.path_of C.map task C.grain ≡ None }
+        ensures same { IfOk result (λ done. done.ends ≡ self.entry.ends) }
+        ensures did { IfOk result (λ done. (p : ℕ) → cover done.partial p + cover done.leftover.items p ≡ cover self.entry.partial p + cover self.entry.leftover.items p + once task p) }
+    {
+        let WorkerState {
+            ends,
+            partial,
+            mut leftover,
+        } = self;
+        shared.note_worked();
+        if !partial.is_free(&task) {
+            leftover.push(task)?;
+            return Ok(WorkerState {
+                ends,
+                partial,
+                leftover,
+            });
+        }
+        let number = u32::try_from(ends.place()).unwrap_or(u32::MAX);
+        shared.gate.before(number, task.lo(), task.hi());
+        let partial = partial.work(shared.alloc, task)?;
+        Ok(WorkerState {
+            ends,
+            partial,
+            leftover,
+        })
+    }
+}
+
+impl<'a, C, K, V, B, D> IdleWorker<'a, C, K, V, B, D>
+where
+    C: OfView<K, V> + OfBulk<B>,
+    K: PathKey + Drop,
+    V: Drop,
+    B: Bulk<K, V>,
+    D: Deques,
+{
+    /// Takes pieces and works them, until workers may stop or more than `patience` rounds have found no piece.
+    pub fn run<G: Gate>(
+        self,
+        shared: &Shared<'_, G>,
+    ) -> Result<IdleWorker<'a, C, K, V, B, D>, NoMemory>
+        requires { shared.now.grain ≡ C.grain }
+        ensures { IfOk result (λ done. done.state.ends.place ≡ self.entry.state.ends.place) }
+    {
+        let IdleWorker { mut state } = self;
+        let mut failed = 0u32;
+        for _ in 0..u64::MAX {
+            if shared.is_stopped() {
+                break;
+            }
+            match state.ends.take() {
+                Some(task) => {
+                    state = state.process(shared, task)?;
+                    if state.partial.is_settled() {
+                        shared.stop();
+                    }
+                }
+                None => {
+                    if failed >= shared.patience {
+                        break;
+                    }
+                    failed += 1;
+                    thread::yield_now();
+                }
+            }
+        }
+        Ok(IdleWorker { state })
+    }
+}

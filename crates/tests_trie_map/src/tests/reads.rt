@@ -1,0 +1,96 @@
+//! Reads that clone no handle, and maps in text.
+use super::{Map, assert_is, empty, key, put, view_of};
+use std::alloc::AllocError;
+use std::process::Abort;
+use std::sync::Wait;
+use trie_map::{ByteText, NoMemory, PutError, TrieMap, View};
+
+// Whether `look` was given a value, and what it makes of it.
+fn looked<R: Wait>(rt: &R, map: &Map, id: u32) -> (bool, u64) {
+    map.read(rt, &key(1, id), |found| match found {
+        Some(value) => (true, value.wrapping_mul(2)),
+        None => (false, 0),
+    })
+}
+
+#[test]
+fn a_value_is_read_where_it_is(rt: HostRuntime) {
+    let map = empty(&rt);
+    put(&rt, &map, key(1, 0), 21);
+    put(&rt, &map, key(1, 1), 4);
+    assert_is(&rt, looked(&rt, &map, 0), (true, 42));
+    assert_is(&rt, looked(&rt, &map, 1), (true, 8));
+    assert_is(&rt, looked(&rt, &map, 2), (false, 0));
+}
+
+#[test]
+fn a_value_is_copied(rt: HostRuntime) {
+    let map = empty(&rt);
+    put(&rt, &map, key(1, 0), 21);
+    put(&rt, &map, key(1, 1), 4);
+    let copies = [0, 1, 2].map(|id| map.get_copied(&rt, &key(1, id)));
+    assert_is(&rt, copies, [Some(21), Some(4), None]);
+}
+
+#[test]
+fn pairs_are_counted_stripe_by_stripe(rt: HostRuntime) {
+    let map = empty(&rt);
+    assert_is(&rt, map.approx_len(&rt), 0);
+    for id in 0..40 {
+        put(&rt, &map, key(id % 32, id), 1);
+    }
+    assert_is(&rt, map.approx_len(&rt), 40);
+}
+
+// A map of numbers and a view of it in text.
+fn shown<R: AllocGlobal + Wait + Abort>(rt: &R) -> Result<(String, String), AllocError> {
+    let map: TrieMap<u64, u32> = TrieMap::new(rt).expect(rt, "no map");
+    map.put(rt, 7, 70).expect(rt, "not put");
+    let view: View<u64, u32> = map.view(rt).expect(rt, "no view");
+    Ok((
+        format!(in rt.alloc(); "{map:?}")?,
+        format!(in rt.alloc(); "{view:?}")?,
+    ))
+}
+
+#[test]
+fn a_map_and_a_view_in_text(rt: HostRuntime) {
+    let (map, view) = shown(&rt).expect(&rt, "no text");
+    assert_is(&rt, map.as_str(), "TrieMap { len: 1 }");
+    assert_is(&rt, view.as_str(), "{7: 70}");
+    assert_is(&rt, view_of(&rt, &empty(&rt)).is_empty(), true);
+}
+
+// A map of two texts.
+fn of_texts<R: AllocGlobal + Wait>(rt: &R) -> Result<TrieMap<ByteText, u64>, PutError> {
+    let map: TrieMap<ByteText, u64> = TrieMap::new(rt)?;
+    map.put(rt, ByteText::from_text(rt.alloc(), "a")?, 4)?;
+    map.put(rt, ByteText::from_text(rt.alloc(), "ab")?, 6)?;
+    Ok(map)
+}
+
+// The value of a text, by `get`.
+fn got<R: Wait>(rt: &R, map: &TrieMap<ByteText, u64>, text: &str) -> Result<Option<u64>, NoMemory> {
+    Ok(map.get(rt, text)?.map(|value| *value))
+}
+
+#[test]
+fn a_text_is_looked_up_with_no_key_made(rt: HostRuntime) {
+    let map = of_texts(&rt).expect(&rt, "no map of texts");
+    assert_is(&rt, got(&rt, &map, "a"), Ok(Some(4)));
+    assert_is(&rt, got(&rt, &map, "b"), Ok(None));
+    let copies = ["a", "ab", "b", ""].map(|text| map.get_copied(&rt, text));
+    assert_is(&rt, copies, [Some(4), Some(6), None, None]);
+    let there = [b"ab".as_slice(), b"ba".as_slice()].map(|bytes| map.contains_key(&rt, bytes));
+    assert_is(&rt, there, [true, false]);
+    assert_is(&rt, map.read(&rt, "ab", |found| found.is_some()), true);
+}
+
+#[test]
+fn a_text_is_looked_up_in_a_view(rt: HostRuntime) {
+    let map = of_texts(&rt).expect(&rt, "no map of texts");
+    let view: View<ByteText, u64> = map.view(&rt).expect(&rt, "no view");
+    let there = ["a", "ab", "b"].map(|text| view.contains_key(text));
+    assert_is(&rt, there, [true, true, false]);
+    assert_is(&rt, view.get("ab").map(|value| **value), Some(6));
+}

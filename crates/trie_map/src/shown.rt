@@ -1,0 +1,27 @@
+//! Maps and views in text.
+ghost use Rattle.std.specs.Prelude.{◌≡◌};
+
+use crate::trie_map::TrieMap;
+use crate::view::View;
+use hash_path::PathKey;
+use std::fmt;
+use std::fmt::{Debug, Formatter};
+use stripes::Keeps;
+
+/// How many pairs there are, as `TrieMap { len: 3 }`. It never waits: while another thread holds a part of the map it is
+/// `TrieMap { .. }`. Pairs are shown by a view.
+impl<K: PathKey + Drop, V: Drop, P: Keeps<K, V>> Debug for TrieMap<K, V, P> {
+    fn fmt<W: fmt::Write>(&self, f: &mut Formatter<W>) -> fmt::Result {
+        match self.try_len() {
+            Some(pairs) => f.debug_struct("TrieMap").field("len", &pairs).finish(),
+            None => f.debug_struct("TrieMap").finish_non_exhaustive(),
+        }
+    }
+}
+
+/// All pairs, in the order of `iter`, as `{"a": 1, "b": 2}`.
+impl<K: PathKey + Debug + Drop, V: Debug + Drop, P: Keeps<K, V>> Debug for View<K, V, P> {
+    fn fmt<W: fmt::Write>(&self, f: &mut Formatter<W>) -> fmt::Result {
+        f.debug_map().entries(self.iter()).finish()
+    }
+}

@@ -1,0 +1,54 @@
+//! Maps that are filled with many pairs.
+ghost use Rattle.std.specs.Iterator.{IsFiniteIterable};
+ghost use Rattle.std.specs.Prelude.{All};
+ghost use Rattle.trie_map.specs.Iterables.{EachKeeps};
+
+use super::TrieMap;
+use crate::put_error::PutError;
+use hash_path::PathKey;
+use std::sync::Wait;
+use stripes::Keeps;
+
+impl<K: PathKey + Drop, V: Drop, P: Keeps<K, V>> TrieMap<K, V, P> {
+    /// A map of the pairs, which are put in order: of several with one key the last stays. It is refused as `put` is.
+    pub fn from_pairs<R: AllocGlobal + Wait, I: IntoIterator<Item = (K, V)> + Drop>(
+        rt: &R,
+        pairs: I,
+    ) -> Result<TrieMap<K, V, P>, PutError>
+        requires ends { IsFiniteIterable I.into_iter_gives I.IntoIter.can_next I.IntoIter.remaining pairs }
+        requires rule { EachKeeps P.holds I.into_iter_gives I.IntoIter.next_gives pairs }
+    {
+        let map = TrieMap::new(rt)?;
+        map.extend_from(rt, pairs)?;
+        Ok(map)
+    }
+
+    /// Puts each of the pairs, in order. Where one is refused, as `put` is, those before it are in the map.
+    pub fn extend<R: Wait>(&self, rt: &R, pairs: Vec<(K, V)>) -> Result<(), PutError>
+        requires { All (λ pair. P.holds pair.0 pair.1) pairs.items }
+    {
+        for (key, value) in pairs {
+            self.put(rt, key, value)?;
+        }
+        Ok(())
+    }
+
+    /// Puts each pair that an iterator gives, in order. Where one is refused, as `put` is, those before it are in the map.
+    ///
+    /// The iterator has to end, and runs with no lock held. Where the map has a rule, the proofs' `list_keeps` shows that
+    /// the pairs of an iterator that gives a list in order keep it, and `vec_keeps` those of an iterator over a `Vec`
+    /// (`specs/Iterables.antt`).
+    pub fn extend_from<R: Wait, I: IntoIterator<Item = (K, V)>>(
+        &self,
+        rt: &R,
+        pairs: I,
+    ) -> Result<(), PutError>
+        requires ends { IsFiniteIterable I.into_iter_gives I.IntoIter.can_next I.IntoIter.remaining pairs }
+        requires rule { EachKeeps P.holds I.into_iter_gives I.IntoIter.next_gives pairs }
+    {
+        for (key, value) in pairs {
+            self.put(rt, key, value)?;
+        }
+        Ok(())
+    }
+}

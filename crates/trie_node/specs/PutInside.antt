@@ -1,0 +1,23 @@
+-- What a put does to a node where it stands, if it can.
+use Rattle.std.specs.Prelude.{◌≡◌, ℕ, Bool, true, false, Option, None, option_map}
+use Rattle.std.specs.declared.cmp.Ordering.{Ordering}
+use Rattle.std.specs.Arc.{arc_value}
+use Rattle.trie_shape.specs.Tree.{Tree}
+use Rattle.trie_shape.specs.View.{tree}
+use Rattle.trie_node.specs.PutInPlace.{PutsIn}
+use Rattle.trie_node.specs.declared.put.Entry.{Entry}
+use Rattle.trie_node.specs.declared.put_in_place.PutInside.{PutInside}
+use Rattle.trie_node.specs.declared.put_in_place.PutInside.TheVariants.{Done, GivesWay, Elsewhere}
+
+module _ {K V : Type 0} where
+  -- the put is done; or another node, of the same put, is to take the node's place; or nothing is changed, and the entry is still to be put
+  abbrev pub PutsInside : (K → K → Ordering) → (K → ℕ) → ℕ → Entry K V → (Option V → Bool) → Tree K V → PutInside K V → Tree K V → Type 0
+  PutsInside R path level entry holds old (Done d) new = PutsIn R path level entry.stamp.0 entry.key.value entry.value.value holds old (option_map arc_value d.previous) d.written new
+  PutsInside R path level entry holds old (GivesWay node) new = PutsIn R path level entry.stamp.0 entry.key.value entry.value.value holds old None true (tree node)
+  PutsInside R path level entry holds old (Elsewhere e) new = (e ≡ entry) × (new ≡ old)
+
+  -- the same of a leaf that is put where the condition holds of an absent key: added is the branch with it
+  abbrev pub PutsLeaf : Entry K V → Bool → Tree K V → Tree K V → PutInside K V → Tree K V → Type 0
+  PutsLeaf entry holds added old (Done d) new = (d.previous ≡ None) × (d.written ≡ holds) × (d.written ≡ true → new ≡ added) × (d.written ≡ false → new ≡ old)
+  PutsLeaf entry holds added old (GivesWay node) new = (holds ≡ true) × (tree node ≡ added)
+  PutsLeaf entry holds added old (Elsewhere e) new = (e ≡ entry) × (new ≡ old)
