@@ -1,5 +1,6 @@
+pub mod BothClauses
 pub mod Counting
 pub mod Deciding
+pub mod Equality
 pub mod Keeping
 pub mod Walks
-pub mod BothClauses

@@ -1,5 +1,5 @@
 -- What questions about a map may be answered.
-use Rattle.std.specs.Prelude.{◌≡◌, ℕ, Bool, true, false, not, Option, Some, None, Contains, map}
+use Rattle.std.specs.Prelude.{◌≡◌, ◌&&◌, ℕ, Bool, true, false, not, Option, Some, None, Contains, map}
 use Rattle.std.specs.List.{list_any}
 use Rattle.std.specs.declared.cmp.Ordering.{Ordering}
 use Rattle.bulk_ops.specs.Answers as plain
@@ -25,3 +25,7 @@ changed f m = map (λ x. (x.0, f x.0 x.1)) m
 -- this is told, and this map made, of a map each pair of which keeps the rule
 abbrev pub IsAnsweredOfKept : {K V I : Type 0} → (K → K → Ordering) → (K → V → Type 0) → (Map K V → plain.Answer K V I → Type 0) → Option ℕ → Answer K V I → Option (Contents K V) → Type 0
 IsAnsweredOfKept {K} {V} R H answered to told made = (m : Map K V) × AllKeep R H m × IsAnswered (answered m) to told made
+
+-- the keys are equal, and so are the values
+abbrev pub same_pair : {K V : Type 0} → (K → K → Bool) → (V → V → Bool) → K × V → K × V → Bool
+same_pair E F x y = E x.0 y.0 && F x.1 y.1

@@ -3,22 +3,26 @@ ghost use Rattle.std.specs.Prelude.{◌≡◌, ◌≤◌, Bool, IfOk, length};
 ghost use Rattle.bulk_ops.specs.Answers.{items_of, passing};
 ghost use Rattle.bulk_ops.specs.Meanings.{MayAnswer, Means};
 ghost use Rattle.combiner.specs.Monoids.{folded};
+ghost use Rattle.group_counts.specs.Groups.{IsGroups};
 ghost use Rattle.stripes.specs.Rules.{AllKeep};
+ghost use Rattle.top_pairs.specs.Ranks.{IsTop};
 ghost use Rattle.versions.specs.Map.{Map};
 
 use crate::trie_map::TrieMap;
 use crate::view::View;
 use closure_ops::{Counts, Folds};
 use combiner::Monoid;
+use group_counts::{GroupCounts, Groups};
 use hash_path::PathKey;
 use std::sync::Wait;
 use std::thread::Threads;
 use stripes::Keeps;
 use task_pool::Crew;
+use top_pairs::{Ranked, TopPairs};
 use trie_node::NoMemory;
 
-/// Each question promises what its like of one thread does (`count`, `fold`), and is worked as `par_query` works a
-/// query. The closure runs on the threads of the crew, several at once.
+/// Each question is worked as `par_query` works a query: the closure runs on the threads of the crew, several at once.
+/// `par_count` and `par_fold` promise what their like of one thread does (`count`, `fold`).
 impl<K: PathKey + Drop + Send + Sync, V: Drop + Send + Sync, P: Keeps<K, V>> View<K, V, P> {
     /// How many pairs pass the test, counted by a crew.
     pub fn par_count<R, F>(&self, rt: &R, test: F, crew: Crew) -> Result<u64, NoMemory>
@@ -49,6 +53,43 @@ impl<K: PathKey + Drop + Send + Sync, V: Drop + Send + Sync, P: Keeps<K, V>> Vie
         ensures { IfOk result (λ all. (i : K → V → M.Item) → Means (MayAnswer G.Fn item) i → all ≡ folded (M.combine monoid.now) (M.unit_of monoid.now) (items_of i self.now)) }
     {
         self.worked_by(rt, &Folds { monoid, item }, crew)
+    }
+
+    /// How many pairs each group has, where the closure names the group of a pair, counted by a crew. A group that no
+    /// pair has is not listed.
+    pub fn par_group_count<R, G, F>(
+        &self,
+        rt: &R,
+        group: F,
+        crew: Crew,
+    ) -> Result<Groups<G>, NoMemory>
+    where
+        R: Threads + Wait + Sync,
+        G: PathKey + Drop + Send + Sync,
+        F: Fn(&K, &V) -> G + Sync,
+        requires callable { F.IsAlwaysCallable group }
+        ensures { IfOk result (λ groups. IsGroups G.cmp (MayAnswer F.Fn group) self.now groups) }
+    {
+        self.worked_by(rt, &GroupCounts { group }, crew)
+    }
+
+    /// The `most` pairs with the highest scores, or all pairs where there are fewer, found by a crew. Which of several
+    /// pairs with one score are listed is free.
+    pub fn par_top<R, S, F>(
+        &self,
+        rt: &R,
+        most: usize,
+        score: F,
+        crew: Crew,
+    ) -> Result<Ranked<K, V, S>, NoMemory>
+    where
+        R: Threads + Wait + Sync,
+        S: Ord + Copy + Send,
+        F: Fn(&K, &V) -> S + Sync,
+        requires callable { F.IsAlwaysCallable score }
+        ensures { IfOk result (λ listed. IsTop S.cmp most (MayAnswer F.Fn score) self.now listed) }
+    {
+        self.worked_by(rt, &TopPairs { most, score }, crew)
     }
 }
 
@@ -83,5 +124,43 @@ impl<K: PathKey + Drop + Send + Sync, V: Drop + Send + Sync, P: Keeps<K, V>> Tri
         ensures { IfOk result (λ all. (m : Map K V) × AllKeep K.cmp P.holds m × ((i : K → V → M.Item) → Means (MayAnswer G.Fn item) i → all ≡ folded (M.combine monoid.now) (M.unit_of monoid.now) (items_of i m))) }
     {
         self.view(rt)?.par_fold(rt, monoid, item, crew)
+    }
+
+    /// How many pairs each group has, where the closure names the group of a pair, of the map as it stands at one moment
+    /// of the call, counted by a crew over a view. A group that no pair has is not listed.
+    pub fn par_group_count<R, G, F>(
+        &self,
+        rt: &R,
+        group: F,
+        crew: Crew,
+    ) -> Result<Groups<G>, NoMemory>
+    where
+        R: Threads + Wait + Sync,
+        G: PathKey + Drop + Send + Sync,
+        F: Fn(&K, &V) -> G + Sync,
+        requires callable { F.IsAlwaysCallable group }
+        ensures { IfOk result (λ groups. (m : Map K V) × AllKeep K.cmp P.holds m × IsGroups G.cmp (MayAnswer F.Fn group) m groups) }
+    {
+        self.view(rt)?.par_group_count(rt, group, crew)
+    }
+
+    /// The `most` pairs with the highest scores, or all pairs where there are fewer, of the map as it stands at one
+    /// moment of the call, found by a crew over a view. Each of them keeps the rule. Which of several pairs with one
+    /// score are listed is free.
+    pub fn par_top<R, S, F>(
+        &self,
+        rt: &R,
+        most: usize,
+        score: F,
+        crew: Crew,
+    ) -> Result<Ranked<K, V, S>, NoMemory>
+    where
+        R: Threads + Wait + Sync,
+        S: Ord + Copy + Send,
+        F: Fn(&K, &V) -> S + Sync,
+        requires callable { F.IsAlwaysCallable score }
+        ensures { IfOk result (λ listed. (m : Map K V) × AllKeep K.cmp P.holds m × IsTop S.cmp most (MayAnswer F.Fn score) m listed) }
+    {
+        self.view(rt)?.par_top(rt, most, score, crew)
     }
 }

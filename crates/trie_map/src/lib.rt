@@ -21,12 +21,14 @@ pub use bulk_ops::{
 };
 pub use columns::{Keys, Values};
 pub use combiner::{Both, Greatest, Least, Monoid, Sum};
+pub use group_counts::Groups;
 pub use hash_path::PathKey;
 pub use iter::{Pairs, pairs_of};
 pub use keys::ByteText;
 pub use put_error::PutError;
 pub use stripes::{Anything, Keeps, MOST_PAIRS_OF_STRIPE};
 pub use task_pool::Crew;
+pub use top_pairs::{Ranked, Scored};
 pub use trie_map::TrieMap;
 pub use trie_node::NoMemory;
 pub use versions::{MOST_PAIRS, Refusal, Version};

@@ -33,8 +33,8 @@ fn equal_to(value: u64) -> StoredTest<ChosenKey, u64, Is> {
     Stored::new(Is(value))
 }
 
-// Four workers, each of which has its pieces cut down to single pairs.
-fn four() -> Crew {
+/// Four workers, each of which has its pieces cut down to single pairs.
+pub(super) fn four() -> Crew {
     Crew {
         workers: 4,
         grain: 1,
@@ -110,8 +110,8 @@ impl<'a> PairFn<ChosenKey, u64, bool> for Meets<'a> {
     }
 }
 
-// A map of 300 keys in all stripes: a third of them each have the values 0, 1 and 2.
-fn in_thirds<R: AllocGlobal + Wait + Abort>(rt: &R) -> Map {
+/// A map of 300 keys in all stripes: a third of them each have the values 0, 1 and 2.
+pub(super) fn in_thirds<R: AllocGlobal + Wait + Abort>(rt: &R) -> Map {
     let map = empty(rt);
     for id in 0..300 {
         let path = u64::from(id);

@@ -3,8 +3,9 @@ use super::{Map, assert_is, at, empty, key, plain, put};
 use std::alloc::{AllocError, Global};
 use std::process::Abort;
 use std::sync::Wait;
+use std::thread::Threads;
 use test_keys::{Shortage, take_all};
-use trie_map::PutError;
+use trie_map::{Crew, PutError};
 
 // The sizes of what a put asks for that is one child too many for its branch: an `Arc` of its key or value, and a row of four
 // places.
@@ -117,25 +118,39 @@ fn puts_are_refused_at_each_request(rt: HostRuntime) {
     );
 }
 
-// The calls that take all stripes.
+// The calls that take all stripes. The last two ask a view of the map then, by one worker.
 #[derive(Clone, Copy, Debug)]
 enum Call {
     View,
     Snapshot,
     SnapshotAndClear,
+    CountGroups,
+    FindTop,
 }
 
-// Whether the call is granted what it asks for.
-fn is_granted<R: Wait>(rt: &R, map: &Map, call: Call) -> bool {
+// Whether the call is granted what it asks for. Of 32 keys, each has a group of its own and is listed.
+fn is_granted<R: Threads + Wait + Sync>(rt: &R, map: &Map, call: Call) -> bool {
     match call {
         Call::View => map.view(rt).is_ok(),
         Call::Snapshot => map.snapshot(rt).is_ok(),
         Call::SnapshotAndClear => map.snapshot(rt).is_ok_and(|other| other.clear(rt).is_ok()),
+        Call::CountGroups => {
+            let groups = map.par_group_count(rt, |key, _| key.path, Crew::of(1));
+            groups.is_ok_and(|groups| groups.len() == 32)
+        }
+        Call::FindTop => {
+            let top = map.par_top(rt, 40, |_, value| *value, Crew::of(1));
+            top.is_ok_and(|top| top.len() == 32)
+        }
     }
 }
 
 // At how many of the sizes, each larger than the one before, there is room for the call. The map stays as it is.
-fn count_granted<R: AllocGlobal + Wait + Abort>(rt: &R, map: &Map, call: Call) -> u32 {
+fn count_granted<R: AllocGlobal + Threads + Wait + Abort + Sync>(
+    rt: &R,
+    map: &Map,
+    call: Call,
+) -> u32 {
     let mut granted = 0u32;
     let mut shortage = Shortage::new(rt.alloc()).expect(rt, "no list");
     for _ in 0..STEPS {
@@ -155,7 +170,13 @@ fn calls_on_all_stripes_are_refused_at_each_request(rt: HostRuntime) {
     for digit in 0..32 {
         put(&rt, &map, key(digit, 0), u64::from(digit));
     }
-    for call in [Call::View, Call::Snapshot, Call::SnapshotAndClear] {
+    for call in [
+        Call::View,
+        Call::Snapshot,
+        Call::SnapshotAndClear,
+        Call::CountGroups,
+        Call::FindTop,
+    ] {
         let granted = count_granted(&rt, &map, call);
         assert_is(&rt, map.len(&rt), 32);
         assert!(rt;

@@ -1,0 +1,5 @@
+pub mod Lists
+pub mod Places
+pub mod Totals
+pub mod Joins
+pub mod Counting

@@ -1,0 +1,209 @@
+//! Groups of a few pairs, by hand.
+ghost use Rattle.std.specs.Prelude.{◌+◌, ◌≤◌, length};
+ghost use Rattle.group_counts.specs.Counts.{total};
+
+use super::{GroupCounts, Groups};
+use bulk_ops::work;
+use combiner::Bulk;
+use splitter::whole;
+use std::alloc::Global;
+use std::panic::Expect;
+use std::process::Abort;
+use std::sync::Arc;
+use test_keys::Shortage;
+use trie_node::Stamp;
+use versions::{Version, View};
+
+// How often a shortage is eased, and by how many bytes each time.
+const STEPS: usize = 64;
+
+const BYTES: usize = 16;
+
+// A map of these values, each under its number.
+fn map_of(rt: &impl Abort, alloc: Global, values: &[u64]) -> View<u64, u64> {
+    let mut map = Version::empty(alloc, 100, Stamp(1)).expect(rt, "no map");
+    let mut number: u64 = 0;
+    for value in values {
+        let key = Arc::new(alloc, number).expect(rt, "no key");
+        let value = Arc::new(alloc, *value).expect(rt, "no value");
+        map.put(alloc, key, value).expect(rt, "not put");
+        number = number.wrapping_add(1);
+    }
+    map.view().expect(rt, "no view")
+}
+
+// How many of the values leave each rest of a division by three.
+fn by_rest(rt: &impl Abort, alloc: Global, values: &[u64]) -> Groups<u64> {
+    let counts = GroupCounts {
+        group: |_: &u64, value: &u64| *value % 3,
+    };
+    let piece = whole(alloc, map_of(rt, alloc, values));
+    work(alloc, &piece, &counts).expect(rt, "no part")
+}
+
+// The counts of a pair for each of these groups.
+fn counted(rt: &impl Abort, alloc: Global, groups: &[u64]) -> Groups<u64>
+    ensures { total result ≤ length groups.now }
+{
+    let mut counts = Groups::none(alloc);
+    for group in groups {
+        counts.count_one(alloc, *group).expect(rt, "not counted");
+    }
+    counts
+}
+
+// The groups and their counts, as plain numbers.
+fn shown(rt: &impl Abort, alloc: Global, groups: &Groups<u64>) -> Vec<(u64, u64)> {
+    let mut all = Vec::new(alloc);
+    for (group, count) in groups.as_slice() {
+        all.push((**group, *count)).expect(rt, "no room");
+    }
+    all
+}
+
+// The groups are these, with these counts.
+fn assert_counts(rt: &impl Abort, alloc: Global, groups: &Groups<u64>, want: &[(u64, u64)]) {
+    assert_eq!(rt; groups.len(), want.len());
+    assert_eq!(rt; groups.is_empty(), want.is_empty());
+    assert_eq!(rt; shown(rt, alloc, groups).as_slice(), want);
+}
+
+// The two counts joined, where there is memory.
+fn joined(alloc: Global, left: &[u64], right: &[u64], rt: &impl Abort) -> Groups<u64> {
+    let (left, right) = (counted(rt, alloc, left), counted(rt, alloc, right));
+    left.joined(alloc, &right).expect(rt, "not joined")
+}
+
+// 3, 6 and 9 leave 0; 4, 7, 10 and 1 leave 1; 2 leaves 2.
+#[test]
+fn the_values_of_a_map_by_their_rest(rt: HostRuntime) {
+    let groups = by_rest(&rt, rt.alloc(), &[4, 7, 3, 10, 2, 6, 1, 9]);
+    assert_counts(&rt, rt.alloc(), &groups, &[(0, 3), (1, 4), (2, 1)]);
+    assert_eq!(rt; groups.get(&1), 4);
+}
+
+#[test]
+fn a_group_of_one(rt: HostRuntime) {
+    let groups = by_rest(&rt, rt.alloc(), &[5]);
+    assert_counts(&rt, rt.alloc(), &groups, &[(2, 1)]);
+}
+
+#[test]
+fn no_groups_of_no_pairs(rt: HostRuntime) {
+    let groups = by_rest(&rt, rt.alloc(), &[]);
+    assert_counts(&rt, rt.alloc(), &groups, &[]);
+    assert_eq!(rt; groups.get(&0), 0);
+}
+
+#[test]
+fn a_group_that_no_pair_has(rt: HostRuntime) {
+    let groups = counted(&rt, rt.alloc(), &[8, 2, 8, 4]);
+    assert_counts(&rt, rt.alloc(), &groups, &[(2, 1), (4, 1), (8, 2)]);
+    for group in [0, 3, 5, 9] {
+        assert_eq!(rt; groups.get(&group), 0);
+    }
+}
+
+#[test]
+fn one_pair_has_one_group(rt: HostRuntime) {
+    let alloc = rt.alloc();
+    let counts = GroupCounts {
+        group: |key: &u64, value: &u64| *key % 10 + *value % 10,
+    };
+    let key = Arc::new(alloc, 14).expect(&rt, "no key");
+    let value = Arc::new(alloc, 23).expect(&rt, "no value");
+    let groups = counts.one(alloc, &key, &value).expect(&rt, "no part");
+    assert_counts(&rt, alloc, &groups, &[(7, 1)]);
+}
+
+// 2 and 6 are in both, 1 and 9 in the left alone, 0, 5 and 8 in the right alone.
+#[test]
+fn a_join_of_shared_and_of_own_groups(rt: HostRuntime) {
+    let alloc = rt.alloc();
+    let groups = joined(alloc, &[9, 2, 6, 2, 1], &[8, 6, 0, 2, 6, 5], &rt);
+    let want = [(0, 1), (1, 1), (2, 3), (5, 1), (6, 3), (8, 1), (9, 1)];
+    assert_counts(&rt, alloc, &groups, &want);
+}
+
+#[test]
+fn a_join_with_no_groups(rt: HostRuntime) {
+    let alloc = rt.alloc();
+    assert_counts(&rt, alloc, &joined(alloc, &[3, 3], &[], &rt), &[(3, 2)]);
+    assert_counts(&rt, alloc, &joined(alloc, &[], &[3, 3], &rt), &[(3, 2)]);
+    assert_counts(&rt, alloc, &joined(alloc, &[], &[], &rt), &[]);
+}
+
+// How often a pair of the group is refused until there is memory for it. A refusal leaves the counts as they were.
+fn refusals(rt: &impl Abort, alloc: Global, groups: &mut Groups<u64>, group: u64) -> usize
+    requires { total groups.old ≤ 100 }
+    ensures { total groups.new ≤ total groups.old + 1 }
+{
+    let before = groups.len();
+    let mut shortage = Shortage::new(alloc).expect(rt, "no shortage");
+    for refused in 0..STEPS {
+        if groups.count_one(alloc, group).is_ok() {
+            return refused;
+        }
+        assert_eq!(rt; groups.len(), before);
+        shortage.give(alloc, BYTES).expect(rt, "nothing given");
+    }
+    STEPS
+}
+
+// A row has room for four, so the fifth group wants a place of its own and a longer row.
+#[test]
+fn a_new_group_is_refused_until_there_is_memory(rt: HostRuntime) {
+    let alloc = rt.alloc();
+    let mut groups = counted(&rt, alloc, &[1, 2, 3, 4]);
+    let refused = refusals(&rt, alloc, &mut groups, 9);
+    assert!(rt; 1 < refused && refused < STEPS);
+    assert_eq!(rt; refusals(&rt, alloc, &mut groups, 9), 0);
+    let want = [(1, 1), (2, 1), (3, 1), (4, 1), (9, 2)];
+    assert_counts(&rt, alloc, &groups, &want);
+}
+
+// The join with as little memory as is enough, and how often it is refused before.
+fn joined_late(
+    rt: &impl Abort,
+    alloc: Global,
+    left: &Groups<u64>,
+    right: &Groups<u64>,
+) -> Option<(usize, Groups<u64>)>
+    requires { total left.now + total right.now ≤ 100 }
+{
+    let mut shortage = Shortage::new(alloc).expect(rt, "no shortage");
+    for refused in 0..STEPS {
+        if let Ok(both) = left.joined(alloc, right) {
+            return Some((refused, both));
+        }
+        shortage.give(alloc, BYTES).expect(rt, "nothing given");
+    }
+    None
+}
+
+#[test]
+fn a_join_is_refused_until_there_is_memory(rt: HostRuntime) {
+    let alloc = rt.alloc();
+    let left = counted(&rt, alloc, &[1, 2, 3, 3]);
+    let right = counted(&rt, alloc, &[3, 4, 5]);
+    let late = joined_late(&rt, alloc, &left, &right);
+    let (refused, both) = late.expect(&rt, "a join is refused with memory to spare");
+    assert!(rt; 1 < refused);
+    assert_counts(&rt, alloc, &both, &[(1, 1), (2, 1), (3, 3), (4, 1), (5, 1)]);
+}
+
+// The part of no pairs takes no memory.
+#[test]
+fn the_first_group_is_refused_without_memory(rt: HostRuntime) {
+    let alloc = rt.alloc();
+    let counts = GroupCounts {
+        group: |_: &u64, value: &u64| *value,
+    };
+    let key = Arc::new(alloc, 1).expect(&rt, "no key");
+    let value = Arc::new(alloc, 2).expect(&rt, "no value");
+    let shortage = Shortage::new(alloc).expect(&rt, "no shortage");
+    let (none, one) = (counts.unit(alloc), counts.one(alloc, &key, &value));
+    drop(shortage);
+    assert!(rt; one.is_err());
+    assert_counts(&rt, alloc, &none.expect(&rt, "no unit"), &[]);
+}

@@ -1,0 +1,5 @@
+pub mod Orders
+pub mod Lists
+pub mod Places
+pub mod Merging
+pub mod Tops

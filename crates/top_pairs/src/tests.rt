@@ -1,0 +1,144 @@
+//! The highest scores of small maps, by hand.
+
+use crate::{Ranked, TopPairs};
+use bulk_ops::work;
+use combiner::Bulk;
+use splitter::whole;
+use std::alloc::Global;
+use std::panic::Expect;
+use std::process::Abort;
+use std::sync::Arc;
+use trie_node::Stamp;
+use versions::{Version, View};
+
+// The pairs of a part: score, key and value.
+type Rows = Vec<(i64, u64, i64)>;
+
+// The score of a pair: its value less 100.
+fn score_of(value: i64) -> i64 {
+    value.wrapping_sub(100)
+}
+
+// A map with these pairs.
+fn view_of(rt: &impl Abort, alloc: Global, pairs: &[(u64, i64)]) -> View<u64, i64> {
+    let mut map = Version::empty(alloc, 100, Stamp(1)).expect(rt, "no map");
+    for (key, value) in pairs {
+        let key = Arc::new(alloc, *key).expect(rt, "no key");
+        let value = Arc::new(alloc, *value).expect(rt, "no value");
+        map.put(alloc, key, value).expect(rt, "not put");
+    }
+    map.view().expect(rt, "no view")
+}
+
+// The list of a map with these pairs.
+fn top_of(
+    rt: &impl Abort,
+    alloc: Global,
+    most: usize,
+    pairs: &[(u64, i64)],
+) -> Ranked<u64, i64, i64> {
+    let top = TopPairs {
+        most,
+        score: |_key: &u64, value: &i64| score_of(*value),
+    };
+    let piece = whole(alloc, view_of(rt, alloc, pairs));
+    work(alloc, &piece, &top).expect(rt, "no list")
+}
+
+// What is listed.
+fn rows_of(rt: &impl Abort, alloc: Global, listed: &Ranked<u64, i64, i64>) -> Rows {
+    let mut rows = Vec::new(alloc);
+    for item in listed.as_slice() {
+        let row = (item.score(), **item.key(), **item.value());
+        rows.push(row).expect(rt, "no row");
+    }
+    rows
+}
+
+// The rows of the list of a map with these pairs.
+fn rows(rt: &impl Abort, alloc: Global, most: usize, pairs: &[(u64, i64)]) -> Rows {
+    rows_of(rt, alloc, &top_of(rt, alloc, most, pairs))
+}
+
+const SMALL: [(u64, i64); 5] = [(1, 30), (2, 500), (3, 10), (4, 200), (5, 100)];
+
+#[test]
+fn three_highest_of_a_small_map(rt: HostRuntime) {
+    let listed = top_of(&rt, rt.alloc(), 3, &SMALL);
+    let rows = rows_of(&rt, rt.alloc(), &listed);
+    assert_eq!(rt;
+        rows.as_slice(),
+        [(400, 2, 500), (100, 4, 200), (0, 5, 100)].as_slice()
+    );
+    assert_eq!(rt; listed.len(), 3);
+    assert!(rt; !listed.is_empty());
+    assert_eq!(rt; listed.get(1).map(|item| item.score()), Some(100));
+    assert!(rt; listed.get(3).is_none());
+}
+
+#[test]
+fn all_pairs_where_more_are_asked_for(rt: HostRuntime) {
+    let rows = rows(&rt, rt.alloc(), 9, &SMALL);
+    let all = [
+        (400, 2, 500),
+        (100, 4, 200),
+        (0, 5, 100),
+        (-70, 1, 30),
+        (-90, 3, 10),
+    ];
+    assert_eq!(rt; rows.as_slice(), all.as_slice());
+}
+
+#[test]
+fn two_of_three_alike(rt: HostRuntime) {
+    let rows = rows(&rt, rt.alloc(), 3, &[(1, 7), (2, 7), (3, 9), (4, 7)]);
+    assert_eq!(rt; rows.len(), 3);
+    assert_eq!(rt; rows[0], (-91, 3, 9));
+    assert_eq!(rt; (rows[1].0, rows[1].2), (-93, 7));
+    assert_eq!(rt; (rows[2].0, rows[2].2), (-93, 7));
+    assert_ne!(rt; rows[1].1, rows[2].1);
+}
+
+#[test]
+fn none_where_none_is_asked_for(rt: HostRuntime) {
+    let listed = top_of(&rt, rt.alloc(), 0, &SMALL);
+    assert!(rt; listed.is_empty());
+    assert_eq!(rt; listed.len(), 0);
+}
+
+#[test]
+fn none_of_no_pairs(rt: HostRuntime) {
+    let listed = top_of(&rt, rt.alloc(), 3, &[]);
+    assert!(rt; listed.is_empty());
+    assert!(rt; listed.get(0).is_none());
+}
+
+#[test]
+fn two_parts_joined(rt: HostRuntime) {
+    let alloc = rt.alloc();
+    let left = top_of(&rt, alloc, 3, &[(1, 30), (2, 500), (3, 10)]);
+    let right = top_of(&rt, alloc, 3, &[(4, 200), (5, 100)]);
+    let both = left.joined(alloc, &right, 3).expect(&rt, "no list");
+    let rows = rows_of(&rt, alloc, &both);
+    assert_eq!(rt;
+        rows.as_slice(),
+        [(400, 2, 500), (100, 4, 200), (0, 5, 100)].as_slice()
+    );
+    let more = right.joined(alloc, &left, 9).expect(&rt, "no list");
+    assert_eq!(rt; more.len(), 5);
+    assert_eq!(rt; more.get(4).map(|item| item.score()), Some(-90));
+}
+
+#[test]
+fn a_pair_added_to_a_full_list(rt: HostRuntime) {
+    let alloc = rt.alloc();
+    let mut listed = top_of(&rt, alloc, 2, &[(1, 30), (2, 500)]);
+    let key = Arc::new(alloc, 9_u64).expect(&rt, "no key");
+    let value = Arc::new(alloc, 9_i64).expect(&rt, "no value");
+    listed.offer(2, -70, &key, &value).expect(&rt, "no memory");
+    let same = rows_of(&rt, alloc, &listed);
+    assert_eq!(rt; same.as_slice(), [(400, 2, 500), (-70, 1, 30)].as_slice());
+    listed.offer(2, -69, &key, &value).expect(&rt, "no memory");
+    let other = rows_of(&rt, alloc, &listed);
+    assert_eq!(rt; other.as_slice(), [(400, 2, 500), (-69, 9, 9)].as_slice());
+}
