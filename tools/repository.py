@@ -48,6 +48,16 @@ def crates() -> dict[str, list[str]]:
     return crates_of((TOP / "crates.txt").read_text(encoding="utf-8"))
 
 
+def benchmarks() -> list[str]:
+    """The crates that crates.txt lists below its heading of benchmarks. The gate proves none of them."""
+    text = (TOP / "crates.txt").read_text(encoding="utf-8")
+    parts = re.split(r"^# (.*)$", text, flags=re.MULTILINE)
+    headed = [lines for heading, lines in zip(parts[1::2], parts[2::2]) if heading.startswith("Benchmarks")]
+    if len(headed) != 1:
+        raise Fault("crates.txt is to have one heading '# Benchmarks', and the crates below it")
+    return list(lines_of(headed[0]))
+
+
 def below(crates: dict[str, list[str]], names: list[str]) -> list[str]:
     """These crates and all that they stand on, in the order of the file."""
     found: set[str] = set()

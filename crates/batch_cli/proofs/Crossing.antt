@@ -1,4 +1,4 @@
--- A part of a query may go from one thread to another.
+-- A part of a query may go from one thread to another, and be read by many at once.
 use denote.RattleType.{RattleType}
 use denote.Param.Send.{IsSend, IsSync, sendable}
 use Rattle.std.proofs.Crossing as heap
@@ -15,9 +15,18 @@ module _ (K V : RattleType) (key : PathKey.Ghosts K.Denot) (order : Ord.Ghosts K
   view_send : IsSend K → IsSync K → IsSend V → IsSync V → IsSend (View.the_row K V key order keq kord)
   view_send ks ky vs vy = search (sendable, heap.crosses, nodes.crosses_both) depth 30
 
+  view_sync : IsSend K → IsSync K → IsSend V → IsSync V → IsSync (View.the_row K V key order keq kord)
+  view_sync ks ky vs vy = search (sendable, heap.crosses, nodes.crosses_both) depth 30
+
   version_send : IsSend K → IsSync K → IsSend V → IsSync V → IsSend (Version.the_row K V key order keq kord)
   version_send ks ky vs vy = search (sendable, heap.crosses, nodes.crosses_both) depth 30
+
+  version_sync : IsSend K → IsSync K → IsSend V → IsSync V → IsSync (Version.the_row K V key order keq kord)
+  version_sync ks ky vs vy = search (sendable, heap.crosses, nodes.crosses_both) depth 30
 
 module _ (K V I : RattleType) (key : PathKey.Ghosts K.Denot) (order : Ord.Ghosts K.Denot) (keq : PartialEq.Ghosts K.Denot) (kord : PartialOrd.Ghosts K.Denot) where
   pub part_send : IsSend K → IsSync K → IsSend V → IsSync V → IsSend I → IsSync I → IsSend (Part.the_field K V I key order keq kord).row
   part_send ks ky vs vy is iy = search (sendable, heap.crosses, version_send, view_send) depth 30
+
+  pub part_sync : IsSend K → IsSync K → IsSend V → IsSync V → IsSend I → IsSync I → IsSync (Part.the_field K V I key order keq kord).row
+  part_sync ks ky vs vy is iy = search (sendable, heap.crosses, version_sync, view_sync) depth 30

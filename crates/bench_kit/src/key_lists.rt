@@ -13,7 +13,16 @@ pub fn text_key(alloc: Global, number: u32) -> Result<ByteText, Fault> {
     Ok(ByteText::new(text.into_bytes()))
 }
 
-/// The keys of so many numbers, from 0.
+/// The keys of the numbers from 0 to `count` - 1, each of which stands in the list itself.
+pub fn plain_text_keys(alloc: Global, count: u32) -> Result<Vec<ByteText>, Fault> {
+    let mut keys = Vec::with_capacity(alloc, count as usize)?;
+    for number in 0..count {
+        keys.push(text_key(alloc, number)?)?;
+    }
+    Ok(keys)
+}
+
+/// The keys of the numbers from 0 to `count` - 1, each behind a pointer, as a map takes them.
 pub fn text_keys(alloc: Global, count: u32) -> Result<Vec<Arc<ByteText>>, Fault> {
     let mut keys = Vec::with_capacity(alloc, count as usize)?;
     for number in 0..count {
@@ -22,7 +31,7 @@ pub fn text_keys(alloc: Global, count: u32) -> Result<Vec<Arc<ByteText>>, Fault>
     Ok(keys)
 }
 
-/// So many numbers, from 0, as keys.
+/// The numbers from 0 to `count` - 1, as keys behind pointers.
 pub fn number_keys(alloc: Global, count: u32) -> Result<Vec<Arc<u64>>, Fault> {
     let mut keys = Vec::with_capacity(alloc, count as usize)?;
     for number in 0..count {
@@ -31,7 +40,7 @@ pub fn number_keys(alloc: Global, count: u32) -> Result<Vec<Arc<u64>>, Fault> {
     Ok(keys)
 }
 
-/// The keys in an order of no order, the same in each run.
+/// The keys in a random order, the same in each run.
 pub fn shuffled<K: Drop>(alloc: Global, keys: &[Arc<K>]) -> Result<Vec<Arc<K>>, Fault> {
     let mut shuffled = Vec::with_capacity(alloc, keys.len())?;
     for key in keys {

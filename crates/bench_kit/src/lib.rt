@@ -10,7 +10,7 @@ mod words;
 
 pub use best::Best;
 pub use fault::Fault;
-pub use key_lists::{copied, number_keys, shuffled, text_key, text_keys};
+pub use key_lists::{copied, number_keys, plain_text_keys, shuffled, text_key, text_keys};
 pub use questions::{
     Below, Coarser, Constant, Question, Value, count, exists, filter, fold_sum, map_pairs,
     map_values,

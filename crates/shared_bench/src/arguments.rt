@@ -19,7 +19,7 @@ pub struct Load {
 /// What is measured.
 #[derive(Clone, Copy)]
 pub enum Part {
-    /// Gets and puts at keys of no order.
+    /// Gets and puts at random keys.
     Mixed(Load),
     /// Gets and puts of one key.
     OneKey(Load),

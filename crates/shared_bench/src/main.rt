@@ -1,4 +1,4 @@
-//! Times what threads do with a map that they share: gets and puts of several threads at keys of no order and at one
+//! Times what threads do with a map that they share: gets and puts of several threads at random keys and at one
 //! key, views with nobody writing and while others write, calls on a table of maps and on the map that keeps a journal of
 //! them, gets on views of that map while another thread writes it, questions that a crew of threads answers, and what a
 //! put takes while a crew counts the map. The keys are byte texts.

@@ -2,11 +2,11 @@
 
 use crate::arguments::Load;
 use crate::maps::{Map, filled};
-use bench_kit::{Best, Fault, copied, text_keys};
+use bench_kit::{Best, Fault, copied, plain_text_keys};
 use keys::ByteText;
 use std::alloc::Global;
 use std::rt::Runtime;
-use std::sync::{Arc, Wait};
+use std::sync::Wait;
 use std::thread;
 use std::thread::Threads;
 use std::time::Instant;
@@ -31,7 +31,7 @@ pub fn mixed<R: Runtime + AllocGlobal + Threads + Wait + Sync>(
     rt: &R,
     load: Load,
 ) -> Result<(), Fault> {
-    let keys = text_keys(rt.alloc(), load.pairs)?;
+    let keys = plain_text_keys(rt.alloc(), load.pairs)?;
     let map = filled(rt, load.pairs)?;
     for reads in [Reads::Got, Reads::Copied] {
         calls_by(rt, &map, keys.as_slice(), load.rounds, 1, reads)?;
@@ -45,7 +45,7 @@ pub fn mixed<R: Runtime + AllocGlobal + Threads + Wait + Sync>(
 fn calls_by<R: Runtime + AllocGlobal + Threads + Wait + Sync>(
     rt: &R,
     map: &Map,
-    keys: &[Arc<ByteText>],
+    keys: &[ByteText],
     rounds: u32,
     threads: u32,
     reads: Reads,
@@ -72,7 +72,7 @@ fn name_of(reads: Reads) -> &'static str {
 fn one_round<R: Runtime + AllocGlobal + Threads + Wait + Sync>(
     rt: &R,
     map: &Map,
-    keys: &[Arc<ByteText>],
+    keys: &[ByteText],
     threads: u32,
     reads: Reads,
 ) -> Result<i64, Fault> {
@@ -89,7 +89,7 @@ fn one_round<R: Runtime + AllocGlobal + Threads + Wait + Sync>(
     Ok(sum)
 }
 
-/// The next number of no order: xorshift.
+/// The next random number: xorshift.
 pub fn next(state: u64) -> u64 {
     let state = state ^ (state << 13);
     let state = state ^ (state >> 7);
@@ -101,7 +101,7 @@ pub fn calls_of<R: Wait>(
     rt: &R,
     alloc: Global,
     map: &Map,
-    keys: &[Arc<ByteText>],
+    keys: &[ByteText],
     calls: u32,
     thread: u64,
     reads: Reads,

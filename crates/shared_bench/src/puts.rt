@@ -37,7 +37,7 @@ pub fn put_all<R: Runtime + AllocGlobal + Threads + Wait + Sync>(
     show(rt, WORKERS, beside)
 }
 
-/// Makes the puts, each at a key of no order, which gets the value that it has. A key is made before its time begins.
+/// Makes the puts, each at a random key, which gets the value that it has. A key is made before its time begins.
 fn write<R: Clock + AllocGlobal + Wait>(rt: &R, map: &Map, pairs: u32) -> Result<Written, Fault> {
     let mut times = Times::new(rt.alloc());
     let mut sum = 0i64;

@@ -2,11 +2,11 @@
 
 use crate::maps::{Map, filled};
 use crate::mixed::{Reads, calls_of};
-use bench_kit::{Fault, Times, text_keys};
+use bench_kit::{Fault, Times, plain_text_keys};
 use keys::ByteText;
 use std::rt::Runtime;
+use std::sync::Wait;
 use std::sync::atomic::{AtomicBool, Ordering};
-use std::sync::{Arc, Wait};
 use std::thread;
 use std::thread::Threads;
 use std::time::{Clock, Duration, Instant};
@@ -24,7 +24,7 @@ pub fn views<R: Runtime + Clock + AllocGlobal + Threads + Wait + Sync>(
     rt: &R,
     pairs: u32,
 ) -> Result<(), Fault> {
-    let keys = text_keys(rt.alloc(), pairs)?;
+    let keys = plain_text_keys(rt.alloc(), pairs)?;
     let map = filled(rt, pairs)?;
     let alone = median_of_views(rt, &map)?;
     show(rt, "view_alone", 1, alone, &map)?;
@@ -52,7 +52,7 @@ fn time_of_view<R: Clock + Wait>(rt: &R, map: &Map) -> Result<Duration, Fault> {
 fn beside_writers<R: Clock + AllocGlobal + Threads + Wait + Sync>(
     rt: &R,
     map: &Map,
-    keys: &[Arc<ByteText>],
+    keys: &[ByteText],
 ) -> Result<u64, Fault> {
     let ended = AtomicBool::new(false);
     let over = &ended;
@@ -81,7 +81,7 @@ fn write_until<R: AllocGlobal + Wait>(
     rt: &R,
     over: &AtomicBool,
     map: &Map,
-    keys: &[Arc<ByteText>],
+    keys: &[ByteText],
     thread: u64,
 ) -> Result<(), Fault> {
     let mut seed = thread;

@@ -155,7 +155,7 @@ fn wait_until<R: Wait>(rt: &R, so: &AtomicBool) {
     }
 }
 
-/// Makes puts until all readers have ended, or the journal has no more entries for them. A put gives a key of no order
+/// Makes puts until all readers have ended, or the journal has no more entries for them. A put gives a random key
 /// the value that it has.
 fn write<J: Room, R: Wait, C>(
     rt: &R,
@@ -181,7 +181,7 @@ fn write<J: Room, R: Wait, C>(
     Ok(())
 }
 
-/// Takes a view and makes the gets on it, at keys of no order.
+/// Takes a view and makes the gets on it, at random keys.
 fn read<J: Room, R: Wait, C: Clock>(
     rt: &R,
     alloc: Global,

@@ -25,7 +25,10 @@ type TestSeat<J> = Seat<ChosenKey, u64, Query, J>;
 
 type TestTicket<J> = Ticket<ChosenKey, u64, Query, J>;
 
-type TestPart = Part<ChosenKey, u64, i128>;
+/// A part of a query of the tests. In a type of its own, which has no parameters, it is compared with itself in few steps
+/// of the prover.
+#[derive(Drop)]
+pub struct TestPart(Part<ChosenKey, u64, i128>);
 
 /// A shared map, whichever it is.
 pub trait AnyMap {
@@ -129,9 +132,9 @@ impl<J: Room> AnyMap for SharedMap<ChosenKey, u64, Query, J> {
 
     type Ticket = Ticket<ChosenKey, u64, Query, J>;
 
-    type Part = Part<ChosenKey, u64, i128>;
+    type Part = TestPart;
 
-    ghost answers = { λ ticket part. ⟦<Query as Bulk<ChosenKey, u64>>⟧.answers ticket.query ticket.frozen part };
+    ghost answers = { λ ticket part. ⟦<Query as Bulk<ChosenKey, u64>>⟧.answers ticket.query ticket.frozen part.0 };
 
     fn meet(one: &mut TestSeat<J>, two: &mut TestSeat<J>) {
         one.meet(two);
@@ -187,7 +190,7 @@ impl<J: Room> AnyMap for SharedMap<ChosenKey, u64, Query, J> {
     }
 
     fn work(alloc: Global, ticket: &TestTicket<J>) -> Result<TestPart, NoMemory> {
-        worked(alloc, ticket.view(), ticket.query())
+        Ok(TestPart(worked(alloc, ticket.view(), ticket.query())?))
     }
 
     fn finish<R: Wait>(
@@ -197,7 +200,10 @@ impl<J: Room> AnyMap for SharedMap<ChosenKey, u64, Query, J> {
         ticket: TestTicket<J>,
         part: TestPart,
     ) -> Result<TestAnswer, (Refusal, TestTicket<J>, TestPart)> {
-        self.finish(rt, seat, ticket, part)
+        match self.finish(rt, seat, ticket, part.0) {
+            Ok(answer) => Ok(answer),
+            Err((refusal, ticket, part)) => Err((refusal, ticket, TestPart(part))),
+        }
     }
 
     fn abandon<R: Wait>(

@@ -33,12 +33,12 @@ fn equal_to(value: u64) -> StoredTest<ChosenKey, u64, Is> {
     Stored::new(Is(value))
 }
 
-/// Four workers, each of which has its pieces cut down to single pairs.
+/// Four workers, each of which has its pieces cut down to single pairs. None ends before the last piece is worked.
 pub(super) fn four() -> Crew {
     Crew {
         workers: 4,
         grain: 1,
-        patience: 0,
+        patience: u32::MAX,
     }
 }
 
