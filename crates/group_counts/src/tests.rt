@@ -10,14 +10,8 @@ use std::alloc::Global;
 use std::panic::Expect;
 use std::process::Abort;
 use std::sync::Arc;
-use test_keys::Shortage;
 use trie_node::Stamp;
 use versions::{Version, View};
-
-// How often a shortage is eased, and by how many bytes each time.
-const STEPS: usize = 64;
-
-const BYTES: usize = 16;
 
 // A map of these values, each under its number.
 fn map_of(rt: &impl Abort, alloc: Global, values: &[u64]) -> View<u64, u64> {
@@ -131,79 +125,4 @@ fn a_join_with_no_groups(rt: HostRuntime) {
     assert_counts(&rt, alloc, &joined(alloc, &[3, 3], &[], &rt), &[(3, 2)]);
     assert_counts(&rt, alloc, &joined(alloc, &[], &[3, 3], &rt), &[(3, 2)]);
     assert_counts(&rt, alloc, &joined(alloc, &[], &[], &rt), &[]);
-}
-
-// How often a pair of the group is refused until there is memory for it. A refusal leaves the counts as they were.
-fn refusals(rt: &impl Abort, alloc: Global, groups: &mut Groups<u64>, group: u64) -> usize
-    requires { total groups.old ≤ 100 }
-    ensures { total groups.new ≤ total groups.old + 1 }
-{
-    let before = groups.len();
-    let mut shortage = Shortage::new(alloc).expect(rt, "no shortage");
-    for refused in 0..STEPS {
-        if groups.count_one(alloc, group).is_ok() {
-            return refused;
-        }
-        assert_eq!(rt; groups.len(), before);
-        shortage.give(alloc, BYTES).expect(rt, "nothing given");
-    }
-    STEPS
-}
-
-// A row has room for four, so the fifth group wants a place of its own and a longer row.
-#[test]
-fn a_new_group_is_refused_until_there_is_memory(rt: HostRuntime) {
-    let alloc = rt.alloc();
-    let mut groups = counted(&rt, alloc, &[1, 2, 3, 4]);
-    let refused = refusals(&rt, alloc, &mut groups, 9);
-    assert!(rt; 1 < refused && refused < STEPS);
-    assert_eq!(rt; refusals(&rt, alloc, &mut groups, 9), 0);
-    let want = [(1, 1), (2, 1), (3, 1), (4, 1), (9, 2)];
-    assert_counts(&rt, alloc, &groups, &want);
-}
-
-// The join with as little memory as is enough, and how often it is refused before.
-fn joined_late(
-    rt: &impl Abort,
-    alloc: Global,
-    left: &Groups<u64>,
-    right: &Groups<u64>,
-) -> Option<(usize, Groups<u64>)>
-    requires { total left.now + total right.now ≤ 100 }
-{
-    let mut shortage = Shortage::new(alloc).expect(rt, "no shortage");
-    for refused in 0..STEPS {
-        if let Ok(both) = left.joined(alloc, right) {
-            return Some((refused, both));
-        }
-        shortage.give(alloc, BYTES).expect(rt, "nothing given");
-    }
-    None
-}
-
-#[test]
-fn a_join_is_refused_until_there_is_memory(rt: HostRuntime) {
-    let alloc = rt.alloc();
-    let left = counted(&rt, alloc, &[1, 2, 3, 3]);
-    let right = counted(&rt, alloc, &[3, 4, 5]);
-    let late = joined_late(&rt, alloc, &left, &right);
-    let (refused, both) = late.expect(&rt, "a join is refused with memory to spare");
-    assert!(rt; 1 < refused);
-    assert_counts(&rt, alloc, &both, &[(1, 1), (2, 1), (3, 3), (4, 1), (5, 1)]);
-}
-
-// The part of no pairs takes no memory.
-#[test]
-fn the_first_group_is_refused_without_memory(rt: HostRuntime) {
-    let alloc = rt.alloc();
-    let counts = GroupCounts {
-        group: |_: &u64, value: &u64| *value,
-    };
-    let key = Arc::new(alloc, 1).expect(&rt, "no key");
-    let value = Arc::new(alloc, 2).expect(&rt, "no value");
-    let shortage = Shortage::new(alloc).expect(&rt, "no shortage");
-    let (none, one) = (counts.unit(alloc), counts.one(alloc, &key, &value));
-    drop(shortage);
-    assert!(rt; one.is_err());
-    assert_counts(&rt, alloc, &none.expect(&rt, "no unit"), &[]);
 }
