@@ -13,13 +13,16 @@ use trie_node::walk_lists_map;
 /// another. No request is made for memory. Views of different lengths are told apart at once, and others at the first
 /// pair that differs.
 impl<K: PathKey + Drop, V: PartialEq + Drop, P: Keeps<K, V>> PartialEq for View<K, V, P> {
-    ghost use Rattle.std.specs.Cmp.Lexicographic.{pointwise};
+    ghost use Rattle.std.proofs.Common.{rules};
+    ghost use Rattle.std.specs.Cmp.{and_per, on_per};
+    ghost use Rattle.std.specs.Cmp.Rules.{comparing};
+    ghost use Rattle.std.specs.Cmp.Lexicographic.{lists_per, pointwise};
     ghost use Rattle.trie_map.specs.Questions.{same_pair};
     ghost use Rattle.trie_shape.specs.Order.{walked};
 
     ghost eq = { λ a b. pointwise (same_pair K.eq V.eq) (walked K.cmp K.path_of a) (walked K.cmp K.path_of b) };
 
-    ghost laws = { Prim.search rules };
+    ghost laws = { on_per (walked K.cmp K.path_of) (lists_per (and_per (on_per (λ pair. pair.0) {E = K.eq} (Prim.search (comparing, rules))) (on_per (λ pair. pair.1) V.laws))) };
 
     fn eq(&self, other: &Self) -> bool {
         walk_lists_map::<K, V>();
