@@ -41,6 +41,12 @@ const TRIES_AT_ONCE: u32 = 64;
 
 const ROUNDS: u32 = 120;
 
+// How many bytes more there are in a block of their own, once the others do not suffice, and in which round these begin
+// to be given then.
+const SPARE: usize = 65_536;
+
+const ROUNDS_BEFORE: u32 = 50;
+
 // How many clients there are. The first lines of all are the first ones of the script.
 const CLIENTS: u32 = 4;
 
@@ -127,8 +133,8 @@ fn is_run<R: Threads + Wait + Sync, G: LineGate + Sync>(
     }
 }
 
-// Runs the script with so many times the bytes of a step, and with a step more each time: how many runs wanted memory
-// before one was whole, with those that came before these; nothing where no run was whole.
+// Runs the script with so many times the bytes of a step beside those that are spare, and with a step more each time: how
+// many runs wanted memory before one was whole, with those that came before these; nothing where no run was whole.
 //
 // Memory is taken anew for them: what earlier runs have let go lies in pieces among the bytes that were given to them.
 fn refusals_from<R: Abort + Threads + Wait + Sync>(
@@ -136,8 +142,11 @@ fn refusals_from<R: Abort + Threads + Wait + Sync>(
     alloc: Global,
     script: &Script,
     from: u32,
+    spare: usize,
 ) -> Option<u32> {
+    let room: Vec<u8> = Vec::with_capacity(alloc, spare).expect(rt, "no room");
     let mut shortage = Shortage::new(alloc).expect(rt, "no list");
+    drop(room);
     let first = shortage.give(alloc, (from as usize).saturating_mul(STEP));
     first.expect(rt, "no room");
     for refused in from..from.saturating_add(TRIES_AT_ONCE) {
@@ -158,7 +167,13 @@ fn refusals<R: Abort + Threads + Wait + Sync>(
 ) -> Option<u32> {
     for round in 0..ROUNDS {
         let from = round.saturating_mul(TRIES_AT_ONCE);
-        if let Some(refused) = refusals_from(rt, alloc, script, from) {
+        if let Some(refused) = refusals_from(rt, alloc, script, from, 0) {
+            return Some(refused);
+        }
+    }
+    for round in ROUNDS_BEFORE..ROUNDS {
+        let from = round.saturating_mul(TRIES_AT_ONCE);
+        if let Some(refused) = refusals_from(rt, alloc, script, from, SPARE) {
             return Some(refused);
         }
     }

@@ -19,7 +19,7 @@ const MOST_SMALL: usize = 8;
 const MOST_LARGE: usize = 4;
 
 // How many sizes of room a call on all stripes is given, and by how many bytes they differ.
-const STEPS: u32 = 120;
+const STEPS: u32 = 240;
 
 const STEP: usize = 256;
 
