@@ -2,4 +2,3 @@ pub mod Filing
 pub mod Lines
 pub mod RunOf
 pub mod Statuses
-pub mod Crossing

@@ -9,13 +9,15 @@ use Rattle.std.specs.Option.{option_or}
 use Rattle.versions.specs.Contents.{Contents}
 use Rattle.versions.specs.declared.version.TheConstants.{MOST_PAIRS}
 use Rattle.combiner.specs.Unions.{AreApart}
-use Rattle.combiner.specs.Bulks.{IsJoined}
+use Rattle.combiner.specs.Bulks.{IsJoined, IsJoinedMap}
 use Rattle.combiner.specs.Monoids.{IsAssociative, IsCommutative, IsNeutral, IsClosed, folded}
 use Rattle.bulk_ops.specs.Answers.{Question, count, exists, for_all, find, filtered, mapped, paired, fold, Answer, answers, IsImage, items_of}
+use Rattle.bulk_ops.specs.Meanings.{MeansImages}
 use Rattle.bulk_ops.specs.Parts.{pair_of}
 use Rattle.bulk_ops.specs.Queries.{Asks, PartAnswers}
 use Rattle.bulk_ops.specs.declared.closure.PairFn.{Ghosts}
 use Rattle.bulk_ops.specs.declared.closure.ImageFn.{Ghosts as ImageGhosts}
+use Rattle.bulk_ops.specs.declared.stored.StoredPairs.{StoredPairs}
 use Rattle.bulk_ops.specs.declared.query.Query.{Query}
 use Rattle.bulk_ops.specs.declared.query.Query.TheVariants.{Count, Exists, ForAll, Find, Filter, MapValues, MapPairs, Fold}
 use Rattle.bulk_ops.specs.declared.part.Part.{Part}
@@ -24,6 +26,10 @@ use Rattle.bulk_ops.proofs.Unions.{truth_of}
 use Rattle.bulk_ops.proofs.Totals.{count_union, any_union, all_union, fold_union}
 use Rattle.bulk_ops.proofs.Made.{passing_union, values_union, in_left, in_right}
 use Rattle.bulk_ops.proofs.Images.{image_union}
+
+-- w has the images of the pairs of n, beside those that v has, by each meaning of the closure
+abbrev pub HasMoreImages : {K V P : Type 0} {h : ImageGhosts P K V} → (K → K → Ordering) → StoredPairs K V P h → Map K V → Map K V → Map K V → Type 0
+HasMoreImages {K} {V} {P} {h} R s n v w = (p : K → V → K × V) (m : Map K V) → MeansImages (h.gives s.call) p → IsImage p m v → AreApart R m n → IsImage p (union R m n) w
 
 module _ {K V : Type 0} (R : K → K → Ordering) where
   left_sorted : (m n : Map K V) → AreApart R m n → T (is_sorted R m)
@@ -150,6 +156,19 @@ module _ {K V C D M E P I : Type 0} {t : Ghosts C K V Bool} {f : Ghosts D K V V}
           kind = (limit, stamp, same);
           answer = λ z asks. subst (λ es. answers z (union R m n) (Answer.images es)) (sym entries) (pairs_answer exact s to i j y' z' m n (subst (IsMap R) entries sorted) x y apart z asks);
         })
+
+    more_answer : (s : StoredPairs K V P h) (to : ℕ) (i : Contents K V) (y' w : Map K V) (m n : Map K V) → HasMoreImages R s n i.entries w → Answered (MapPairs s to) m (parts.Images i y') → AreApart R m n
+        → (z : Question K V I) → Asked (MapPairs s to) z → answers z (union R m n) (Answer.images w)
+    more_answer s to i y' w m n more x apart (paired p n') asks =
+        more p m asks.0 (subst (λ l. IsImage p m l) (sym x.kind.2) (x.answer (paired p n') asks)) apart
+    more_answer s to i y' w m n more x apart z asks = absurd asks
+
+    pub more_joined : (q : Query K V C D M E P I t f g h) (s : StoredPairs K V P h) (to : ℕ) (a : Part K V I) (i k : Contents K V) (y' w n : Map K V) → q ≡ MapPairs s to → a ≡ parts.Images i y'
+        → HasMoreImages R s n i.entries w → k.limit ≡ MOST_PAIRS → k.stamp ≡ 0 → k.entries ≡ w → IsJoinedMap R (Answered q) a n (parts.Images k w)
+    more_joined q s to a i k y' w n is are more limit stamp same m x apart =
+        let was : Answered (MapPairs s to) m (parts.Images i y') = subst (λ a. Answered (MapPairs s to) m a) are (subst (λ q. Answered q m a) is x) in
+        subst (λ q. Answered q (union R m n) (parts.Images k w)) (sym is)
+        (record { kind = (limit, stamp, same); answer = more_answer s to i y' w m n more was apart })
 
     module _ (is_item : M → I → Type 0) (assoc : (m : M) → IsAssociative (combine m)) (comm : (m : M) → IsCommutative (combine m))
         (neutral : (m : M) → IsNeutral (combine m) (is_item m) (unit_of m)) (closed : (m : M) → IsClosed (combine m) (is_item m)) (unit_is : (m : M) → is_item m (unit_of m)) where

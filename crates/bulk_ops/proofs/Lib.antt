@@ -9,6 +9,7 @@ pub mod Settled
 pub mod Concluded
 pub mod Lent
 pub mod Works
+pub mod Pieces
 pub mod Imaged
 pub mod Shaped
 pub mod Permutations

@@ -9,7 +9,7 @@ use Rattle.versions.specs.Map.{Map}
 use Rattle.versions.specs.Contents.{Contents}
 use Rattle.versions.specs.declared.version.TheConstants.{MOST_PAIRS}
 use Rattle.combiner.specs.Unions.{AreApart}
-use Rattle.combiner.specs.Bulks.{Apart, CanAdd, CanJoin}
+use Rattle.combiner.specs.Bulks.{Apart, CanAdd, CanJoin, CanJoinMap}
 use Rattle.bulk_ops.specs.Answers.{count, filtered, mapped, paired, passes, passing, with_values}
 use Rattle.bulk_ops.specs.Parts.{HasNumber, HasTruth, HasPair, HasMap, HasImages, HasItem, HasRoom, HasImageRoom}
 use Rattle.bulk_ops.specs.Queries.{IsPartOf, PartAnswers}
@@ -208,6 +208,32 @@ module _ {K V C D M E P I : Type 0} {t : Ghosts C K V Bool} {f : Ghosts D K V V}
           ∥∥₁_elim there (λ x y. ℕ_set _ _ x y) (λ x. x.first_is.kind.0),
           ∥∥₁_elim there (λ x y. ℕ_set _ _ x y) (λ x. x.second_is.kind.0),
         )
+
+    module _ (n : Map K V) where
+      abbrev CanTakeMap : Query K V C D M E P I t f g h → Part K V I → Type 0
+      CanTakeMap q a = CanJoinMap R (λ m part. PartAnswers combine unit_of q m part) a n
+
+      -- a part that a map can be joined to answers some map
+      pub map_known : (q : Query K V C D M E P I t f g h) (a : Part K V I) → CanTakeMap q a → Known q a
+      map_known q a can =
+          let answer : ((m : Map K V) × Answered q m a × AreApart R m n) → (m : Map K V) × Answered q m a = λ x. (x.0, x.1) in
+          ∥∥₁_map can answer
+
+      -- a part that answers the map can be joined to it too
+      pub made_joins : (q : Query K V C D M E P I t f g h) (a made : Part K V I) → Answered q n made → CanTakeMap q a → Can q a made
+      made_joins q a made is can =
+          let beside : ((m : Map K V) × Answered q m a × AreApart R m n) → Apart R (Answered q) a made = λ x. record { first = x.0; second = n; first_is = x.1; second_is = is; apart = x.2 } in
+          ∥∥₁_map can beside
+
+      -- of a part of images it is known which limit and stamp it has, and that there is room for as many images as the map has pairs
+      pub images_can : (q : Query K V C D M E P I t f g h) (s : _) (to : ℕ) (a : Part K V I) (i : Contents K V) (y : Map K V) → q ≡ MapPairs s to → a ≡ parts.Images i y → CanTakeMap q a
+          → (i.limit ≡ MOST_PAIRS) × (i.stamp ≡ 0) × (length i.entries + length n ≤ MOST_PAIRS)
+      images_can q s to a i y is are can =
+          let there : CanTakeMap (MapPairs s to) (parts.Images i y) = subst (λ x. CanTakeMap (MapPairs s to) x) are (subst (λ x. CanTakeMap x a) is can) in (
+            ∥∥₁_elim there (λ u v. ℕ_set _ _ u v) (λ x. x.1.kind.0),
+            ∥∥₁_elim there (λ u v. ℕ_set _ _ u v) (λ x. x.1.kind.1),
+            ∥∥₁_elim there le_prop (λ x. ∥∥₁_elim s.means le_prop (λ p. omega (arith, ap length x.1.kind.2, images_le p.0 x.0 y (x.1.answer (paired p.0 to) (p.1, refl)), x.2.few))),
+          )
 
     module _ (k : K) (v : V) where
       abbrev CanTake : Query K V C D M E P I t f g h → Part K V I → Type 0

@@ -5,9 +5,10 @@
 ghost use Rattle.std.specs.Prelude.{◌≡◌, ◌≤◌, ◌<◌, ◌+◌, [], IfOk, OnOk, length};
 ghost use Rattle.bulk_ops.specs.Answers.{IsImage};
 ghost use Rattle.bulk_ops.specs.Meanings.{MeansImages};
+ghost use Rattle.combiner.specs.Unions.{AreApart};
 ghost use Rattle.trie_shape.specs.Roots.{IsRoot, map_of};
 ghost use Rattle.trie_shape.specs.View.{tree};
-ghost use Rattle.versions.specs.Map.{IsMap, union, with_pair};
+ghost use Rattle.versions.specs.Map.{IsMap, Map, union, with_pair};
 ghost use Rattle.versions.specs.declared.version.TheConstants.{MOST_PAIRS};
 
 use crate::closure::ImageFn;
@@ -36,8 +37,7 @@ pub(crate) fn no_images<K: PathKey + Drop, V: Drop>(alloc: Global) -> Result<See
     Ok((map, view))
 }
 
-/// The images of all pairs of a root. They are put into one map where it stands: a view of it is taken behind the last
-/// one, so that no put copies a node.
+/// The images of all pairs of a root.
 pub(crate) fn images_of<K: PathKey + Drop, V: Drop, P: ImageFn<K, V>>(
     alloc: Global,
     root: &Node<K, V>,
@@ -52,14 +52,42 @@ pub(crate) fn images_of<K: PathKey + Drop, V: Drop, P: ImageFn<K, V>>(
     ensures stamp { IfOk result (λ seen. seen.0.stamp ≡ 0) }
 {
     root_is_map::<K, V>();
+    let none = no_pairs(alloc)?;
+    let seen = more_images(alloc, none, root, change)?;
+    Ok(seen)
+}
+
+/// The images of a map and those of all pairs of a root, which has none of its keys.
+///
+/// They are put into the map where it stands: a view of it is taken behind the last one, so that no put copies a node of
+/// a map that nobody else holds.
+pub(crate) fn more_images<K: PathKey + Drop, V: Drop, P: ImageFn<K, V>>(
+    alloc: Global,
+    map: Version<K, V>,
+    root: &Node<K, V>,
+    change: &StoredPairs<K, V, P>,
+) -> Result<Seen<K, V>, NoMemory>
+    requires callable { P.can change.now.call }
+    requires root { IsRoot K.cmp K.path_of (tree root.now) }
+    requires room { length map.entries + length (map_of K.cmp (tree root.now)) ≤ MOST_PAIRS }
+    requires limit { map.limit ≡ MOST_PAIRS }
+    requires stamp { map.stamp ≡ 0 }
+    ensures images { IfOk result (λ seen. (p : K → V → K × V) (m : Map K V) → MeansImages (P.gives change.now.call) p → IsImage p m map.entries → AreApart K.cmp m (map_of K.cmp (tree root.now)) → IsImage p (union K.cmp m (map_of K.cmp (tree root.now))) seen.1) }
+    ensures entries { IfOk result (λ seen. seen.0.entries ≡ seen.1) }
+    ensures limit { IfOk result (λ seen. seen.0.limit ≡ MOST_PAIRS) }
+    ensures stamp { IfOk result (λ seen. seen.0.stamp ≡ 0) }
+{
+    root_is_map::<K, V>();
     walk_lists_map::<K, V>();
-    let mut map = no_pairs(alloc)?;
+    let mut all = map;
+    // What this tells of the map: its keys rise strictly.
+    all.len();
     for (key, value) in bunches_of_root(alloc, root) {
         let (image, made) = change.shared_at(alloc, key, value)?;
-        put(alloc, &mut map, image, made)?;
+        put(alloc, &mut all, image, made)?;
     }
-    let view = map.view()?;
-    Ok((map, view))
+    let view = all.view()?;
+    Ok((all, view))
 }
 
 /// The map with the image. The old one stays as it is: a write copies the nodes that it changes.

@@ -26,4 +26,4 @@ pub use no_images::NoImages;
 pub use part::{Pair, Part};
 pub use query::Query;
 pub use stored::{Stored, StoredItem, StoredMap, StoredPairs, StoredTest};
-pub use walking::work;
+pub use walking::{work, work_into};

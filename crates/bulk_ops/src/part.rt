@@ -86,6 +86,17 @@ impl<K: PathKey + Drop, V: Drop, I> Part<K, V, I> {
         }
     }
 
+    /// The same, taken out of the part.
+    pub(crate) fn into_images(self) -> (Version<K, V>, View<K, V>)
+        requires { HasImages self }
+        ensures { self ≡ Part.Images result.0 result.1 }
+    {
+        match self {
+            Part::Images(map, view) => (map, view),
+            _ => unreachable!(),
+        }
+    }
+
     /// The item of a part that has one.
     pub fn item(&self) -> &I
         requires { HasItem self.now }

@@ -5,7 +5,7 @@ ghost use Rattle.bulk_ops.specs.Parts.{pair_of};
 ghost use Rattle.bulk_ops.specs.Queries.{is_settled};
 
 use crate::closure::{ImageFn, PairFn};
-use crate::imaging::{images_of, joined_images, no_images};
+use crate::imaging::{images_of, joined_images, more_images, no_images};
 use crate::part::{Pair, Part, no_pairs};
 use crate::query::Query;
 use crate::shaping::{changed, passed};
@@ -168,6 +168,27 @@ impl<
                 Ok(Some(Part::Images(map, view)))
             }
             _ => Ok(None),
+        }
+    }
+
+    fn join_root(
+        &self,
+        alloc: Global,
+        part: Part<K, V, M::Item>,
+        root: &Node<K, V>,
+    ) -> Result<Result<Part<K, V, M::Item>, Part<K, V, M::Item>>, NoMemory> {
+        match self {
+            Query::MapPairs(change, _) => {
+                let (map, view) = part.into_images();
+                // Without its view the map alone holds its nodes, so that puts change them where they stand.
+                drop(view);
+                let (map, view) = more_images(alloc, map, root, change)?;
+                Ok(Ok(Part::Images(map, view)))
+            }
+            _ => match self.of_root(alloc, root)? {
+                Some(made) => Ok(Ok(self.join(alloc, &part, &made)?)),
+                None => Ok(Err(part)),
+            },
         }
     }
 }

@@ -1,9 +1,9 @@
--- A pair that is added is joined.
+-- A pair that is added is joined, and so is the map of a root.
 use Rattle.std.proofs.Common.{[], ◌∷◌}
 use Rattle.std.proofs.Math.Logic.{∥∥₁_map}
 use Rattle.std.specs.declared.cmp.Ordering.{Ordering}
 use Rattle.versions.specs.Map.{Map}
-use Rattle.combiner.specs.Bulks.{Apart, CanAdd, CanJoin}
+use Rattle.combiner.specs.Bulks.{Apart, CanAdd, CanJoin, CanJoinMap}
 use Rattle.combiner.specs.Unions.{AreApart}
 
 -- where a pair can be added, the part of the pair can be joined
@@ -11,4 +11,11 @@ pub can_join : {K V P : Type 0} (R : K → K → Ordering) (answers : Map K V �
 can_join {K} {V} R answers one a k v is can =
     let beside : ((m : Map K V) × answers m a × AreApart R ((k, v) ∷ []) m) → Apart R answers one a =
     λ found. record { first = (k, v) ∷ []; second = found.0; first_is = is; second_is = found.1; apart = found.2 } in
+    ∥∥₁_map can beside
+
+-- where a map can be joined, a part that answers it can
+pub can_join_made : {K V P : Type 0} (R : K → K → Ordering) (answers : Map K V → P → Type 0) (a made : P) (n : Map K V) → answers n made → CanJoinMap R answers a n → CanJoin R answers a made
+can_join_made {K} {V} R answers a made n is can =
+    let beside : ((m : Map K V) × answers m a × AreApart R m n) → Apart R answers a made =
+    λ found. record { first = found.0; second = n; first_is = found.1; second_is = is; apart = found.2 } in
     ∥∥₁_map can beside

@@ -28,3 +28,11 @@ module _ {K V P : Type 0} (R : K → K → Ordering) (answers : Map K V → P �
   -- c answers, with the pair, any map that the pair is apart from and that a answers
   abbrev pub IsAdded : P → K → V → P → Type 0
   IsAdded a k v c = (m : Map K V) → answers m a → AreApart R ((k, v) ∷ []) m → answers (with_pair R m k v) c
+
+  -- the part answers a map that the map n is apart from
+  abbrev pub CanJoinMap : P → Map K V → Type 0
+  CanJoinMap a n = ∥ ((m : Map K V) × answers m a × AreApart R m n) ∥₁
+
+  -- c answers the union of n with any map that n is apart from and that a answers
+  abbrev pub IsJoinedMap : P → Map K V → P → Type 0
+  IsJoinedMap a n c = (m : Map K V) → answers m a → AreApart R m n → answers (union R m n) c

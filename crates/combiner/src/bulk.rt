@@ -1,6 +1,6 @@
 //! Operations on whole maps that are put together from parts.
-ghost use Rattle.std.specs.Prelude.{◌≡◌, ◌↔◌, ◌≤◌, ◌∷◌, [], length, IfOk, IfSome, OnErr, OnOk, true};
-ghost use Rattle.combiner.specs.Bulks.{CanAdd, CanJoin, IsAdded, IsJoined};
+ghost use Rattle.std.specs.Prelude.{◌≡◌, ◌↔◌, ◌≤◌, ◌∷◌, [], length, IfOk, IfSome, MatchResult, OnErr, OnOk, true};
+ghost use Rattle.combiner.specs.Bulks.{CanAdd, CanJoin, CanJoinMap, IsAdded, IsJoined, IsJoinedMap};
 ghost use Rattle.combiner.specs.Unions.{IsWithin};
 ghost use Rattle.trie_shape.specs.Roots.{IsRoot, map_of};
 ghost use Rattle.trie_shape.specs.View.{tree};
@@ -87,5 +87,28 @@ pub trait Bulk<K: PathKey, V> {
         let _ = alloc;
         let _ = root;
         Ok(None)
+    }
+
+    /// Joins all pairs of a root to the part, which has none of their keys: `Ok(Ok(part))` is the part of both. Where the
+    /// operation makes none from a root, `Ok(Err(part))` gives back the part as it was.
+    ///
+    /// It means what `join` with `of_root` does. An operation that can change its part where it stands has a body of its
+    /// own: the pairs are then put into the part, and no part of the root is made. After `NoMemory` the part is gone.
+    fn join_root(
+        &self,
+        alloc: Global,
+        part: Self::Part,
+        root: &Node<K, V>,
+    ) -> Result<Result<Self::Part, Self::Part>, NoMemory>
+        requires ready { ready self.now }
+        requires root { IsRoot K.cmp K.path_of (tree root.now) }
+        requires few { length (map_of K.cmp (tree root.now)) ≤ MOST_PAIRS }
+        requires apart { CanJoinMap K.cmp (answers self.now) part (map_of K.cmp (tree root.now)) }
+        ensures { IfOk result (λ made. MatchResult made (λ more. IsJoinedMap K.cmp (answers self.now) part (map_of K.cmp (tree root.now)) more) (λ back. back ≡ part)) }
+    {
+        match self.of_root(alloc, root)? {
+            Some(made) => Ok(Ok(self.join(alloc, &part, &made)?)),
+            None => Ok(Err(part)),
+        }
     }
 }

@@ -120,7 +120,7 @@ impl<K: PathKey + Drop, V: Eq + Drop, Q: Asks<K, V> + Drop> Core<K, V, Q> {
     /// Makes the steps in order, and gives their outcomes. What clients see of them is a run of the machine of handles,
     /// and no position of a job is worked twice. Each step leaves the parts that `step` leaves.
     ///
-    /// Where memory is wanting, the outcomes are those of the steps before, and the core is as after those.
+    /// If memory runs out, the outcomes are those of the steps before, and the core is as after those.
     pub fn run(
         &mut self,
         alloc: Global,

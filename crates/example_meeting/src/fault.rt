@@ -7,7 +7,7 @@ use tambyulo_clients::{Refusal, Torn};
 /// Why the program stops before its end.
 #[derive(Debug, Drop)]
 pub enum Fault {
-    /// A call was refused where no refusal is due, unless memory is wanting.
+    /// A call was refused where no refusal is due, and memory had not run out.
     Refused(Refusal),
     /// A seat's list is not what the journal has of it.
     Torn,

@@ -5,7 +5,7 @@ use Rattle.versions.specs.Map.{Map, with_pair}
 use Rattle.versions.specs.Contents.{Contents}
 use Rattle.bulk_ops.specs.Answers as plain
 use Rattle.bulk_ops.specs.Told.{MakesFor}
-use Rattle.handles.specs.Jobs.{FitsIn, live_with_answer, live_with_made}
+use Rattle.handles.specs.Jobs.{FitsIn, live_with_answer, live_with_made, stamps_with_made, stamps_with_target}
 
 module _ {K V I : Type 0} where
   -- what is made has no more pairs than the map that it is made of
@@ -20,3 +20,10 @@ module _ {K V I : Type 0} where
   live_made live None a (Some v) makes = absurd makes
   live_made live (Some to) a None makes = absurd makes
   live_made live (Some to) a (Some v) makes = ap (with_pair nat_cmp live to) makes.0
+
+  -- and the stamp that was given it
+  pub stamps_made : (stamps : Map ℕ ℕ) (stamp : ℕ) (to : Option ℕ) (a : plain.Answer K V I) (v : Option (Contents K V)) → MakesFor to a v → stamps_with_made stamps stamp to v ≡ stamps_with_target stamps stamp to
+  stamps_made stamps stamp None a None makes = refl
+  stamps_made stamps stamp None a (Some v) makes = absurd makes
+  stamps_made stamps stamp (Some to) a None makes = absurd makes
+  stamps_made stamps stamp (Some to) a (Some v) makes = refl

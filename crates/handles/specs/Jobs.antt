@@ -1,5 +1,5 @@
 -- The open jobs of a table, as they stand in a vector.
-use Rattle.std.specs.Prelude.{◌≡◌, ◌≤◌, ◌<◌, ℕ, List, [], ◌∷◌, map, Bool, not, ◌==◌, Option, Some, None, length}
+use Rattle.std.specs.Prelude.{◌≡◌, ◌≤◌, ◌<◌, ◌+◌, ℕ, List, [], ◌∷◌, map, Bool, not, ◌==◌, Option, Some, None, length}
 use Rattle.std.specs.Arc.{arc_value}
 use Rattle.std.specs.Ordering.{nat_cmp}
 use Rattle.versions.specs.Map.{Map, value_at, with_pair, without}
@@ -48,7 +48,12 @@ abbrev pub live_with_answer : {K V I : Type 0} → Map ℕ (Map K V) → Option 
 live_with_answer live None a = live
 live_with_answer live (Some to) a = with_pair nat_cmp live to (plain.map_of a)
 
--- the query of the open job has an answer for its frozen map, which is told: the job is closed, and a target is live with the answer's map
+-- the stamps of the live handles once a target, if there is one, has this stamp
+abbrev pub stamps_with_target : Map ℕ ℕ → ℕ → Option ℕ → Map ℕ ℕ
+stamps_with_target stamps stamp None = stamps
+stamps_with_target stamps stamp (Some to) = with_pair nat_cmp stamps to stamp
+
+-- the query of the open job has an answer for its frozen map, which is told: the job is closed, and a target is live with the answer's map and with the stamp that is issued next
 pub record Concludes {K V Q I : Type 0} (target : Q → Option ℕ) (answers : Q → Map K V → plain.Answer K V I → Type 0) (places : Held K V) (jobs : Opened K V Q) (j : ℕ) (told : Answer K V I) (places_after : Held K V) (jobs_after : Opened K V Q) : Type 0 where
   pub job : Job K V Q
   pub answer : plain.Answer K V I
@@ -56,6 +61,7 @@ pub record Concludes {K V Q I : Type 0} (target : Q → Option ℕ) (answers : Q
   pub is_answer : answers job.query job.frozen answer
   pub is_told : told_of told ≡ plain.told answer
   pub live : places_after.live ≡ live_with_answer places.live (target job.query) answer
+  pub fresh : places_after.stamps ≡ stamps_with_target places.stamps (places.issued + 1) (target job.query)
   pub closed : jobs_after.jobs ≡ without nat_cmp jobs.jobs j
   pub kept : jobs_after.next ≡ jobs.next
 

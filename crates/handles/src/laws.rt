@@ -15,7 +15,7 @@ pub fn law_of_refusals<K: PathKey, V: Eq, Q: Asks<K, V>>()
     ensures { RefusalsKeepAll (machine K.cmp V.eq Q.target_of Q.answered) }
 {}
 
-/// What a table answers a call is the outcome of a step, unless memory was wanting.
+/// What a table answers a call is the outcome of a step, unless it ran out of memory.
 pub fn law_of_answers<K: PathKey, V: Eq, Q: Asks<K, V>>()
     ensures { AnswersAreSteps (machine K.cmp V.eq Q.target_of Q.answered) }
 {}

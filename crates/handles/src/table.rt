@@ -328,7 +328,7 @@ fn is_counted<T>(answer: &Result<T, Refusal>) -> bool
     )
 }
 
-// Whether memory was wanting.
+// Whether the call ran out of memory.
 fn lacks_memory<T>(answer: &Result<T, Refusal>) -> bool
     ensures { result ≡ lacks_memory answer.now }
 {

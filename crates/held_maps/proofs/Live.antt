@@ -113,6 +113,13 @@ module _ {K V M : Type 0} (shown : Contents K V → M) where
       ap (live_from 0) (map-slice_set (option_map shown) places k None)
       ∙ without_place 0 k k (map (option_map shown) places) (omega arith) (simp length-map h)
 
+  -- a version that is written and shows what the one shows that stood there
+  pub same_shown : (k : ℕ) (places : List (Option (Contents K V))) (v w : Contents K V) → version_in places k ≡ Some v → shown w ≡ shown v → map (option_map shown) (slice_set places k (Some w)) ≡ map (option_map shown) places
+  same_shown k [] v w e same = refl
+  same_shown zero (p ∷ ps) v w e same =
+      ap (λ (m : Option M). m ∷ map (option_map shown) ps) (ap (λ (x : M). Some x) same ∙ sym (ap (option_map shown) e))
+  same_shown (suc k) (p ∷ ps) v w e same = ap (λ (ms : List (Option M)). option_map shown p ∷ ms) (same_shown k ps v w e same)
+
   -- an empty place more shows nothing
   pub none_more : (n : ℕ) (places : List (Option (Contents K V))) → live_from n (map (option_map shown) (places ++ None ∷ [])) ≡ live_from n (map (option_map shown) places)
   none_more n [] = refl
@@ -169,7 +176,8 @@ module _ {K V : Type 0} where
 
   -- a version that is written with the map that stood there
   pub same_maps : (k : ℕ) (places : List (Option (Contents K V))) (v w : Contents K V) → version_in places k ≡ Some v → w.entries ≡ v.entries → maps_in (slice_set places k (Some w)) ≡ maps_in places
-  same_maps k [] v w e same = refl
-  same_maps zero (p ∷ ps) v w e same =
-      ap (λ (m : Option (Map K V)). m ∷ maps_in ps) (ap (λ (es : Map K V). Some es) same ∙ sym (ap map_in e))
-  same_maps (suc k) (p ∷ ps) v w e same = ap (λ (ms : List (Option (Map K V))). map_in p ∷ ms) (same_maps k ps v w e same)
+  same_maps k places v w e same = same_shown entries_of k places v w e same
+
+  -- a version that is written with the stamp of the one that stood there
+  pub same_stamps : (k : ℕ) (places : List (Option (Contents K V))) (v w : Contents K V) → version_in places k ≡ Some v → w.stamp ≡ v.stamp → stamps_in (slice_set places k (Some w)) ≡ stamps_in places
+  same_stamps k places v w e same = same_shown stamp_of k places v w e same

@@ -2,7 +2,7 @@
 ghost use Rattle.std.specs.Prelude.{◌≡◌, ◌<◌, ◌≤◌, ◌+◌, ◌^◌, length, [], IfErr, IfOk, IfSome, IsSome, Err, None, OnErr, OnOk, false, true, option_map, unwrap_or};
 ghost use Rattle.std.specs.Ordering.{nat_cmp};
 ghost use Rattle.held_maps.specs.Held.{IsKept, live_from, maps_in, stamps_in};
-ghost use Rattle.held_maps.specs.Targets.{FitsIn, IsLoose, IsPlace, live_with_made, stamps_with_made};
+ghost use Rattle.held_maps.specs.Targets.{FitsIn, IsLoose, IsPlace, issued_with_made, live_with_made, stamps_with_made};
 ghost use Rattle.held_maps.specs.Commands.{command_of, lacks_memory, reply_of};
 ghost use Rattle.versions.specs.Commands.{after, is_full, needs_no_memory, reply};
 ghost use Rattle.versions.specs.Map.{value_at, with_pair, without};
@@ -102,13 +102,15 @@ impl<K: PathKey + Drop, V: Eq + Drop> Places<K, V> {
         }
     }
 
-    /// Opens the handle, with no pairs.
+    /// Opens the handle, with no pairs. Its version gets the stamp that the source issues next.
     pub fn open(&mut self, alloc: Global, handle: u32) -> Result<(), Refusal>
         requires place { handle < 1024 }
         requires room { self.old.issued < 2 ^ 63 }
         ensures live { OnOk result (self.new.live ≡ with_pair nat_cmp self.old.live handle []) }
+        ensures fresh { OnOk result (self.new.stamps ≡ with_pair nat_cmp self.old.stamps handle (self.old.issued + 1)) }
         ensures limit { self.new.limit ≡ self.old.limit }
         ensures issued { self.new.issued ≤ self.old.issued + 1 }
+        ensures next { OnOk result (self.new.issued ≡ self.old.issued + 1) }
         ensures memory { IfErr result (λ e. e ≡ Refusal.NoMemory) }
         ensures err { OnErr result (self.new ≡ self.old) }
     {
@@ -128,7 +130,8 @@ impl<K: PathKey + Drop, V: Eq + Drop> Places<K, V> {
         self.versions[handle as usize] = None;
     }
 
-    /// Opens the handle `to`, with the pairs of the other handle. It makes no request for memory.
+    /// Opens the handle `to`, with the pairs of the other handle. Both versions get stamps that the source issues next,
+    /// first the other handle's. It makes no request for memory.
     ///
     /// It is refused as `NoHandle` where the other handle is not live, and as `NoMemory`.
     pub fn fork(&mut self, handle: u32, to: u32) -> Result<(), Refusal>
@@ -136,8 +139,10 @@ impl<K: PathKey + Drop, V: Eq + Drop> Places<K, V> {
         requires target { to < 1024 }
         requires room { self.old.issued + 2 ≤ 2 ^ 63 }
         ensures live { OnOk result (self.new.live ≡ with_pair nat_cmp self.old.live to (unwrap_or (value_at nat_cmp self.old.live handle) [])) }
+        ensures fresh { OnOk result (self.new.stamps ≡ with_pair nat_cmp (with_pair nat_cmp self.old.stamps handle (self.old.issued + 1)) to (self.old.issued + 2)) }
         ensures limit { self.new.limit ≡ self.old.limit }
         ensures issued { self.new.issued ≤ self.old.issued + 2 }
+        ensures next { OnOk result (self.new.issued ≡ self.old.issued + 2) }
         ensures memory { IsSome (value_at nat_cmp self.old.live handle) → IfErr result (λ e. e ≡ Refusal.NoMemory) }
         ensures none { value_at nat_cmp self.old.live handle ≡ None → result ≡ Err Refusal.NoHandle }
         ensures err { OnErr result (self.new ≡ self.old) }
@@ -161,6 +166,7 @@ impl<K: PathKey + Drop, V: Eq + Drop> Places<K, V> {
         ensures fresh { self.new.stamps ≡ stamps_with_made self.old.stamps (self.old.issued + 1) target made }
         ensures limit { self.new.limit ≡ self.old.limit }
         ensures issued { self.new.issued ≤ self.old.issued + 1 }
+        ensures next { self.new.issued ≡ issued_with_made self.old.issued target made }
     {
         if let (Some(to), Some(mut map)) = (target, made) {
             map.relimit(self.limit);
@@ -202,7 +208,7 @@ impl<K: PathKey + Drop, V: Eq + Drop> Places<K, V> {
         }
     }
 
-    /// Makes the command on the map of the handle.
+    /// Makes the command on the map of the handle. Its version keeps its stamp, and every other one too.
     ///
     /// It is refused as `NoHandle` where the handle is not live, as `Full` and as `NoMemory`.
     pub fn run(
@@ -215,6 +221,7 @@ impl<K: PathKey + Drop, V: Eq + Drop> Places<K, V> {
         ensures reply { IfOk result (λ y. reply_of y ≡ reply K.cmp V.eq (unwrap_or (value_at nat_cmp self.old.live handle) []) (command_of command)) }
         ensures live { OnOk result (self.new.live ≡ with_pair nat_cmp self.old.live handle (after K.cmp V.eq (unwrap_or (value_at nat_cmp self.old.live handle) []) (command_of command))) }
         ensures limit { self.new.limit ≡ self.old.limit }
+        ensures stamps { self.new.stamps ≡ self.old.stamps }
         ensures issued { self.new.issued ≡ self.old.issued }
         ensures full { IsSome (value_at nat_cmp self.old.live handle) → FullExactly result (is_full K.cmp self.old.limit (unwrap_or (value_at nat_cmp self.old.live handle) []) (command_of command)) }
         ensures memory { needs_no_memory (command_of command) ≡ true → lacks_memory result ≡ false }

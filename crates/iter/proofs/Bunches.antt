@@ -1,16 +1,19 @@
 -- Pairs that are taken from a trie many at a time.
-use Rattle.std.proofs.Common.{◌≡◌, ℕ, ◌+◌, ◌<◌, ◌≤◌, ◌==◌, Bool, true, List, [], ◌∷◌, ◌++◌, Option, Some, None, All, IsSome, length, map, take, drop, get_or, refl, ap, ◌∙◌, sym, arith, length-append}
+use Rattle.std.proofs.Common.{◌≡◌, ℕ, zero, suc, ◌+◌, ◌<◌, ◌≤◌, ◌==◌, Bool, true, List, [], ◌∷◌, ◌++◌, Option, Some, None, All, IsSome, length, map, take, drop, get_or, refl, ap, ◌∙◌, sym, arith, length-append}
 use Rattle.std.proofs.lemmas.Bool.{eqb-true}
-use Rattle.std.proofs.lemmas.List.{append_assoc, drop_more, length-map, map-append, nil_from_length}
+use Rattle.std.proofs.lemmas.List.{append_assoc, drop_more, flat_map_more, length-map, map-append, nil_from_length, take_more}
 use Rattle.std.proofs.lemmas.List.Elements.{All-nil, All-cons}
 use Rattle.std.proofs.lemmas.List.Folds.{length-flat_map-take}
+use Rattle.std.proofs.lemmas.List.Sums.{sum_by-cons}
 use Rattle.std.specs.declared.sync.Arc.{Arc}
 use Rattle.std.specs.declared.alloc.Global.{Global}
-use Rattle.trie_shape.specs.Outline.{children}
-use Rattle.trie_shape.specs.Tree.{Tree, entries}
-use Rattle.trie_shape.specs.View.{pair_values}
-use Rattle.iter.specs.Bunches.{held, pairs_held}
-use Rattle.iter.specs.Subtries.{pairs_of_all}
+use Rattle.trie_shape.specs.Counts.{node_count, count_of_all}
+use Rattle.trie_shape.specs.Inside.{lent}
+use Rattle.trie_shape.specs.Tree.{Tree, entries, entries_of_all, trees}
+use Rattle.trie_shape.specs.View.{branch_of, pair_values, tree}
+use Rattle.trie_shape.specs.declared.contents.Branch.{Branch as Lent}
+use Rattle.trie_shape.specs.declared.node.Node.{Node}
+use Rattle.iter.specs.Bunches.{held, nodes_in, pairs_held, pairs_in}
 use denote.Ref.{Bor}
 
 -- a place of a bunch
@@ -42,13 +45,45 @@ module _ {K V : Type 0} where
   poured_count new old ps e =
       omega (arith, ap length e, length-map new held, length-append (map held old) (map Some ps), length-map old held, length-map ps Some)
 
-  -- the children of a branch up to a number, and the one there, take no more places than the branch has pairs
-  pub room_for_child : (whole child : Tree K V) (n : ℕ) (new old : List (Place K V)) → n < length (children whole) → child ≡ get_or (children whole) n child → entries whole ≡ pairs_of_all (children whole)
-      → map held new ≡ map held old ++ map Some (pairs_of_all (take n (children whole))) → length new + length (entries child) ≤ length old + length (entries whole)
-  room_for_child whole child n new old below at all e =
-      let poured = poured_count new old (pairs_of_all (take n (children whole))) e in
-      let part = length-flat_map-take entries (children whole) n child below in
-      omega (arith, poured, part, ap (λ u. length (entries u)) at, ap length all)
+  -- the nodes of a row up to a number, and the one there, take no more places than the row has pairs
+  pub room_for_child : (row : List (Node K V)) (child : Node K V) (n : ℕ) (new old : List (Place K V)) → n < length row → child ≡ get_or row n child
+      → map held new ≡ map held old ++ map Some (pairs_in (take n row)) → length new + length (entries (tree child)) ≤ length old + length (pairs_in row)
+  room_for_child row child n new old below at e =
+      let poured = poured_count new old (pairs_in (take n row)) e in
+      let part = length-flat_map-take (λ node. entries (tree node)) row n child below in
+      omega (arith, poured, part, ap (λ u. length (entries (tree u))) at)
+
+  -- a node of a row was poured behind those before it
+  pub poured_more : (row : List (Node K V)) (child : Node K V) (n : ℕ) (es : List (K × V)) (new mid old : List (Place K V)) → n < length row → child ≡ get_or row n child → entries (tree child) ≡ es
+      → map held mid ≡ map held old ++ map Some (pairs_in (take n row)) → map held new ≡ map held mid ++ map Some es → map held new ≡ map held old ++ map Some (pairs_in (take (n + 1) row))
+  poured_more row child n es new mid old below at own before e =
+      let ps = pairs_in (take n row) in
+      let more : pairs_in (take (n + 1) row) ≡ ps ++ es =
+      ap pairs_in (take_more row n child below ∙ ap (λ x. take n row ++ x ∷ []) (sym at)) ∙ sym (flat_map_more (λ node. entries (tree node)) [] (take n row) child) ∙ ap (λ xs. ps ++ xs) own in
+      e ∙ ap (λ xs. xs ++ map Some es) before ∙ append_assoc (map held old) (map Some ps) (map Some es) ∙ ap (λ xs. map held old ++ xs) (sym (map-append Some ps es) ∙ ap (map Some) (sym more))
+
+  -- a branch has the pairs below its row, and the nodes there and itself
+  pairs_of_row : (row : List (Node K V)) → entries_of_all (trees (map tree row)) ≡ pairs_in row
+  pairs_of_row [] = refl
+  pairs_of_row (node ∷ row) = ap (λ ps. entries (tree node) ++ ps) (pairs_of_row row)
+
+  nodes_of_row : (row : List (Node K V)) → count_of_all (trees (map tree row)) ≡ nodes_in row
+  nodes_of_row [] = refl
+  nodes_of_row (node ∷ row) = ap (λ n. node_count (tree node) + n) (nodes_of_row row) ∙ sym (sum_by-cons (λ u. node_count (tree u)) node row)
+
+  pub pairs_opened : (t : Tree K V) (b : Lent K V) → t ≡ branch_of b.stamp.0 (lent b) → entries t ≡ pairs_in b.children.now
+  pairs_opened t b e = ap entries e ∙ pairs_of_row b.children.now
+
+  pub nodes_opened : (t : Tree K V) (b : Lent K V) → t ≡ branch_of b.stamp.0 (lent b) → node_count t ≡ suc (nodes_in b.children.now)
+  nodes_opened t b e = ap node_count e ∙ ap suc (nodes_of_row b.children.now)
+
+  -- a node of a row has no more nodes than the row
+  pub node_within : (row : List (Node K V)) (child : Node K V) (n : ℕ) → n < length row → child ≡ get_or row n child → node_count (tree child) ≤ nodes_in row
+  node_within [] child n below at = absurd (omega arith)
+  node_within (node ∷ row) child zero below at =
+      let first : node_count (tree child) ≡ node_count (tree node) = ap (λ u. node_count (tree u)) at in
+      omega (arith, first, sum_by-cons (λ u. node_count (tree u)) node row)
+  node_within (node ∷ row) child (suc n) below at = omega (arith, node_within row child n (omega arith) at, sum_by-cons (λ u. node_count (tree u)) node row)
 
   -- the pair at a number is the next of those from there on
   pub next_held : (places : List (Place K V)) (i : ℕ) (place : Place K V) (x : Bor (Arc K Global × Arc V Global)) → i < length places → place ≡ get_or places i place → place ≡ Some x

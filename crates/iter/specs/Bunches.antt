@@ -1,11 +1,13 @@
 -- Pairs that are taken from a trie many at a time.
-use Rattle.std.specs.Prelude.{ℕ, ◌≤◌, List, ◌++◌, length, map, flat_map, option_map, Option}
+use Rattle.std.specs.Prelude.{ℕ, ◌≤◌, List, ◌++◌, length, map, flat_map, sum_by, option_map, Option}
 use Rattle.std.specs.Option.{option_to_list}
 use Rattle.std.specs.declared.sync.Arc.{Arc}
 use Rattle.std.specs.declared.alloc.Global.{Global}
+use Rattle.trie_shape.specs.Counts.{node_count}
 use Rattle.trie_shape.specs.Shape.{Fits}
 use Rattle.trie_shape.specs.Tree.{entries}
 use Rattle.trie_shape.specs.View.{pair_values, tree}
+use Rattle.trie_shape.specs.declared.node.Node.{Node}
 use Rattle.iter.specs.Subtries.{pairs_of_all}
 use Rattle.iter.specs.Stacks.{subtries}
 use Rattle.iter.specs.declared.ahead.Stop.{Stop}
@@ -21,6 +23,13 @@ module _ {K V : Type 0} where
   -- the pairs that places hold, one after another
   abbrev pub pairs_held : List (Option (Bor (Arc K Global × Arc V Global))) → List (K × V)
   pairs_held places = flat_map (λ place. option_to_list (held place)) places
+
+  -- the pairs below the nodes of a row, in the order of a walk, and how many nodes there are
+  abbrev pub pairs_in : List (Node K V) → List (K × V)
+  pairs_in row = flat_map (λ node. entries (tree node)) row
+
+  abbrev pub nodes_in : List (Node K V) → ℕ
+  nodes_in row = sum_by (λ node. node_count (tree node)) row
 
   -- the pairs where a walk stops
   abbrev pub pairs_at : Stop K V → List (K × V)

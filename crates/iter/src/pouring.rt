@@ -2,17 +2,14 @@
 
 ghost use Rattle.std.specs.Prelude.{◌≡◌, ◌+◌, ◌≤◌, ◌++◌, Some, length, map};
 ghost use Rattle.arrayvec.specs.ArrayVec.{array_vec_len};
-ghost use Rattle.trie_shape.specs.Outline.{children};
-ghost use Rattle.trie_shape.specs.Shape.{Fits};
 ghost use Rattle.trie_shape.specs.Tree.{entries};
 ghost use Rattle.trie_shape.specs.View.{pair_values, tree};
-ghost use Rattle.iter.specs.Bunches.{held};
+ghost use Rattle.iter.specs.Bunches.{held, pairs_in};
 
 use arrayvec::ArrayVec;
 use std::sync::Arc;
-use trie_node::{
-    Look, Node, bitmap_counts_children, branch_is_its_children, child, leaf_is_its_pairs, look,
-};
+use trie_node::Node;
+use trie_shape::{Contents, open_node};
 
 /// How many pairs a bunch has at most.
 pub(crate) const MOST_OF_BUNCH: usize = 512;
@@ -21,28 +18,26 @@ pub(crate) const MOST_OF_BUNCH: usize = 512;
 /// places hold options, since each place has to hold something from the start.
 pub(crate) type Bunch<'a, K, V> = ArrayVec<Option<&'a (Arc<K>, Arc<V>)>, MOST_OF_BUNCH>;
 
-/// Appends the pairs of a node. A leaf among its children takes no call of this.
+/// Appends the pairs of a node.
 pub(crate) fn pour<'a, K, V>(node: &'a Node<K, V>, bunch: &mut Bunch<'a, K, V>)
-    requires fits { Fits (tree node.now) }
     requires room { array_vec_len bunch.old + length (entries (tree node.now)) ≤ MOST_OF_BUNCH }
     ensures { map held bunch.new.items ≡ map held bunch.old.items ++ map Some (entries (tree node.now)) }
 {
-    match look(node) {
-        Look::Pairs(pairs) => {
-            leaf_is_its_pairs::<K, V>();
-            pour_pairs(pairs, bunch);
-        }
-        Look::Branch(bitmap) => {
-            bitmap_counts_children::<K, V>();
-            branch_is_its_children::<K, V>();
-            leaf_is_its_pairs::<K, V>();
-            for n in 0..bitmap.count_ones() {
-                let below = child(node, n);
-                match look(below) {
-                    Look::Pairs(pairs) => pour_pairs(pairs, bunch),
-                    Look::Branch(_) => pour(below, bunch),
-                }
-            }
+    match open_node(node) {
+        Contents::Pairs(pairs) => pour_pairs(pairs, bunch),
+        Contents::Branch(below) => pour_row(below.children, bunch),
+    }
+}
+
+/// Appends the pairs of a row of children. Each child is opened once, and a leaf takes no call of this.
+fn pour_row<'a, K, V>(row: &'a [Node<K, V>], bunch: &mut Bunch<'a, K, V>)
+    requires room { array_vec_len bunch.old + length (pairs_in row.now) ≤ MOST_OF_BUNCH }
+    ensures { map held bunch.new.items ≡ map held bunch.old.items ++ map Some (pairs_in row.now) }
+{
+    for child in row {
+        match open_node(child) {
+            Contents::Pairs(pairs) => pour_pairs(pairs, bunch),
+            Contents::Branch(below) => pour_row(below.children, bunch),
         }
     }
 }

@@ -3,7 +3,7 @@ use denote.RattleType.{RattleType}
 use denote.Struct.Declared as Declared
 use denote.Param.Send.{IsSend, IsSync, AllSend, AllSync, sendable, recorded_send, recorded_sync, struct_send, struct_sync, view_send, view_sync}
 use Rattle.std.proofs.Crossing as heap
-use Rattle.trie_shape.proofs.node.Node.TheLaws.TheKnot as nodes
+use Rattle.versions.proofs.Crossing as maps
 use Rattle.boxcar.proofs.Sent as slots
 use Rattle.std.specs.declared.cmp.Ord as Ord
 use Rattle.std.specs.declared.cmp.PartialEq as PartialEq
@@ -11,8 +11,6 @@ use Rattle.std.specs.declared.cmp.PartialOrd as PartialOrd
 use Rattle.hash_path.specs.declared.key.PathKey as PathKey
 use Rattle.bulk_ops.specs.declared.asks.Asks as Asks
 use Rattle.combiner.specs.declared.bulk.Bulk as Bulk
-use Rattle.versions.specs.contracts.version.Version as Version
-use Rattle.versions.specs.contracts.view.View as View
 use Rattle.handles.specs.contracts.table.Table as Table
 use Rattle.journal.specs.declared.room.Room as Room
 use Rattle.journal.specs.contracts.asked.Asked as Asked
@@ -22,22 +20,12 @@ use Rattle.journal.specs.contracts.entry.Entry.TheInside as Inside
 use Rattle.journal.specs.contracts.journaled_table.JournaledTable as JournaledTable
 use Rattle.journal.proofs.asked.Asked.TheSendSync as asked
 
-module _ (K V : RattleType) (key : PathKey.Ghosts K.Denot) (order : Ord.Ghosts K.Denot) (keq : PartialEq.Ghosts K.Denot) (kord : PartialOrd.Ghosts K.Denot) where
-  seen_send : IsSend K → IsSync K → IsSend V → IsSync V → IsSend (View.the_row K V key order keq kord)
-  seen_send ks ky vs vy = search (sendable, heap.crosses, nodes.crosses_both) depth 30
-
-  seen_sync : IsSend K → IsSync K → IsSend V → IsSync V → IsSync (View.the_row K V key order keq kord)
-  seen_sync ks ky vs vy = search (sendable, heap.crosses, nodes.crosses_both) depth 30
-
-  version_send : IsSend K → IsSync K → IsSend V → IsSync V → IsSend (Version.the_row K V key order keq kord)
-  version_send ks ky vs vy = search (sendable, heap.crosses, nodes.crosses_both) depth 30
-
 module _ (K V Q I : RattleType) (key : PathKey.Ghosts K.Denot) (order : Ord.Ghosts K.Denot) (keq : PartialEq.Ghosts K.Denot) (kord : PartialOrd.Ghosts K.Denot) where
   told_send : IsSend K → IsSync K → IsSend V → IsSync V → IsSend I → IsSync I → IsSend (Told.the_field K V I key order keq kord).row
-  told_send ks ky vs vy is iy = search (sendable, heap.crosses, seen_send) depth 30
+  told_send ks ky vs vy is iy = search (sendable, heap.crosses, maps.view_send) depth 30
 
   told_sync : IsSend K → IsSync K → IsSend V → IsSync V → IsSend I → IsSync I → IsSync (Told.the_field K V I key order keq kord).row
-  told_sync ks ky vs vy is iy = search (sendable, heap.crosses, seen_sync) depth 30
+  told_sync ks ky vs vy is iy = search (sendable, heap.crosses, maps.view_sync) depth 30
 
   asked_send : IsSend K → IsSync K → IsSend V → IsSync V → IsSend Q → IsSync Q → IsSend (Asked.the_field K V Q).row
   asked_send ks ky vs vy qs qy = search (heap.crosses, asked.the_field_send) depth 20
@@ -59,7 +47,7 @@ module _ (K V Q I : RattleType) (key : PathKey.Ghosts K.Denot) (order : Ord.Ghos
 
 module _ (K V Q J I P : RattleType) (key : PathKey.Ghosts K.Denot) (order : Ord.Ghosts K.Denot) (keq : PartialEq.Ghosts K.Denot) (kord : PartialOrd.Ghosts K.Denot) (veq : PartialEq.Ghosts V.Denot) (asks : Asks.Ghosts Q.Denot K.Denot V.Denot I.Denot P.Denot) (bulk : Bulk.Ghosts Q.Denot K.Denot V.Denot P.Denot) (room : Room.Ghosts J.Denot) where
   table_send : IsSend K → IsSync K → IsSend V → IsSync V → IsSend Q → IsSync Q → IsSend I → IsSync I → IsSend (Table.the_row K V Q I P key order keq kord asks bulk)
-  table_send ks ky vs vy qs qy is iy = search (sendable, heap.crosses, seen_send, version_send) depth 40 fits 20000
+  table_send ks ky vs vy qs qy is iy = search (sendable, heap.crosses, maps.view_send, maps.version_send) depth 40 fits 20000
 
   pub journaled_send : IsSend K → IsSync K → IsSend V → IsSync V → IsSend Q → IsSync Q → IsSend J → IsSync J → IsSend I → IsSync I → IsSend (JournaledTable.the_row K V Q J I P key order keq kord veq asks bulk room)
   journaled_send ks ky vs vy qs qy js jy is iy = search (sendable, heap.crosses, table_send, slots.written_send) depth 40 fits 20000

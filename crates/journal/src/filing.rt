@@ -61,7 +61,7 @@ fn is_entry(refusal: Refusal) -> bool
     )
 }
 
-/// Whether memory was wanting.
+/// Whether the call ran out of memory.
 pub(crate) fn lacks_memory<T>(answer: &Result<T, Refusal>) -> bool
     ensures { result ≡ lacks_memory answer.now }
 {
@@ -115,7 +115,7 @@ pub(crate) fn entered_finish<K: PathKey + Drop, V: Eq + Drop, Q: Asks<K, V> + Dr
     ensures entry { IfOk result (λ r. entry_at r.0 ≡ record { seat = caller.seat; request = finish job; outcome = finished (plain.told (Q.answer_of part.now)) }) }
     ensures same { IfOk result (λ r. r.1 ≡ r.0) }
 {
-    // the job is open: only memory may be wanting
+    // the job is open: only memory can run out
     let Ok(answer) = table.foresee_finish(job, part) else {
         return Err(NoMemory);
     };

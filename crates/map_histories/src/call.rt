@@ -15,6 +15,8 @@ pub const LAST_KEY: u64 = 26;
 pub enum Call {
     /// A call on one key.
     Key(u64, KeyCall),
+    /// A read of one key by the thread's reader.
+    Reader(u64, ReaderCall),
     /// A call on the whole map.
     Map(MapCall),
 }
@@ -36,6 +38,13 @@ pub enum KeyCall {
     GetOrElseUpdate(u64),
 }
 
+/// A read of one key by a reader.
+#[derive(Clone, Copy)]
+pub enum ReaderCall {
+    GetCopied,
+    Read,
+}
+
 /// A call on the whole map.
 #[derive(Clone, Copy)]
 pub enum MapCall {
@@ -52,6 +61,7 @@ impl fmt::Display for Call {
                 write!(f, "{} {key}", call.name())?;
                 call.write_values(f)
             }
+            Call::Reader(key, call) => write!(f, "{} {key}", call.name()),
             Call::Map(call) => f.write_str(call.name()),
         }
     }
@@ -85,6 +95,16 @@ impl KeyCall {
             KeyCall::Put(value) | KeyCall::PutIfAbsent(value) => write!(f, " {value}"),
             KeyCall::Replace(value) | KeyCall::RemoveIf(value) => write!(f, " {value}"),
             KeyCall::Update(value) | KeyCall::GetOrElseUpdate(value) => write!(f, " {value}"),
+        }
+    }
+}
+
+impl ReaderCall {
+    // The name of the call.
+    fn name(&self) -> &'static str {
+        match self {
+            ReaderCall::GetCopied => "reader_get_copied",
+            ReaderCall::Read => "reader_read",
         }
     }
 }

@@ -1,4 +1,4 @@
-//! Numbers of no order, which come of a seed.
+//! Random numbers, which follow from a seed.
 
 /// A generator of numbers: a linear congruential one with Knuth's factor.
 #[derive(Drop)]

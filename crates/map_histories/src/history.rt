@@ -1,8 +1,9 @@
 //! One history: what each of its threads called, and what they were answered.
 
+use crate::call::{ALL_KEYS, ReaderCall};
 use crate::fault::Fault;
 use crate::load::Load;
-use crate::make::{Map, make};
+use crate::make::{Map, OwnReader, by_reader, make};
 use crate::plan::Plan;
 use crate::record::Record;
 use crate::start::Start;
@@ -11,14 +12,19 @@ use std::sync::Wait;
 use std::sync::atomic::{AtomicU64, Ordering};
 use std::thread::Threads;
 use std::{hint, thread};
+use trie_map::Readers;
 
 /// The calls of each thread, in the order in which it made them.
 pub type History = Vec<Vec<Record>>;
 
+/// How often all four keys are read until a reader has a base: it has one after 64 reads.
+const READS_OF_A_BASE: u64 = 17;
+
 /// What the threads of a history share.
 #[derive(Drop)]
-struct Meeting {
-    map: Map,
+struct Meeting<'m> {
+    map: &'m Map,
+    readers: Readers<'m, u64, u64>,
     start: Start,
     tickets: AtomicU64,
 }
@@ -29,8 +35,10 @@ pub fn history<R: AllocGlobal + Threads + Wait + Sync>(
     load: Load,
     number: u64,
 ) -> Result<History, Fault> {
+    let map = Map::new(rt)?;
     let meeting = Meeting {
-        map: Map::new(rt)?,
+        map: &map,
+        readers: map.readers(),
         start: Start::new(load.threads),
         tickets: AtomicU64::new(0),
     };
@@ -54,24 +62,41 @@ pub fn history<R: AllocGlobal + Threads + Wait + Sync>(
 fn calls_of<R: Wait>(
     rt: &R,
     alloc: Global,
-    meeting: &Meeting,
+    meeting: &Meeting<'_>,
     mut plan: Plan,
     calls: u64,
 ) -> Result<Vec<Record>, Fault> {
     let mut records = Vec::with_capacity(alloc, calls as usize)?;
+    let mut reader = meeting.readers.reader();
+    read_all(rt, &mut reader, READS_OF_A_BASE);
     meeting.start.wait();
     for _ in 0..calls {
-        records.push(recorded(rt, meeting, &mut plan)?)?;
-        pause(&mut plan);
+        records.push(recorded(rt, meeting, &mut reader, &mut plan)?)?;
+        pause(rt, &mut reader, &mut plan);
     }
     Ok(records)
 }
 
+// Reads all keys so often, and records none of it: a read leaves the map as it is. Where keys were written, the reader
+// has a new base by then.
+fn read_all<R: Wait>(rt: &R, reader: &mut OwnReader<'_>, times: u64) {
+    for _ in 0..times {
+        for key in ALL_KEYS {
+            by_reader(rt, reader, key, ReaderCall::GetCopied);
+        }
+    }
+}
+
 // Makes one call between two tickets.
-fn recorded<R: Wait>(rt: &R, meeting: &Meeting, plan: &mut Plan) -> Result<Record, Fault> {
+fn recorded<R: Wait>(
+    rt: &R,
+    meeting: &Meeting<'_>,
+    reader: &mut OwnReader<'_>,
+    plan: &mut Plan,
+) -> Result<Record, Fault> {
     let call = plan.next();
     let before = meeting.tickets.fetch_add(1, Ordering::SeqCst);
-    let returned = make(rt, &meeting.map, call)?;
+    let returned = make(rt, meeting.map, reader, call)?;
     let after = meeting.tickets.fetch_add(1, Ordering::SeqCst);
     let answer = returned.answer(rt);
     plan.heard(call, answer);
@@ -84,7 +109,8 @@ fn recorded<R: Wait>(rt: &R, meeting: &Meeting, plan: &mut Plan) -> Result<Recor
 }
 
 // Pauses as the plan has it.
-fn pause(plan: &mut Plan) {
+fn pause<R: Wait>(rt: &R, reader: &mut OwnReader<'_>, plan: &mut Plan) {
+    read_all(rt, reader, plan.reads_of_a_pause());
     let (steps, yields) = plan.pause();
     for _ in 0..steps {
         hint::spin_loop();

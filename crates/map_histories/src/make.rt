@@ -1,13 +1,16 @@
 //! Makes a call on the map.
 
 use crate::answer::{Answer, Contents};
-use crate::call::{ALL_KEYS, Call, KEYS, KeyCall, MapCall};
+use crate::call::{ALL_KEYS, Call, KEYS, KeyCall, MapCall, ReaderCall};
 use crate::fault::Fault;
 use std::sync::{Arc, Wait};
-use trie_map::{TrieMap, View};
+use trie_map::{Reader, TrieMap, View};
 
 /// The map that the threads share.
 pub type Map = TrieMap<u64, u64>;
+
+/// What one thread reads it by.
+pub type OwnReader<'r> = Reader<'r, u64, u64>;
 
 /// What a call returned, whose contents, if it has some, are not read yet.
 #[derive(Drop)]
@@ -29,10 +32,32 @@ impl Returned {
 }
 
 /// Makes the call.
-pub fn make<R: Wait>(rt: &R, map: &Map, call: Call) -> Result<Returned, Fault> {
+pub fn make<R: Wait>(
+    rt: &R,
+    map: &Map,
+    reader: &mut OwnReader<'_>,
+    call: Call,
+) -> Result<Returned, Fault> {
     match call {
         Call::Key(key, call) => Ok(Returned::Answer(on_key(rt, map, key, call)?)),
+        Call::Reader(key, call) => {
+            let found = by_reader(rt, reader, key, call);
+            Ok(Returned::Answer(Answer::Value(found)))
+        }
         Call::Map(call) => on_map(rt, map, call),
+    }
+}
+
+/// The value of the key, or none, by the reader.
+pub fn by_reader<R: Wait>(
+    rt: &R,
+    reader: &mut OwnReader<'_>,
+    key: u64,
+    call: ReaderCall,
+) -> Option<u64> {
+    match call {
+        ReaderCall::GetCopied => reader.get_copied(rt, &key),
+        ReaderCall::Read => reader.read(rt, &key, |found| found.map(|value| *value)),
     }
 }
 

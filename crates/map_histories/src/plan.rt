@@ -1,7 +1,7 @@
 //! What a thread calls next.
 
 use crate::answer::Answer;
-use crate::call::{ALL_KEYS, Call, KeyCall, LAST_KEY, MapCall};
+use crate::call::{ALL_KEYS, Call, KeyCall, LAST_KEY, MapCall, ReaderCall};
 use crate::draws::Draws;
 
 /// What kind of calls a thread makes.
@@ -15,6 +15,8 @@ pub enum Role {
     Moving,
     /// Mostly calls on the whole map.
     Whole,
+    /// Mostly reads by the thread's reader.
+    Reading,
 }
 
 /// A pair.
@@ -70,7 +72,8 @@ impl Plan {
         match self.role {
             Role::Mixed if self.draws.one_in(4) => self.on_map(),
             Role::Whole if !self.draws.one_in(5) => self.on_map(),
-            Role::Mixed | Role::Whole => self.on_key(),
+            Role::Reading if !self.draws.one_in(5) => self.by_reader(),
+            Role::Mixed | Role::Whole | Role::Reading => self.on_key(),
             Role::InOrder => self.in_order(),
             Role::Moving => self.moving(),
         }
@@ -96,6 +99,16 @@ impl Plan {
             (self.draws.below(200), false)
         } else {
             (0, self.draws.one_in(10))
+        }
+    }
+
+    /// How often the thread's reader reads all keys in the pause before the next call: now and then so often that it
+    /// makes a new base where they were written.
+    pub fn reads_of_a_pause(&mut self) -> u64 {
+        if self.draws.one_in(4) {
+            self.draws.below(100)
+        } else {
+            0
         }
     }
 
@@ -155,19 +168,31 @@ impl Plan {
 
     // A read of the key.
     fn reads(&mut self, key: u64) -> Call {
-        match self.draws.below(3) {
+        match self.draws.below(4) {
             0 => Call::Key(key, KeyCall::Get),
             1 => Call::Key(key, KeyCall::GetCopied),
-            _ => Call::Key(key, KeyCall::Read),
+            2 => Call::Key(key, KeyCall::Read),
+            _ => self.by_reader(),
+        }
+    }
+
+    // A read of any key by the thread's reader.
+    fn by_reader(&mut self) -> Call {
+        let key = key_at(self.draws.below(4));
+        if self.draws.one_in(2) {
+            Call::Reader(key, ReaderCall::GetCopied)
+        } else {
+            Call::Reader(key, ReaderCall::Read)
         }
     }
 }
 
-// The role of a thread: in one history of four all threads make all kinds of calls. In the others every second thread
-// writes in order, or moves a pair, while those between look at the whole map.
+// The role of a thread: in one history of five all threads make all kinds of calls. In the others every second thread
+// writes in order, or moves a pair. Those between look at the whole map, or read by their readers.
 fn role_of(history: u64, thread: u64) -> Role {
-    match (history % 4, thread % 2) {
+    match (history % 5, thread % 2) {
         (0, _) => Role::Mixed,
+        (4, 1) => Role::Reading,
         (_, 1) => Role::Whole,
         (1, _) => Role::Moving,
         _ => Role::InOrder,

@@ -21,7 +21,7 @@ pub struct Load {
 pub enum Part {
     /// Gets and puts at random keys.
     Mixed(Load),
-    /// Gets and puts of one key.
+    /// Reads and puts of one key.
     OneKey(Load),
     /// Views of a map of so many pairs.
     Views { pairs: u32 },

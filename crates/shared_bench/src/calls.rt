@@ -23,7 +23,7 @@ pub fn filling(alloc: Global, keys: &[Arc<ByteText>]) -> Result<Vec<MapCall>, Fa
     Ok(calls)
 }
 
-/// So many calls at keys in an order of no order, the same in each run. A put gives a key the value that it has.
+/// `count` calls at random keys, the same in each run. A put gives a key the value that it has.
 pub fn load(alloc: Global, keys: &[Arc<ByteText>], count: u32) -> Result<Vec<MapCall>, Fault> {
     let mut calls = Vec::with_capacity(alloc, count as usize)?;
     let mut state = 1;

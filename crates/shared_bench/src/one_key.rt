@@ -1,4 +1,4 @@
-//! Calls of several threads at one key of a map, with their checksums: gets, copies, and then puts.
+//! Calls of several threads at one key of a map, with their checksums: gets, copies, reads by readers, and then puts.
 
 use crate::arguments::Load;
 use crate::maps::{Map, filled};
@@ -10,6 +10,7 @@ use std::sync::Wait;
 use std::thread;
 use std::thread::Threads;
 use std::time::Instant;
+use trie_map::Readers;
 
 /// How many calls a round makes, over all its threads.
 const CALLS: u32 = 400_000;
@@ -19,10 +20,13 @@ const CALLS: u32 = 400_000;
 enum Call {
     Get,
     Copy,
+    /// A copy by the thread's reader, mostly with no lock.
+    Read,
     Put,
 }
 
-/// Times gets, copies of the value, and then puts, of the last key of the map, each by one and by four threads.
+/// Times gets, copies of the value and copies by readers, of the last key of the map, each by one, two and four
+/// threads; and then puts of it, by one and by four.
 pub fn one_key<R: Runtime + AllocGlobal + Threads + Wait + Sync>(
     rt: &R,
     load: Load,
@@ -30,10 +34,11 @@ pub fn one_key<R: Runtime + AllocGlobal + Threads + Wait + Sync>(
     let map = filled(rt, load.pairs)?;
     let number = load.pairs.saturating_sub(1);
     let key = text_key(rt.alloc(), number)?;
-    calls_by(rt, &map, &key, number, load.rounds, 1, Call::Get)?;
-    calls_by(rt, &map, &key, number, load.rounds, 4, Call::Get)?;
-    calls_by(rt, &map, &key, number, load.rounds, 1, Call::Copy)?;
-    calls_by(rt, &map, &key, number, load.rounds, 4, Call::Copy)?;
+    for call in [Call::Get, Call::Copy, Call::Read] {
+        calls_by(rt, &map, &key, number, load.rounds, 1, call)?;
+        calls_by(rt, &map, &key, number, load.rounds, 2, call)?;
+        calls_by(rt, &map, &key, number, load.rounds, 4, call)?;
+    }
     calls_by(rt, &map, &key, number, load.rounds, 1, Call::Put)?;
     calls_by(rt, &map, &key, number, load.rounds, 4, Call::Put)
 }
@@ -63,6 +68,7 @@ fn name_of(call: Call) -> &'static str {
     match call {
         Call::Get => "one_key_reads",
         Call::Copy => "one_key_copies",
+        Call::Read => "one_key_reader",
         Call::Put => "one_key_writes",
     }
 }
@@ -77,6 +83,8 @@ fn one_round<R: Runtime + AllocGlobal + Threads + Wait + Sync>(
     call: Call,
 ) -> Result<i64, Fault> {
     let calls = CALLS / threads.max(1);
+    let readers = map.readers();
+    let shared = &readers;
     let mut sum = 0i64;
     for told in thread::map_indices(
         rt,
@@ -86,6 +94,7 @@ fn one_round<R: Runtime + AllocGlobal + Threads + Wait + Sync>(
             match call {
                 Call::Get => gets(rt, map, key, calls),
                 Call::Copy => Ok(copies(rt, map, key, calls)),
+                Call::Read => Ok(reads(rt, shared, key, calls)),
                 Call::Put => puts(rt, rt.alloc(), map, key, number, calls),
             }
         },
@@ -111,6 +120,16 @@ fn copies<R: Wait>(rt: &R, map: &Map, key: &ByteText, calls: u32) -> i64 {
     let mut sum = 0i64;
     for _ in 0..calls {
         sum = sum.wrapping_add(map.get_copied(rt, key).unwrap_or(0));
+    }
+    sum
+}
+
+/// The copies of one thread by a reader of its own, which has no base at first.
+fn reads<R: Wait>(rt: &R, readers: &Readers<'_, ByteText, i64>, key: &ByteText, calls: u32) -> i64 {
+    let mut reader = readers.reader();
+    let mut sum = 0i64;
+    for _ in 0..calls {
+        sum = sum.wrapping_add(reader.get_copied(rt, key).unwrap_or(0));
     }
     sum
 }

@@ -18,10 +18,10 @@ use Rattle.crossbeam_utils.specs.contracts.cache_padded.CachePadded as CachePadd
 use Rattle.stripes.specs.contracts.locks.Locks as Locks
 use Rattle.stripes.specs.contracts.locks.Locks.TheInside as Inside
 use Rattle.stripes.specs.contracts.stripe.Stripe as Stripe
-use Rattle.trie_shape.proofs.node.Node.TheLaws.TheKnot as nodes
+use Rattle.versions.proofs.Crossing as maps
 
 -- what is hidden at exit is quiet where it is quiet in sight
-quiet : {D X : Type 0} (to : D → X) (e : Exit X) → Quiet e → Quiet (hidden (under to e))
+pub quiet : {D X : Type 0} (to : D → X) (e : Exit X) → Quiet e → Quiet (hidden (under to e))
 quiet to unchanged q = λ x w. tt
 quiet to (leaves L l S s r) q = λ d. q (to d)
 
@@ -30,10 +30,10 @@ module _ (K V P : RattleType) (key : PathKey.Ghosts K.Denot) (order : Ord.Ghosts
   List = Vec.the_row (CachePadded.the_row (Mutex.the_row (Stripe.the_row K V P key order keq kord keeps))) Heap.the_row allocator.ghosts
 
   list_send : IsSend K → IsSync K → IsSend V → IsSync V → IsSend List
-  list_send ks ky vs vy = search (sendable, heap.crosses, nodes.crosses_both) depth 40 fits 20000
+  list_send ks ky vs vy = search (sendable, heap.crosses, maps.version_send) depth 40 fits 20000
 
   list_sync : IsSend K → IsSync K → IsSend V → IsSync V → IsSync List
-  list_sync ks ky vs vy = search (sendable, heap.crosses, nodes.crosses_both) depth 40 fits 20000
+  list_sync ks ky vs vy = search (sendable, heap.crosses, maps.version_send) depth 40 fits 20000
 
   fields_send : IsSend List → IsSend (Inside.the_row K V P key order keq kord keeps)
   fields_send list =

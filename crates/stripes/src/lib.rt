@@ -6,14 +6,18 @@
 #![tactic(auto)]
 
 mod blank;
+mod following;
 mod joining;
 mod keeps;
 mod locks;
+mod marks;
 mod row;
 mod stripe;
 
 pub use blank::Blank;
+pub use following::Marking;
 pub use joining::joined;
 pub use keeps::{Anything, Keeps};
+pub use marks::Marks;
 pub use row::{Held, Row, blanks, clear_all, empties, forks};
 pub use stripe::{MOST_PAIRS_OF_STRIPE, STRIPES, Stripe};

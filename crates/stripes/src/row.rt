@@ -125,7 +125,7 @@ impl<K: PathKey + Drop, V: Drop, P: Keeps<K, V>> Row<K, V, P> {
 }
 
 // The list with one more at its end.
-fn pushed<T: Drop>(mut list: Vec<T>, last: T) -> Result<Vec<T>, NoMemory>
+pub(crate) fn pushed<T: Drop>(mut list: Vec<T>, last: T) -> Result<Vec<T>, NoMemory>
     ensures { IfOk result (λ longer. longer.items ≡ list.items ++ last ∷ []) }
 {
     list.push(last)?;

@@ -8,10 +8,12 @@ ghost use Rattle.versions.specs.Puts.{FullExactly};
 ghost use Rattle.versions.specs.declared.version.TheConstants.{MOST_PAIRS};
 
 mod deciding;
+mod marking;
 mod reading;
 
 use crate::blank::Blank;
 use crate::keeps::{Anything, Keeps};
+use crate::marks::{Marks, mark};
 use hash_path::{FAN_OUT, Path, PathKey, Sought};
 use std::alloc::Global;
 use std::marker::{Model, PhantomData};
@@ -28,10 +30,13 @@ pub const MOST_PAIRS_OF_STRIPE: u64 = 524_288;
 /// The pairs of a map whose keys' path words have one first digit. Each pair keeps the rule.
 ///
 /// A call on a key is given the key's path word, which told its stripe: the key is hashed once.
+///
+/// Where it has `Marks`, a call that has written sets the bit of its path word before it returns. No clause sees them.
 #[derive(Drop)]
 pub struct Stripe<K: PathKey, V, P: Keeps<K, V> = Anything> {
     version: Version<K, V>,
     first_digit: u32,
+    marks: Option<Arc<Marks>>,
     rule: PhantomData<P>,
 }
 
@@ -55,6 +60,7 @@ impl<K: PathKey + Drop, V: Drop, P: Keeps<K, V>> Stripe<K, V, P> {
         Ok(Stripe {
             version: Version::empty(alloc, MOST_PAIRS_OF_STRIPE, Stamp::LOOSE)?,
             first_digit,
+            marks: None,
             rule: PhantomData,
         })
     }
@@ -112,6 +118,7 @@ impl<K: PathKey + Drop, V: Drop, P: Keeps<K, V>> Stripe<K, V, P> {
         let change = self
             .version
             .put_where_along(alloc, key, path, value, condition)?;
+        mark(&self.marks, path, change.done);
         Ok(change)
     }
 
@@ -119,26 +126,27 @@ impl<K: PathKey + Drop, V: Drop, P: Keeps<K, V>> Stripe<K, V, P> {
     /// whether the stripe was written.
     ///
     /// It is refused for want of memory alone, and the stripe is then as before.
-    pub fn remove_where<C: Condition<V>>(
+    pub fn remove_where<Q: Sought<K>, C: Condition<V>>(
         &mut self,
         alloc: Global,
-        key: &K,
+        key: Q,
         path: Path,
         condition: &C,
     ) -> Result<Change<V>, NoMemory>
-        requires path { path.0 ≡ K.path_of key.now }
-        requires place { digit_of K.path_of key.now ≡ self.old.digit }
-        ensures before { IfOk result (λ change. option_map arc_value change.previous ≡ value_at K.cmp self.old.entries key.now) }
-        ensures done { IfOk result (λ change. change.done ≡ (is_some (value_at K.cmp self.old.entries key.now) && C.holds condition.now (value_at K.cmp self.old.entries key.now))) }
-        ensures entries { IfOk result (λ change. self.new.entries ≡ (if change.done then without K.cmp self.old.entries key.now else self.old.entries)) }
+        requires path { path.0 ≡ K.path_of (Q.key_of key) }
+        requires place { digit_of K.path_of (Q.key_of key) ≡ self.old.digit }
+        ensures before { IfOk result (λ change. option_map arc_value change.previous ≡ value_at K.cmp self.old.entries (Q.key_of key)) }
+        ensures done { IfOk result (λ change. change.done ≡ (is_some (value_at K.cmp self.old.entries (Q.key_of key)) && C.holds condition.now (value_at K.cmp self.old.entries (Q.key_of key)))) }
+        ensures entries { IfOk result (λ change. self.new.entries ≡ (if change.done then without K.cmp self.old.entries (Q.key_of key) else self.old.entries)) }
         ensures digit { self.new.digit ≡ self.old.digit }
         ensures err { OnErr result (self.new ≡ self.old) }
-        ensures kept { IfOk result (λ change. IfSome change.previous (λ value. P.holds key.now value.value)) }
+        ensures kept { IfOk result (λ change. IfSome change.previous (λ value. P.holds (Q.key_of key) value.value)) }
     {
         law_of_removal::<K, V>();
         let change = self
             .version
             .remove_where_along(alloc, key, path, condition)?;
+        mark(&self.marks, path, change.done);
         Ok(change)
     }
 
@@ -166,25 +174,32 @@ impl<K: PathKey + Drop, V: Drop, P: Keeps<K, V>> Stripe<K, V, P> {
 
     /// Removes the key, and answers the value before, or none. It is refused for want of memory alone, and the stripe
     /// is then as before.
-    pub fn remove(&mut self, alloc: Global, key: &K, path: Path) -> Result<Option<Arc<V>>, NoMemory>
-        requires path { path.0 ≡ K.path_of key.now }
-        requires place { digit_of K.path_of key.now ≡ self.old.digit }
-        ensures before { IfOk result (λ before. option_map arc_value before ≡ value_at K.cmp self.old.entries key.now) }
-        ensures entries { OnOk result (self.new.entries ≡ without K.cmp self.old.entries key.now) }
+    pub fn remove<Q: Sought<K>>(
+        &mut self,
+        alloc: Global,
+        key: Q,
+        path: Path,
+    ) -> Result<Option<Arc<V>>, NoMemory>
+        requires path { path.0 ≡ K.path_of (Q.key_of key) }
+        requires place { digit_of K.path_of (Q.key_of key) ≡ self.old.digit }
+        ensures before { IfOk result (λ before. option_map arc_value before ≡ value_at K.cmp self.old.entries (Q.key_of key)) }
+        ensures entries { OnOk result (self.new.entries ≡ without K.cmp self.old.entries (Q.key_of key)) }
         ensures digit { self.new.digit ≡ self.old.digit }
         ensures err { OnErr result (self.new ≡ self.old) }
-        ensures kept { IfOk result (λ before. IfSome before (λ value. P.holds key.now value.value)) }
+        ensures kept { IfOk result (λ before. IfSome before (λ value. P.holds (Q.key_of key) value.value)) }
     {
         law_of_removal::<K, V>();
         let before = self.version.remove_along(alloc, key, path)?;
+        mark(&self.marks, path, before.is_some());
         Ok(before)
     }
 
-    /// Removes all pairs.
+    /// Removes all pairs. The stripe's marks end before, and are let go.
     pub fn clear(&mut self, blank: Blank<K, V>)
         ensures entries { self.new.entries ≡ [] }
         ensures digit { self.new.digit ≡ self.old.digit }
     {
+        self.end_marks();
         self.version = blank.into_map();
     }
 
@@ -195,8 +210,8 @@ impl<K: PathKey + Drop, V: Drop, P: Keeps<K, V>> Stripe<K, V, P> {
         let _ = &self.version;
     }
 
-    /// Another stripe with the same pairs, which shares every node. It makes no request for memory, but the clone of
-    /// a handle may be refused.
+    /// Another stripe with the same pairs and no marks, which shares every node. It makes no request for memory, but the
+    /// clone of a handle may be refused.
     pub fn fork(&self) -> Result<Stripe<K, V, P>, NoMemory>
         ensures { IfOk result (λ fork. fork ≡ self.now) }
     {
@@ -204,6 +219,7 @@ impl<K: PathKey + Drop, V: Drop, P: Keeps<K, V>> Stripe<K, V, P> {
         Ok(Stripe {
             version: shared(&self.version, MOST_PAIRS_OF_STRIPE)?,
             first_digit: self.first_digit,
+            marks: None,
             rule: PhantomData,
         })
     }

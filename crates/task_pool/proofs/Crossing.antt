@@ -5,13 +5,13 @@ use denote.Struct.Declared as Declared
 use denote.Param.Send.{IsSend, IsSync, AllSend, sendable, recorded_send, struct_send, view_send}
 use Rattle.std.specs.contracts.result.Result as Result
 use Rattle.std.proofs.Crossing as heap
+use Rattle.versions.proofs.Crossing as maps
 use Rattle.trie_shape.proofs.node.Node.TheLaws.TheKnot as nodes
 use Rattle.std.specs.declared.cmp.Ord as Ord
 use Rattle.std.specs.declared.cmp.PartialEq as PartialEq
 use Rattle.std.specs.declared.cmp.PartialOrd as PartialOrd
 use Rattle.hash_path.specs.declared.key.PathKey as PathKey
 use Rattle.combiner.specs.declared.bulk.Bulk as Bulk
-use Rattle.versions.specs.contracts.view.View as View
 use Rattle.splitter.specs.contracts.piece.Piece as Piece
 use Rattle.splitter.specs.contracts.piece.Piece.TheInside as Inside
 use Rattle.task_pool.specs.declared.task.OfView as OfView
@@ -28,13 +28,10 @@ use Rattle.ruled_deques.proofs.Crossing.{ends_send}
 use Rattle.trie_node.specs.contracts.NoMemory as NoMemory
 
 module _ (K V : RattleType) (key : PathKey.Ghosts K.Denot) (order : Ord.Ghosts K.Denot) (keq : PartialEq.Ghosts K.Denot) (kord : PartialOrd.Ghosts K.Denot) where
-  seen_send : IsSend K → IsSync K → IsSend V → IsSync V → IsSend (View.the_row K V key order keq kord)
-  seen_send ks ky vs vy = search (sendable, heap.crosses, nodes.crosses_both) depth 30
-
   pub piece_send : IsSend K → IsSync K → IsSend V → IsSync V → IsSend (Piece.the_row K V key order keq kord)
   piece_send ks ky vs vy =
       let T = Inside.the_type K V key order keq kord in
-      let fields : AllSend (Declared.fields T) = (seen_send ks ky vs vy, (search sendable, (search sendable, (search (sendable, heap.crosses, nodes.crosses_both) depth 30, (search (sendable, heap.crosses), tt))))) in
+      let fields : AllSend (Declared.fields T) = (maps.view_send K V key order keq kord ks ky vs vy, (search sendable, (search sendable, (search (sendable, heap.crosses, nodes.crosses_both) depth 30, (search (sendable, heap.crosses), tt))))) in
       view_send _ _ _ _ _ (recorded_send _ _ _ T.to_one (struct_send (Declared.shape T) fields))
 
 module _ (C K V B P D : RattleType) (named : OfView.Ghosts C.Denot K.Denot V.Denot) (key : PathKey.Ghosts K.Denot) (order : Ord.Ghosts K.Denot) (keq : PartialEq.Ghosts K.Denot) (kord : PartialOrd.Ghosts K.Denot) (keqq : Eq.Ghosts K.Denot) (deques : Deques.Ghosts D.Denot) where

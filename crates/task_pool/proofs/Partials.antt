@@ -12,7 +12,7 @@ use Rattle.iter.specs.declared.interval.Interval.{Interval}
 use Rattle.iter.specs.Intervals.{AreApart, lies_in, cover, part, parts}
 use Rattle.splitter.specs.Cuts.{cut_point}
 use Rattle.combiner.specs.Unions as unions
-use Rattle.combiner.specs.Bulks.{Apart, IsJoined}
+use Rattle.combiner.specs.Bulks.{Apart, IsJoined, IsJoinedMap}
 use Rattle.task_pool.specs.Worked.{once, IsPartial}
 use Rattle.task_pool.proofs.Covering.{cover_cons, cover_append, cover_push}
 
@@ -106,28 +106,29 @@ module _ {K V B P : Type 0} (R : K → K → Ordering) (path : K → ℕ) (answe
       apart = maps_apart b p ws rs vs t apart;
     }
 
-    joined : (b : B) (p q c : P) (ws rs vs qs : List Interval) → T b p ws rs → AreApart (ws ++ vs) → answers b (parts path m vs) q → All (λ i. cut_point path m i grain ≡ None) vs
-        → IsJoined R (answers b) p q c → ((x : ℕ) → cover qs x ≡ cover (ws ++ vs) x) → T b c (ws ++ vs) qs
-    joined b p q c ws rs vs qs t apart has uncut join runs = record {
+    -- where a part answers the positions of two lists that are apart, it is of both
+    grown : (b : B) (p c : P) (ws rs vs qs : List Interval) → T b p ws rs → AreApart (ws ++ vs) → All (λ i. cut_point path m i grain ≡ None) vs
+        → IsJoinedMap R (answers b) p (parts path m vs) c → ((x : ℕ) → cover qs x ≡ cover (ws ++ vs) x) → T b c (ws ++ vs) qs
+    grown b p c ws rs vs qs t apart uncut join runs = record {
       is_named = t.is_named;
       is_ready = t.is_ready;
       sorted = t.sorted;
       few = t.few;
       apart = apart;
       uncut = All-append (λ i. cut_point path m i grain ≡ None) ws vs t.uncut uncut;
-      answered = subst (λ (n : Map K V). answers b n c) (sym (law_union m ws vs t.sorted)) (join (parts path m ws) (parts path m vs) t.answered has (maps_apart b p ws rs vs t apart));
+      answered = subst (λ (n : Map K V). answers b n c) (sym (law_union m ws vs t.sorted)) (join (parts path m ws) t.answered (maps_apart b p ws rs vs t apart));
       same = runs;
     }
 
-    -- a piece may be joined
-    pub may_work : (b : B) (p made : P) (ws rs : List Interval) (i : Interval) → T b p ws rs → AreApart (ws ++ i ∷ []) → answers b (part path m i) made → Apart R (answers b) p made
-    may_work b p made ws rs i t apart has = may_join b p made ws rs (i ∷ []) t apart (subst (λ (n : Map K V). answers b n made) (law_one m i) has)
+    -- a piece may be worked
+    pub may_work : (b : B) (p : P) (ws rs : List Interval) (i : Interval) → T b p ws rs → AreApart (ws ++ i ∷ []) → (n : Map K V) × answers b n p × unions.AreApart R n (part path m i)
+    may_work b p ws rs i t apart = (parts path m ws, t.answered, subst (unions.AreApart R (parts path m ws)) (sym (law_one m i)) (maps_apart b p ws rs (i ∷ []) t apart))
 
     -- and is then worked
-    pub has_worked : (b : B) (p made c : P) (ws rs qs : List Interval) (i : Interval) → T b p ws rs → AreApart (ws ++ i ∷ []) → answers b (part path m i) made → cut_point path m i grain ≡ None
-        → IsJoined R (answers b) p made c → ((x : ℕ) → cover qs x ≡ cover rs x + once i x) → T b c (ws ++ i ∷ []) qs
-    has_worked b p made c ws rs qs i t apart has uncut join runs =
-        joined b p made c ws rs (i ∷ []) qs t apart (subst (λ (n : Map K V). answers b n made) (law_one m i) has) (all_one (λ j. cut_point path m j grain ≡ None) i uncut) join (λ x. omega (arith, runs x, t.same x, cover_push ws i x))
+    pub has_worked : (b : B) (p c : P) (ws rs qs : List Interval) (i : Interval) → T b p ws rs → AreApart (ws ++ i ∷ []) → cut_point path m i grain ≡ None
+        → IsJoinedMap R (answers b) p (part path m i) c → ((x : ℕ) → cover qs x ≡ cover rs x + once i x) → T b c (ws ++ i ∷ []) qs
+    has_worked b p c ws rs qs i t apart uncut join runs =
+        grown b p c ws rs (i ∷ []) qs t apart (all_one (λ j. cut_point path m j grain ≡ None) i uncut) (subst (λ (n : Map K V). IsJoinedMap R (answers b) p n c) (law_one m i) join) (λ x. omega (arith, runs x, t.same x, cover_push ws i x))
 
     -- what another has worked may be joined
     pub may_take : (b d : B) (p q : P) (ws rs vs qs : List Interval) → T b p ws rs → T d q vs qs → AreApart (ws ++ vs) → Apart R (answers b) p q
@@ -136,5 +137,5 @@ module _ {K V B P : Type 0} (R : K → K → Ordering) (path : K → ℕ) (answe
     -- and is then worked here
     pub has_taken : (b d : B) (p q c : P) (ws rs vs qs : List Interval) → T b p ws rs → T d q vs qs → AreApart (ws ++ vs) → IsJoined R (answers b) p q c → T b c (ws ++ vs) (rs ++ qs)
     has_taken b d p q c ws rs vs qs t u apart join =
-        joined b p q c ws rs vs (rs ++ qs) t apart (subst (λ (e : B). answers e (parts path m vs) q) (same_named b d t.is_named u.is_named) u.answered) u.uncut join
+        grown b p c ws rs vs (rs ++ qs) t apart u.uncut (λ n is. join n (parts path m vs) is (subst (λ (e : B). answers e (parts path m vs) q) (same_named b d t.is_named u.is_named) u.answered))
         (λ x. omega (arith, cover_append rs qs x, cover_append ws vs x, t.same x, u.same x))

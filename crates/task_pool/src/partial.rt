@@ -110,8 +110,7 @@ impl<'a, C: OfView<K, V> + OfBulk<B>, K: PathKey + Drop, V: Drop, B: Bulk<K, V>>
             mut runs,
             call,
         } = self;
-        let made = task.work(alloc, bulk)?;
-        let part = bulk.join(alloc, &part, &made)?;
+        let part = task.work_into(alloc, bulk, part)?;
         let interval = Interval {
             lo: task.lo(),
             hi: task.hi(),

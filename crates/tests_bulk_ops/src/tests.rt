@@ -1,6 +1,7 @@
 //! What a small map answers, by hand. Its keys have chosen path words; its values are at the ends of `i64`.
 
 mod combining;
+mod growing;
 mod images;
 mod laws;
 mod memory;
@@ -304,12 +305,13 @@ fn assert_told(rt: &impl Abort, told: Option<Told>, want: Told) {
     assert!(rt; told == Some(want));
 }
 
-// The query is told this of all three pairs, and of the two pieces of a cut.
+// The query is told this of all three pairs, of the two pieces of a cut, and of one of them that grew by the other.
 fn assert_tells(rt: &impl Abort, alloc: Global, query: &Asked, want: Told)
     requires { ⟦<Asked as Bulk<ChosenKey, i64>>⟧.ready query.now }
 {
     assert_told(rt, Some(told_of_first(rt, alloc, 3, query)), want);
     assert_told(rt, Some(told_of_two(rt, alloc, query)), want);
+    assert_told(rt, Some(growing::told_of_grown(rt, alloc, query)), want);
 }
 
 // Of three pairs, those with keys below a number: how many there are, whether there are some, whether they are all.
@@ -377,6 +379,5 @@ fn sums_and_extremes(rt: HostRuntime) {
         let told = told_of_first(&rt, alloc, number, &query);
         assert_told(&rt, Some(told), Told::Item(want));
     }
-    let told = told_of_two(&rt, alloc, &query);
-    assert_told(&rt, Some(told), Told::Item(SUMS));
+    assert_tells(&rt, alloc, &query, Told::Item(SUMS));
 }

@@ -8,6 +8,7 @@ mod operations;
 mod plain;
 mod shape;
 mod stamps;
+mod texts;
 mod views;
 
 use generation::Source;

@@ -3,6 +3,7 @@ mod attendance;
 mod gates;
 mod many;
 mod memory;
+mod pieces;
 mod rows;
 
 ghost use Rattle.std.specs.Prelude.{◌≤◌};

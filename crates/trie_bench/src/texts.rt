@@ -2,6 +2,7 @@
 
 use crate::arguments::Load;
 use crate::asking::ask_all;
+use crate::lists::read_lists;
 use crate::maps::Map;
 use crate::memory::{resident_bytes, show_bytes};
 use crate::rounds::{fill, read, remove, replace};
@@ -36,7 +37,12 @@ fn fresh<R: Runtime + AllocGlobal>(
     let mut map = fill(rt, puts, keys)?;
     show_bytes(rt, before, resident_bytes(rt), map.len())?;
     read(rt, rounds, "get", &map, keys)?;
-    read(rt, rounds, "get_random", &map, in_random_order.as_slice())?;
+    let at_random = in_random_order.as_slice();
+    read(rt, rounds, "get_random", &map, at_random)?;
+    let view = map.view()?;
+    read_lists(rt, rounds, "get_many_8", &view, at_random, 8)?;
+    read_lists(rt, rounds, "get_many_64", &view, at_random, 64)?;
+    drop(view);
     replace(rt, rounds, "replace", &mut map, keys)?;
     whole(rt, rounds, &map)
 }

@@ -25,6 +25,7 @@ pub use group_counts::Groups;
 pub use hash_path::PathKey;
 pub use iter::{Pairs, pairs_of};
 pub use keys::ByteText;
+pub use map_reader::{Reader, Readers};
 pub use put_error::PutError;
 pub use stripes::{Anything, Keeps, MOST_PAIRS_OF_STRIPE};
 pub use task_pool::Crew;

@@ -9,7 +9,9 @@ mod asking;
 mod counting;
 mod deciding;
 mod filling;
+mod many;
 mod reading;
+mod reading_hot;
 mod retaining;
 
 use crate::origin::{Origin, found_or_made};
@@ -34,13 +36,13 @@ use versions::{Change, Refusal};
 ///
 /// # What runs under a lock
 ///
-/// `K::cmp`, `K::path`, `V::eq` and, of a look-up, `Sought::compare_with` run while the stripe of the key is locked, and
-/// so do the drops of a key that is replaced or removed, and of a key and a value that are not written. They must not
-/// call the map: the thread would wait for itself. A value that is replaced or removed is handed out, and dropped by
-/// whoever has it last; what `clear` removes is dropped once all locks are free; the closure of `get_or_else_update`
-/// runs with no lock held. The closure
-/// of `update`, `update_with`, `try_update`, `read` or `remove_where` runs under the lock too, and what it makes is
-/// dropped there where it cannot be stored; so does that of `retain`, once more for each pair that fails.
+/// `K::cmp`, `K::path`, `V::eq` and, of a look-up or a removal, `Sought::compare_with` run while the stripe of the key
+/// is locked, and so do the drops of a key that is replaced or removed, and of a key and a value that are not written.
+/// They must not call the map: the thread would wait for itself. A value that is replaced or removed is handed out,
+/// and dropped by whoever has it last; what `clear` removes is dropped once all locks are free; the closure of
+/// `get_or_else_update` runs with no lock held. The closure of `update`, `update_with`, `try_update`, `read` or
+/// `remove_where` runs under the lock too, and what it makes is dropped there where it cannot be stored; so does that
+/// of `retain`, once more for each pair that fails.
 ///
 /// # Between two calls
 ///
@@ -138,8 +140,8 @@ impl<K: PathKey + Drop, V: Drop, P: Keeps<K, V>> TrieMap<K, V, P> {
     }
 
     /// Removes the key, and answers the value before, or none. It is refused for want of memory alone.
-    pub fn remove<R: Wait>(&self, rt: &R, key: &K) -> Result<Option<Arc<V>>, NoMemory>
-        ensures kept { IfOk result (λ before. IfSome before (λ found. P.holds key.now found.value)) }
+    pub fn remove<R: Wait, Q: Sought<K>>(&self, rt: &R, key: Q) -> Result<Option<Arc<V>>, NoMemory>
+        ensures kept { IfOk result (λ before. IfSome before (λ found. P.holds (Q.key_of key) found.value)) }
     {
         Ok(self.removal(rt, key, &Always)?.previous)
     }
@@ -271,15 +273,15 @@ impl<K: PathKey + Drop, V: Drop, P: Keeps<K, V>> TrieMap<K, V, P> {
     }
 
     // A removal of a key, where the condition holds of its value. The lock is free again when the answer is dropped.
-    fn removal<R: Wait, C: Condition<V>>(
+    fn removal<R: Wait, Q: Sought<K>, C: Condition<V>>(
         &self,
         rt: &R,
-        key: &K,
+        key: Q,
         condition: &C,
     ) -> Result<Change<V>, NoMemory>
-        ensures kept { IfOk result (λ change. IfSome change.previous (λ found. P.holds key.now found.value)) }
+        ensures kept { IfOk result (λ change. IfSome change.previous (λ found. P.holds (Q.key_of key) found.value)) }
     {
-        let path = key.path();
+        let path = key.path_sought();
         let mut stripe = self.row.stripe_at(rt, path);
         stripe.remove_where(self.alloc, key, path, condition)
     }
@@ -314,7 +316,12 @@ impl<K: PathKey + Drop, V: Eq + Drop, P: Keeps<K, V>> TrieMap<K, V, P> {
     /// Removes the key where it is mapped to a value equal to `value`, and answers whether it was.
     ///
     /// It is refused for want of memory alone.
-    pub fn remove_if<R: Wait>(&self, rt: &R, key: &K, value: &V) -> Result<bool, NoMemory> {
+    pub fn remove_if<R: Wait, Q: Sought<K>>(
+        &self,
+        rt: &R,
+        key: Q,
+        value: &V,
+    ) -> Result<bool, NoMemory> {
         Ok(self.removal(rt, key, &IfEqual(value))?.done)
     }
 }

@@ -8,6 +8,7 @@ ghost use Rattle.versions.specs.declared.version.TheConstants.{MOST_PAIRS};
 
 mod equality;
 mod making;
+mod many;
 mod walking;
 
 use crate::columns::{Keys, Values};

@@ -15,7 +15,7 @@ use crate::pair_removal::place_of;
 use crate::put::Entry;
 use crate::put_in_place::Done;
 use crate::removal_in_place::RemovedIn;
-use hash_path::{Path, PathKey};
+use hash_path::{Path, PathKey, Sought};
 use std::alloc::Global;
 use std::cmp::Ordering;
 use std::mem;
@@ -138,16 +138,16 @@ pub(crate) fn put_in_pairs<K: PathKey + Drop, V: Drop, C: Condition<V>>(
 }
 
 /// The removal of the key from a bucket of these pairs, of which one at least is left.
-pub(crate) fn remove_from_pairs<K: PathKey + Drop, V: Drop, C: Condition<V>>(
+pub(crate) fn remove_from_pairs<K: PathKey + Drop, V: Drop, Q: Sought<K>, C: Condition<V>>(
     stamp: &mut Stamp,
     pairs: &mut Vec<(Arc<K, Global>, Arc<V, Global>)>,
-    key: &K,
+    key: Q,
     new_stamp: Stamp,
     condition: &C,
 ) -> Result<RemovedIn<V>, NoMemory>
     requires { 1 < length pairs.old.items }
-    ensures ok { IfOk result (λ r. (level : ℕ) → IsTrie K.cmp K.path_of level (bucket stamp.old.0 (map pair_values pairs.old.items)) → TakesOut K.cmp K.path_of level new_stamp.0 key.now (C.holds condition.now) (bucket stamp.old.0 (map pair_values pairs.old.items)) r (bucket stamp.new.0 (map pair_values pairs.new.items))) }
-    ensures due { OnErr result (is_some (first_of K.cmp key.now (map pair_values pairs.old.items)) ≡ true) }
+    ensures ok { IfOk result (λ r. (level : ℕ) → IsTrie K.cmp K.path_of level (bucket stamp.old.0 (map pair_values pairs.old.items)) → TakesOut K.cmp K.path_of level new_stamp.0 (Q.key_of key) (C.holds condition.now) (bucket stamp.old.0 (map pair_values pairs.old.items)) r (bucket stamp.new.0 (map pair_values pairs.new.items))) }
+    ensures due { OnErr result (is_some (first_of K.cmp (Q.key_of key) (map pair_values pairs.old.items)) ≡ true) }
     ensures err { OnErr result (bucket stamp.new.0 (map pair_values pairs.new.items) ≡ bucket stamp.old.0 (map pair_values pairs.old.items)) }
 {
     let Some(at) = place_of(pairs.as_slice(), key) else {

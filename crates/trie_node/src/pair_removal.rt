@@ -8,22 +8,22 @@ ghost use Rattle.trie_shape.specs.View.{tree, pair_values};
 ghost use Rattle.trie_node.specs.Removals.{IsAt, Removes, is_removable};
 
 use crate::removal_outcome::Removal;
-use hash_path::PathKey;
+use hash_path::{PathKey, Sought};
 use std::alloc::Global;
 use std::cmp::Ordering;
 use std::sync::Arc;
 use trie_shape::{Condition, NoMemory, Node, Stamp, make_bucket, make_leaf};
 
 /// The place of the key among pairs.
-pub(crate) fn place_of<K: PathKey, V>(
+pub(crate) fn place_of<K: PathKey, V, Q: Sought<K>>(
     pairs: &[(Arc<K, Global>, Arc<V, Global>)],
-    key: &K,
+    key: Q,
 ) -> Option<usize>
-    ensures there { IfSome result (λ i. IsAt K.cmp key.now i (map pair_values pairs.now)) }
-    ensures absent { IfNone result (find K.cmp key.now (map pair_values pairs.now) ≡ None) }
+    ensures there { IfSome result (λ i. IsAt K.cmp (Q.key_of key) i (map pair_values pairs.now)) }
+    ensures absent { IfNone result (find K.cmp (Q.key_of key) (map pair_values pairs.now) ≡ None) }
 {
     for i in 0..pairs.len() {
-        if key.cmp(&pairs[i].0) == Ordering::Equal {
+        if key.compare_with(&pairs[i].0) == Ordering::Equal {
             return Some(i);
         }
     }
@@ -66,15 +66,15 @@ fn without_pair<K: Drop, V: Drop>(
 }
 
 /// The removal of the key from a leaf or bucket of these pairs.
-pub(crate) fn take_pair<'a, K: PathKey + Drop, V: Drop, C: Condition<V>>(
+pub(crate) fn take_pair<'a, K: PathKey + Drop, V: Drop, Q: Sought<K>, C: Condition<V>>(
     alloc: Global,
     pairs: &'a [(Arc<K, Global>, Arc<V, Global>)],
-    key: &K,
+    key: Q,
     stamp: Stamp,
     condition: &C,
 ) -> Result<Removal<'a, K, V>, NoMemory>
-    ensures due { OnErr result (is_removable K.cmp key.now (C.holds condition.now) (map pair_values pairs.now) ≡ true) }
-    ensures ok { IfOk result (λ r. (level before : ℕ) → IsTrie K.cmp K.path_of level (bucket before (map pair_values pairs.now)) → Removes K.cmp K.path_of level stamp.0 key.now (C.holds condition.now) (bucket before (map pair_values pairs.now)) r) }
+    ensures due { OnErr result (is_removable K.cmp (Q.key_of key) (C.holds condition.now) (map pair_values pairs.now) ≡ true) }
+    ensures ok { IfOk result (λ r. (level before : ℕ) → IsTrie K.cmp K.path_of level (bucket before (map pair_values pairs.now)) → Removes K.cmp K.path_of level stamp.0 (Q.key_of key) (C.holds condition.now) (bucket before (map pair_values pairs.now)) r) }
 {
     let Some(at) = place_of(pairs, key) else {
         return Ok(Removal::Nothing(None));

@@ -15,7 +15,7 @@ use crate::bucket_in_place::remove_from_pairs;
 use crate::put_in_place::{Done, shared};
 use crate::removal::remove_at;
 use crate::removal_outcome::Removal;
-use hash_path::{Path, PathKey};
+use hash_path::{Path, PathKey, Sought};
 use std::alloc::Global;
 use std::sync::Arc;
 use trie_shape::{
@@ -47,19 +47,19 @@ pub(crate) enum TakenInside<K, V> {
 /// The removal of the key from a node that stands at the level: where it stands as far as nobody
 /// else holds the nodes of the key's way, and else by copies of them.
 #[cycle(remove_in)]
-pub(crate) fn remove_in_at<K: PathKey + Drop, V: Drop, C: Condition<V>>(
+pub(crate) fn remove_in_at<K: PathKey + Drop, V: Drop, Q: Sought<K>, C: Condition<V>>(
     alloc: Global,
     node: &mut Node<K, V>,
-    key: &K,
+    key: Q,
     path: Path,
     stamp: Stamp,
     level: u32,
     condition: &C,
 ) -> Result<RemovedIn<V>, NoMemory>
-    requires path { path.0 ≡ K.path_of key.now }
+    requires path { path.0 ≡ K.path_of (Q.key_of key) }
     requires trie { IsTrie K.cmp K.path_of level (tree node.old) }
-    ensures ok { IfOk result (λ r. TakesOut K.cmp K.path_of level stamp.0 key.now (C.holds condition.now) (tree node.old) r (tree node.new)) }
-    ensures due { OnErr result (is_some (first_of K.cmp key.now (entries (tree node.old))) ≡ true) }
+    ensures ok { IfOk result (λ r. TakesOut K.cmp K.path_of level stamp.0 (Q.key_of key) (C.holds condition.now) (tree node.old) r (tree node.new)) }
+    ensures due { OnErr result (is_some (first_of K.cmp (Q.key_of key) (entries (tree node.old))) ≡ true) }
     ensures err { OnErr result (tree node.new ≡ tree node.old) }
 {
     match remove_in_node(alloc, node, key, path, stamp, level, condition)? {
@@ -74,19 +74,19 @@ pub(crate) fn remove_in_at<K: PathKey + Drop, V: Drop, C: Condition<V>>(
 
 /// The removal of the key from a node that stands at the level, where nobody else holds the node.
 #[cycle(remove_in)]
-fn remove_in_node<K: PathKey + Drop, V: Drop, C: Condition<V>>(
+fn remove_in_node<K: PathKey + Drop, V: Drop, Q: Sought<K>, C: Condition<V>>(
     alloc: Global,
     node: &mut Node<K, V>,
-    key: &K,
+    key: Q,
     path: Path,
     stamp: Stamp,
     level: u32,
     condition: &C,
 ) -> Result<TakenInside<K, V>, NoMemory>
-    requires path { path.0 ≡ K.path_of key.now }
+    requires path { path.0 ≡ K.path_of (Q.key_of key) }
     requires trie { IsTrie K.cmp K.path_of level (tree node.old) }
-    ensures ok { IfOk result (λ r. TakesInside K.cmp K.path_of level stamp.0 key.now (C.holds condition.now) (tree node.old) r (tree node.new)) }
-    ensures due { OnErr result (is_some (first_of K.cmp key.now (entries (tree node.old))) ≡ true) }
+    ensures ok { IfOk result (λ r. TakesInside K.cmp K.path_of level stamp.0 (Q.key_of key) (C.holds condition.now) (tree node.old) r (tree node.new)) }
+    ensures due { OnErr result (is_some (first_of K.cmp (Q.key_of key) (entries (tree node.old))) ≡ true) }
     ensures err { OnErr result (tree node.new ≡ tree node.old) }
 {
     match node {
@@ -162,19 +162,19 @@ fn remove_in_node<K: PathKey + Drop, V: Drop, C: Condition<V>>(
 }
 
 /// A removal by copies of the nodes of the key's way.
-fn remove_copied<K: PathKey + Drop, V: Drop, C: Condition<V>>(
+fn remove_copied<K: PathKey + Drop, V: Drop, Q: Sought<K>, C: Condition<V>>(
     alloc: Global,
     node: &mut Node<K, V>,
-    key: &K,
+    key: Q,
     path: Path,
     stamp: Stamp,
     level: u32,
     condition: &C,
 ) -> Result<RemovedIn<V>, NoMemory>
-    requires path { path.0 ≡ K.path_of key.now }
+    requires path { path.0 ≡ K.path_of (Q.key_of key) }
     requires trie { IsTrie K.cmp K.path_of level (tree node.old) }
-    ensures ok { IfOk result (λ r. TakesOut K.cmp K.path_of level stamp.0 key.now (C.holds condition.now) (tree node.old) r (tree node.new)) }
-    ensures due { OnErr result (is_some (first_of K.cmp key.now (entries (tree node.old))) ≡ true) }
+    ensures ok { IfOk result (λ r. TakesOut K.cmp K.path_of level stamp.0 (Q.key_of key) (C.holds condition.now) (tree node.old) r (tree node.new)) }
+    ensures due { OnErr result (is_some (first_of K.cmp (Q.key_of key) (entries (tree node.old))) ≡ true) }
     ensures err { OnErr result (tree node.new ≡ tree node.old) }
 {
     match remove_at(alloc, node, key, path, stamp, level, condition)? {
@@ -190,22 +190,22 @@ fn remove_copied<K: PathKey + Drop, V: Drop, C: Condition<V>>(
 
 /// The removal of the key from a branch in a row of 2 places, which nobody else holds.
 #[cycle(remove_in)]
-fn remove_in_two<K: PathKey + Drop, V: Drop, C: Condition<V>>(
+fn remove_in_two<K: PathKey + Drop, V: Drop, Q: Sought<K>, C: Condition<V>>(
     alloc: Global,
     bitmap: &mut u32,
     stamp: &mut Stamp,
     size: &mut u64,
     row: &mut [Node<K, V>; 2],
-    key: &K,
+    key: Q,
     path: Path,
     new_stamp: Stamp,
     level: u32,
     condition: &C,
 ) -> Result<TakenInside<K, V>, NoMemory>
-    requires path { path.0 ≡ K.path_of key.now }
+    requires path { path.0 ≡ K.path_of (Q.key_of key) }
     requires trie { IsTrie K.cmp K.path_of level (branch_of stamp.old.0 (in_row size.old bitmap.old row.old)) }
-    ensures ok { IfOk result (λ r. TakesInside K.cmp K.path_of level new_stamp.0 key.now (C.holds condition.now) (branch_of stamp.old.0 (in_row size.old bitmap.old row.old)) r (branch_of stamp.new.0 (in_row size.new bitmap.new row.new))) }
-    ensures due { OnErr result (is_some (first_of K.cmp key.now (entries (branch_of stamp.old.0 (in_row size.old bitmap.old row.old)))) ≡ true) }
+    ensures ok { IfOk result (λ r. TakesInside K.cmp K.path_of level new_stamp.0 (Q.key_of key) (C.holds condition.now) (branch_of stamp.old.0 (in_row size.old bitmap.old row.old)) r (branch_of stamp.new.0 (in_row size.new bitmap.new row.new))) }
+    ensures due { OnErr result (is_some (first_of K.cmp (Q.key_of key) (entries (branch_of stamp.old.0 (in_row size.old bitmap.old row.old)))) ≡ true) }
     ensures err { OnErr result (branch_of stamp.new.0 (in_row size.new bitmap.new row.new) ≡ branch_of stamp.old.0 (in_row size.old bitmap.old row.old)) }
 {
     remove_in_branch(
@@ -215,22 +215,22 @@ fn remove_in_two<K: PathKey + Drop, V: Drop, C: Condition<V>>(
 
 /// The removal of the key from a branch in a row of 4 places, which nobody else holds.
 #[cycle(remove_in)]
-fn remove_in_four<K: PathKey + Drop, V: Drop, C: Condition<V>>(
+fn remove_in_four<K: PathKey + Drop, V: Drop, Q: Sought<K>, C: Condition<V>>(
     alloc: Global,
     bitmap: &mut u32,
     stamp: &mut Stamp,
     size: &mut u64,
     row: &mut [Node<K, V>; 4],
-    key: &K,
+    key: Q,
     path: Path,
     new_stamp: Stamp,
     level: u32,
     condition: &C,
 ) -> Result<TakenInside<K, V>, NoMemory>
-    requires path { path.0 ≡ K.path_of key.now }
+    requires path { path.0 ≡ K.path_of (Q.key_of key) }
     requires trie { IsTrie K.cmp K.path_of level (branch_of stamp.old.0 (in_row size.old bitmap.old row.old)) }
-    ensures ok { IfOk result (λ r. TakesInside K.cmp K.path_of level new_stamp.0 key.now (C.holds condition.now) (branch_of stamp.old.0 (in_row size.old bitmap.old row.old)) r (branch_of stamp.new.0 (in_row size.new bitmap.new row.new))) }
-    ensures due { OnErr result (is_some (first_of K.cmp key.now (entries (branch_of stamp.old.0 (in_row size.old bitmap.old row.old)))) ≡ true) }
+    ensures ok { IfOk result (λ r. TakesInside K.cmp K.path_of level new_stamp.0 (Q.key_of key) (C.holds condition.now) (branch_of stamp.old.0 (in_row size.old bitmap.old row.old)) r (branch_of stamp.new.0 (in_row size.new bitmap.new row.new))) }
+    ensures due { OnErr result (is_some (first_of K.cmp (Q.key_of key) (entries (branch_of stamp.old.0 (in_row size.old bitmap.old row.old)))) ≡ true) }
     ensures err { OnErr result (branch_of stamp.new.0 (in_row size.new bitmap.new row.new) ≡ branch_of stamp.old.0 (in_row size.old bitmap.old row.old)) }
 {
     remove_in_branch(
@@ -240,22 +240,22 @@ fn remove_in_four<K: PathKey + Drop, V: Drop, C: Condition<V>>(
 
 /// The removal of the key from a branch in a row of 8 places, which nobody else holds.
 #[cycle(remove_in)]
-fn remove_in_eight<K: PathKey + Drop, V: Drop, C: Condition<V>>(
+fn remove_in_eight<K: PathKey + Drop, V: Drop, Q: Sought<K>, C: Condition<V>>(
     alloc: Global,
     bitmap: &mut u32,
     stamp: &mut Stamp,
     size: &mut u64,
     row: &mut [Node<K, V>; 8],
-    key: &K,
+    key: Q,
     path: Path,
     new_stamp: Stamp,
     level: u32,
     condition: &C,
 ) -> Result<TakenInside<K, V>, NoMemory>
-    requires path { path.0 ≡ K.path_of key.now }
+    requires path { path.0 ≡ K.path_of (Q.key_of key) }
     requires trie { IsTrie K.cmp K.path_of level (branch_of stamp.old.0 (in_row size.old bitmap.old row.old)) }
-    ensures ok { IfOk result (λ r. TakesInside K.cmp K.path_of level new_stamp.0 key.now (C.holds condition.now) (branch_of stamp.old.0 (in_row size.old bitmap.old row.old)) r (branch_of stamp.new.0 (in_row size.new bitmap.new row.new))) }
-    ensures due { OnErr result (is_some (first_of K.cmp key.now (entries (branch_of stamp.old.0 (in_row size.old bitmap.old row.old)))) ≡ true) }
+    ensures ok { IfOk result (λ r. TakesInside K.cmp K.path_of level new_stamp.0 (Q.key_of key) (C.holds condition.now) (branch_of stamp.old.0 (in_row size.old bitmap.old row.old)) r (branch_of stamp.new.0 (in_row size.new bitmap.new row.new))) }
+    ensures due { OnErr result (is_some (first_of K.cmp (Q.key_of key) (entries (branch_of stamp.old.0 (in_row size.old bitmap.old row.old)))) ≡ true) }
     ensures err { OnErr result (branch_of stamp.new.0 (in_row size.new bitmap.new row.new) ≡ branch_of stamp.old.0 (in_row size.old bitmap.old row.old)) }
 {
     remove_in_branch(
@@ -265,22 +265,22 @@ fn remove_in_eight<K: PathKey + Drop, V: Drop, C: Condition<V>>(
 
 /// The removal of the key from a branch in a row of 16 places, which nobody else holds.
 #[cycle(remove_in)]
-fn remove_in_sixteen<K: PathKey + Drop, V: Drop, C: Condition<V>>(
+fn remove_in_sixteen<K: PathKey + Drop, V: Drop, Q: Sought<K>, C: Condition<V>>(
     alloc: Global,
     bitmap: &mut u32,
     stamp: &mut Stamp,
     size: &mut u64,
     row: &mut [Node<K, V>; 16],
-    key: &K,
+    key: Q,
     path: Path,
     new_stamp: Stamp,
     level: u32,
     condition: &C,
 ) -> Result<TakenInside<K, V>, NoMemory>
-    requires path { path.0 ≡ K.path_of key.now }
+    requires path { path.0 ≡ K.path_of (Q.key_of key) }
     requires trie { IsTrie K.cmp K.path_of level (branch_of stamp.old.0 (in_row size.old bitmap.old row.old)) }
-    ensures ok { IfOk result (λ r. TakesInside K.cmp K.path_of level new_stamp.0 key.now (C.holds condition.now) (branch_of stamp.old.0 (in_row size.old bitmap.old row.old)) r (branch_of stamp.new.0 (in_row size.new bitmap.new row.new))) }
-    ensures due { OnErr result (is_some (first_of K.cmp key.now (entries (branch_of stamp.old.0 (in_row size.old bitmap.old row.old)))) ≡ true) }
+    ensures ok { IfOk result (λ r. TakesInside K.cmp K.path_of level new_stamp.0 (Q.key_of key) (C.holds condition.now) (branch_of stamp.old.0 (in_row size.old bitmap.old row.old)) r (branch_of stamp.new.0 (in_row size.new bitmap.new row.new))) }
+    ensures due { OnErr result (is_some (first_of K.cmp (Q.key_of key) (entries (branch_of stamp.old.0 (in_row size.old bitmap.old row.old)))) ≡ true) }
     ensures err { OnErr result (branch_of stamp.new.0 (in_row size.new bitmap.new row.new) ≡ branch_of stamp.old.0 (in_row size.old bitmap.old row.old)) }
 {
     remove_in_branch(
@@ -290,22 +290,22 @@ fn remove_in_sixteen<K: PathKey + Drop, V: Drop, C: Condition<V>>(
 
 /// The removal of the key from a branch in a row of 32 places, which nobody else holds.
 #[cycle(remove_in)]
-fn remove_in_all<K: PathKey + Drop, V: Drop, C: Condition<V>>(
+fn remove_in_all<K: PathKey + Drop, V: Drop, Q: Sought<K>, C: Condition<V>>(
     alloc: Global,
     bitmap: &mut u32,
     stamp: &mut Stamp,
     size: &mut u64,
     row: &mut [Node<K, V>; 32],
-    key: &K,
+    key: Q,
     path: Path,
     new_stamp: Stamp,
     level: u32,
     condition: &C,
 ) -> Result<TakenInside<K, V>, NoMemory>
-    requires path { path.0 ≡ K.path_of key.now }
+    requires path { path.0 ≡ K.path_of (Q.key_of key) }
     requires trie { IsTrie K.cmp K.path_of level (branch_of stamp.old.0 (in_row size.old bitmap.old row.old)) }
-    ensures ok { IfOk result (λ r. TakesInside K.cmp K.path_of level new_stamp.0 key.now (C.holds condition.now) (branch_of stamp.old.0 (in_row size.old bitmap.old row.old)) r (branch_of stamp.new.0 (in_row size.new bitmap.new row.new))) }
-    ensures due { OnErr result (is_some (first_of K.cmp key.now (entries (branch_of stamp.old.0 (in_row size.old bitmap.old row.old)))) ≡ true) }
+    ensures ok { IfOk result (λ r. TakesInside K.cmp K.path_of level new_stamp.0 (Q.key_of key) (C.holds condition.now) (branch_of stamp.old.0 (in_row size.old bitmap.old row.old)) r (branch_of stamp.new.0 (in_row size.new bitmap.new row.new))) }
+    ensures due { OnErr result (is_some (first_of K.cmp (Q.key_of key) (entries (branch_of stamp.old.0 (in_row size.old bitmap.old row.old)))) ≡ true) }
     ensures err { OnErr result (branch_of stamp.new.0 (in_row size.new bitmap.new row.new) ≡ branch_of stamp.old.0 (in_row size.old bitmap.old row.old)) }
 {
     remove_in_branch(
@@ -315,22 +315,22 @@ fn remove_in_all<K: PathKey + Drop, V: Drop, C: Condition<V>>(
 
 /// The removal of the key from a branch whose row nobody else holds.
 #[cycle(remove_in)]
-fn remove_in_branch<K: PathKey + Drop, V: Drop, C: Condition<V>>(
+fn remove_in_branch<K: PathKey + Drop, V: Drop, Q: Sought<K>, C: Condition<V>>(
     alloc: Global,
     bitmap: &mut u32,
     stamp: &mut Stamp,
     size: &mut u64,
     row: &mut [Node<K, V>],
-    key: &K,
+    key: Q,
     path: Path,
     new_stamp: Stamp,
     level: u32,
     condition: &C,
 ) -> Result<TakenInside<K, V>, NoMemory>
-    requires path { path.0 ≡ K.path_of key.now }
+    requires path { path.0 ≡ K.path_of (Q.key_of key) }
     requires trie { IsTrie K.cmp K.path_of level (branch_of stamp.old.0 (in_row size.old bitmap.old row.old)) }
-    ensures ok { IfOk result (λ r. TakesInside K.cmp K.path_of level new_stamp.0 key.now (C.holds condition.now) (branch_of stamp.old.0 (in_row size.old bitmap.old row.old)) r (branch_of stamp.new.0 (in_row size.new bitmap.new row.new))) }
-    ensures due { OnErr result (is_some (first_of K.cmp key.now (entries (branch_of stamp.old.0 (in_row size.old bitmap.old row.old)))) ≡ true) }
+    ensures ok { IfOk result (λ r. TakesInside K.cmp K.path_of level new_stamp.0 (Q.key_of key) (C.holds condition.now) (branch_of stamp.old.0 (in_row size.old bitmap.old row.old)) r (branch_of stamp.new.0 (in_row size.new bitmap.new row.new))) }
+    ensures due { OnErr result (is_some (first_of K.cmp (Q.key_of key) (entries (branch_of stamp.old.0 (in_row size.old bitmap.old row.old)))) ≡ true) }
     ensures err { OnErr result (branch_of stamp.new.0 (in_row size.new bitmap.new row.new) ≡ branch_of stamp.old.0 (in_row size.old bitmap.old row.old)) }
 {
     let digit = path.digit(level);
@@ -357,42 +357,42 @@ fn remove_in_branch<K: PathKey + Drop, V: Drop, C: Condition<V>>(
 /// Removes the key, where it is there and the condition holds of its value. The root is written
 /// where it stands as far as nobody else holds the nodes of the key's way. After want of memory it
 /// is as before.
-pub fn remove_in_where<K: PathKey + Drop, V: Drop, C: Condition<V>>(
+pub fn remove_in_where<K: PathKey + Drop, V: Drop, Q: Sought<K>, C: Condition<V>>(
     alloc: Global,
     node: &mut Node<K, V>,
-    key: &K,
+    key: Q,
     stamp: Stamp,
     condition: &C,
 ) -> Result<Done<V>, NoMemory>
     requires root { IsRoot K.cmp K.path_of (tree node.old) }
-    ensures previous { IfOk result (λ d. option_map arc_value d.previous ≡ value_at K.cmp (map_of K.cmp (tree node.old)) key.now) }
-    ensures written { IfOk result (λ d. d.written ≡ (is_some (value_at K.cmp (map_of K.cmp (tree node.old)) key.now) && C.holds condition.now (value_at K.cmp (map_of K.cmp (tree node.old)) key.now))) }
-    ensures removed { IfOk result (λ d. d.written ≡ true → IsRemoval K.cmp K.path_of stamp.0 key.now (tree node.old) (tree node.new)) }
+    ensures previous { IfOk result (λ d. option_map arc_value d.previous ≡ value_at K.cmp (map_of K.cmp (tree node.old)) (Q.key_of key)) }
+    ensures written { IfOk result (λ d. d.written ≡ (is_some (value_at K.cmp (map_of K.cmp (tree node.old)) (Q.key_of key)) && C.holds condition.now (value_at K.cmp (map_of K.cmp (tree node.old)) (Q.key_of key)))) }
+    ensures removed { IfOk result (λ d. d.written ≡ true → IsRemoval K.cmp K.path_of stamp.0 (Q.key_of key) (tree node.old) (tree node.new)) }
     ensures kept { IfOk result (λ d. d.written ≡ false → tree node.new ≡ tree node.old) }
     // An error comes only where the key is there, and its value is to be handed out.
-    ensures due { OnErr result (is_some (value_at K.cmp (map_of K.cmp (tree node.old)) key.now) ≡ true) }
+    ensures due { OnErr result (is_some (value_at K.cmp (map_of K.cmp (tree node.old)) (Q.key_of key)) ≡ true) }
     ensures err { OnErr result (tree node.new ≡ tree node.old) }
 {
-    remove_in_where_along(alloc, node, key, key.path(), stamp, condition)
+    remove_in_where_along(alloc, node, key, key.path_sought(), stamp, condition)
 }
 
 /// `remove_in_where`, where the caller has the key's path word already: the key is not hashed again.
-pub fn remove_in_where_along<K: PathKey + Drop, V: Drop, C: Condition<V>>(
+pub fn remove_in_where_along<K: PathKey + Drop, V: Drop, Q: Sought<K>, C: Condition<V>>(
     alloc: Global,
     node: &mut Node<K, V>,
-    key: &K,
+    key: Q,
     path: Path,
     stamp: Stamp,
     condition: &C,
 ) -> Result<Done<V>, NoMemory>
     requires root { IsRoot K.cmp K.path_of (tree node.old) }
-    requires path { path.0 ≡ K.path_of key.now }
-    ensures previous { IfOk result (λ d. option_map arc_value d.previous ≡ value_at K.cmp (map_of K.cmp (tree node.old)) key.now) }
-    ensures written { IfOk result (λ d. d.written ≡ (is_some (value_at K.cmp (map_of K.cmp (tree node.old)) key.now) && C.holds condition.now (value_at K.cmp (map_of K.cmp (tree node.old)) key.now))) }
-    ensures removed { IfOk result (λ d. d.written ≡ true → IsRemoval K.cmp K.path_of stamp.0 key.now (tree node.old) (tree node.new)) }
+    requires path { path.0 ≡ K.path_of (Q.key_of key) }
+    ensures previous { IfOk result (λ d. option_map arc_value d.previous ≡ value_at K.cmp (map_of K.cmp (tree node.old)) (Q.key_of key)) }
+    ensures written { IfOk result (λ d. d.written ≡ (is_some (value_at K.cmp (map_of K.cmp (tree node.old)) (Q.key_of key)) && C.holds condition.now (value_at K.cmp (map_of K.cmp (tree node.old)) (Q.key_of key)))) }
+    ensures removed { IfOk result (λ d. d.written ≡ true → IsRemoval K.cmp K.path_of stamp.0 (Q.key_of key) (tree node.old) (tree node.new)) }
     ensures kept { IfOk result (λ d. d.written ≡ false → tree node.new ≡ tree node.old) }
     // An error comes only where the key is there, and its value is to be handed out.
-    ensures due { OnErr result (is_some (value_at K.cmp (map_of K.cmp (tree node.old)) key.now) ≡ true) }
+    ensures due { OnErr result (is_some (value_at K.cmp (map_of K.cmp (tree node.old)) (Q.key_of key)) ≡ true) }
     ensures err { OnErr result (tree node.new ≡ tree node.old) }
 {
     match remove_in_at(alloc, node, key, path, stamp, 0, condition)? {
@@ -410,19 +410,19 @@ pub fn remove_in_where_along<K: PathKey + Drop, V: Drop, C: Condition<V>>(
 
 /// Removes the key, if it is there. The root is written where it stands as far as nobody else
 /// holds the nodes of the key's way. After want of memory it is as before.
-pub fn remove_in<K: PathKey + Drop, V: Drop>(
+pub fn remove_in<K: PathKey + Drop, V: Drop, Q: Sought<K>>(
     alloc: Global,
     node: &mut Node<K, V>,
-    key: &K,
+    key: Q,
     stamp: Stamp,
 ) -> Result<(), NoMemory>
     requires root { IsRoot K.cmp K.path_of (tree node.old) }
     ensures root { OnOk result (IsRoot K.cmp K.path_of (tree node.new)) }
-    ensures map { OnOk result (map_of K.cmp (tree node.new) ≡ without K.cmp (map_of K.cmp (tree node.old)) key.now) }
+    ensures map { OnOk result (map_of K.cmp (tree node.new) ≡ without K.cmp (map_of K.cmp (tree node.old)) (Q.key_of key)) }
 
     // The nodes of the key's path get the stamp, where the key is there. Else no node changes.
-    ensures stamps { OnOk result (is_some (value_at K.cmp (map_of K.cmp (tree node.old)) key.now) ≡ true → Restamps stamp.0 (word_of K.path_of key.now) (nodes (word_of K.path_of) (tree node.old)) (nodes (word_of K.path_of) (tree node.new))) }
-    ensures absent { OnOk result (value_at K.cmp (map_of K.cmp (tree node.old)) key.now ≡ None → tree node.new ≡ tree node.old) }
+    ensures stamps { OnOk result (is_some (value_at K.cmp (map_of K.cmp (tree node.old)) (Q.key_of key)) ≡ true → Restamps stamp.0 (word_of K.path_of (Q.key_of key)) (nodes (word_of K.path_of) (tree node.old)) (nodes (word_of K.path_of) (tree node.new))) }
+    ensures absent { OnOk result (value_at K.cmp (map_of K.cmp (tree node.old)) (Q.key_of key) ≡ None → tree node.new ≡ tree node.old) }
     ensures err { OnErr result (tree node.new ≡ tree node.old) }
 {
     remove_in_where(alloc, node, key, stamp, &Always)?;

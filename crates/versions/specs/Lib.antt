@@ -3,3 +3,4 @@ pub mod Commands
 pub mod Contents
 pub mod Puts
 pub mod Changes
+pub mod TreeCode

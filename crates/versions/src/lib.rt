@@ -11,6 +11,7 @@ mod change;
 mod laws;
 mod refusal;
 mod room;
+mod root;
 mod version;
 mod view;
 

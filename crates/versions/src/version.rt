@@ -13,6 +13,7 @@ mod along;
 
 use crate::change::Change;
 use crate::refusal::Refusal;
+use crate::root::Root;
 use crate::view::View;
 use generation::Source;
 use hash_path::{PathKey, Sought};
@@ -29,7 +30,7 @@ pub const MOST_PAIRS: u64 = 16_777_216;
 /// A write changes the nodes of one path, and copies those of them that forks and views share.
 #[derive(Drop)]
 pub struct Version<K: PathKey, V> {
-    root: Node<K, V>,
+    root: Root<K, V>,
     limit: u64,
     stamp: Stamp,
 }
@@ -38,15 +39,14 @@ impl<K: PathKey, V> Model for Version<K, V> {
     ghost use Rattle.std.specs.Prelude.{◌≤◌, length};
     ghost use Rattle.trie_shape.specs.Roots.{IsRoot, map_of, word_of};
     ghost use Rattle.trie_shape.specs.Shape.{NoneAbove, nodes};
-    ghost use Rattle.trie_shape.specs.View.{tree};
     ghost use Rattle.versions.specs.Contents.{Contents};
     ghost use Rattle.versions.specs.declared.version.TheConstants.{MOST_PAIRS};
 
     ghost Value = { Contents K V };
 
-    ghost view = { λ a. record { entries = map_of K.cmp (tree a.root); limit = a.limit; stamp = a.stamp.0; nodes = nodes (word_of K.path_of) (tree a.root) } };
+    ghost view = { λ a. record { entries = map_of K.cmp a.root; limit = a.limit; stamp = a.stamp.0; nodes = nodes (word_of K.path_of) a.root } };
 
-    ghost invariant = { λ a. IsRoot K.cmp K.path_of (tree a.root) × (length (map_of K.cmp (tree a.root)) ≤ a.limit) × (1 ≤ a.limit) × (a.limit ≤ MOST_PAIRS) × NoneAbove a.stamp.0 (nodes (word_of K.path_of) (tree a.root)) };
+    ghost invariant = { λ a. IsRoot K.cmp K.path_of a.root × (length (map_of K.cmp a.root) ≤ a.limit) × (1 ≤ a.limit) × (a.limit ≤ MOST_PAIRS) × NoneAbove a.stamp.0 (nodes (word_of K.path_of) a.root) };
 }
 
 impl<K: PathKey + Drop, V: Drop> Version<K, V> {
@@ -60,7 +60,7 @@ impl<K: PathKey + Drop, V: Drop> Version<K, V> {
         ensures nodes { IfOk result (λ version. version.nodes ≡ ([], stamp.0) ∷ []) }
     {
         Ok(Version {
-            root: trie_node::empty_root(alloc, stamp)?,
+            root: Root::new(trie_node::empty_root(alloc, stamp)?),
             limit,
             stamp,
         })
@@ -79,7 +79,11 @@ impl<K: PathKey + Drop, V: Drop> Version<K, V> {
         ensures stamp { result.stamp ≡ stamp.0 }
         ensures nodes { result.nodes ≡ nodes (word_of K.path_of) (tree root) }
     {
-        Version { root, limit, stamp }
+        Version {
+            root: Root::new(root),
+            limit,
+            stamp,
+        }
     }
 
     /// The value of the key, or none. It takes no memory.
@@ -103,7 +107,7 @@ impl<K: PathKey + Drop, V: Drop> Version<K, V> {
         ensures sorted { IsMap K.cmp self.now.entries }
     {
         root_is_map::<K, V>();
-        trie_node::size(&self.root)
+        trie_node::size(self.root.node())
     }
 
     /// Whether there is no pair. It takes no memory.
@@ -136,7 +140,7 @@ impl<K: PathKey + Drop, V: Drop> Version<K, V> {
         ensures entries { map_of K.cmp (tree result.now) ≡ self.now.entries }
         ensures nodes { nodes (word_of K.path_of) (tree result.now) ≡ self.now.nodes }
     {
-        &self.root
+        self.root.node()
     }
 
     /// How many nodes carry the version's own stamp. It takes no memory.
@@ -144,7 +148,7 @@ impl<K: PathKey + Drop, V: Drop> Version<K, V> {
         ensures { result ≡ own_count self.now.stamp self.now.nodes }
     {
         root_has_few_nodes::<K, V>();
-        generation::own_nodes(&self.root, self.stamp)
+        generation::own_nodes(self.root.node(), self.stamp)
     }
 
     /// Maps the key to the value, and answers the value before, or none.
@@ -195,36 +199,40 @@ impl<K: PathKey + Drop, V: Drop> Version<K, V> {
 
     /// Removes the key, and answers the value before, or none. It is refused for want of memory alone, and the map
     /// is then as before. Where the key is absent no node is copied.
-    pub fn remove(&mut self, alloc: Global, key: &K) -> Result<Option<Arc<V>>, NoMemory>
-        ensures before { IfOk result (λ before. option_map arc_value before ≡ value_at K.cmp self.old.entries key.now) }
-        ensures entries { OnOk result (self.new.entries ≡ without K.cmp self.old.entries key.now) }
+    pub fn remove<Q: Sought<K>>(
+        &mut self,
+        alloc: Global,
+        key: Q,
+    ) -> Result<Option<Arc<V>>, NoMemory>
+        ensures before { IfOk result (λ before. option_map arc_value before ≡ value_at K.cmp self.old.entries (Q.key_of key)) }
+        ensures entries { OnOk result (self.new.entries ≡ without K.cmp self.old.entries (Q.key_of key)) }
         ensures limit { self.new.limit ≡ self.old.limit }
         ensures stamp { self.new.stamp ≡ self.old.stamp }
-        ensures nodes { OnOk result (RestampsIf (is_some (value_at K.cmp self.old.entries key.now)) self.old.stamp (word_of K.path_of key.now) self.old.nodes self.new.nodes) }
+        ensures nodes { OnOk result (RestampsIf (is_some (value_at K.cmp self.old.entries (Q.key_of key))) self.old.stamp (word_of K.path_of (Q.key_of key)) self.old.nodes self.new.nodes) }
         ensures err { OnErr result (self.new ≡ self.old) }
     {
-        self.remove_along(alloc, key, key.path())
+        self.remove_along(alloc, key, key.path_sought())
     }
 
     /// Removes the key where it is there and the condition holds of its value, and answers the value that it had and
     /// whether the map was written. It walks down the trie once. Where the map is not written no node is copied.
     ///
     /// It is refused for want of memory alone, and the map is then as before.
-    pub fn remove_where<C: Condition<V>>(
+    pub fn remove_where<Q: Sought<K>, C: Condition<V>>(
         &mut self,
         alloc: Global,
-        key: &K,
+        key: Q,
         condition: &C,
     ) -> Result<Change<V>, NoMemory>
-        ensures before { IfOk result (λ change. option_map arc_value change.previous ≡ value_at K.cmp self.old.entries key.now) }
-        ensures done { IfOk result (λ change. change.done ≡ (is_some (value_at K.cmp self.old.entries key.now) && C.holds condition.now (value_at K.cmp self.old.entries key.now))) }
-        ensures entries { IfOk result (λ change. self.new.entries ≡ (if change.done then without K.cmp self.old.entries key.now else self.old.entries)) }
+        ensures before { IfOk result (λ change. option_map arc_value change.previous ≡ value_at K.cmp self.old.entries (Q.key_of key)) }
+        ensures done { IfOk result (λ change. change.done ≡ (is_some (value_at K.cmp self.old.entries (Q.key_of key)) && C.holds condition.now (value_at K.cmp self.old.entries (Q.key_of key)))) }
+        ensures entries { IfOk result (λ change. self.new.entries ≡ (if change.done then without K.cmp self.old.entries (Q.key_of key) else self.old.entries)) }
         ensures limit { self.new.limit ≡ self.old.limit }
         ensures stamp { self.new.stamp ≡ self.old.stamp }
-        ensures nodes { IfOk result (λ change. RestampsIf change.done self.old.stamp (word_of K.path_of key.now) self.old.nodes self.new.nodes) }
+        ensures nodes { IfOk result (λ change. RestampsIf change.done self.old.stamp (word_of K.path_of (Q.key_of key)) self.old.nodes self.new.nodes) }
         ensures err { OnErr result (self.new ≡ self.old) }
     {
-        self.remove_where_along(alloc, key, key.path(), condition)
+        self.remove_where_along(alloc, key, key.path_sought(), condition)
     }
 
     /// Removes all pairs, which leaves one node, with the version's stamp. It is refused for want of memory alone,
@@ -236,7 +244,7 @@ impl<K: PathKey + Drop, V: Drop> Version<K, V> {
         ensures nodes { OnOk result (self.new.nodes ≡ ([], self.old.stamp) ∷ []) }
         ensures err { OnErr result (self.new ≡ self.old) }
     {
-        self.root = trie_node::empty_root(alloc, self.stamp)?;
+        self.root = Root::new(trie_node::empty_root(alloc, self.stamp)?);
         Ok(())
     }
 

@@ -5,6 +5,7 @@ ghost use Rattle.trie_shape.specs.View.{tree};
 ghost use Rattle.versions.specs.Map.{IsMap, value_at};
 ghost use Rattle.versions.specs.declared.version.TheConstants.{MOST_PAIRS};
 
+use crate::root::Root;
 use hash_path::{PathKey, Sought};
 use std::marker::Model;
 use std::sync::Arc;
@@ -13,21 +14,20 @@ use trie_node::{NoMemory, Node, root_is_map};
 /// A map that never changes, as it stood when the view was taken. Any number of threads may read it.
 #[derive(Drop)]
 pub struct View<K: PathKey, V> {
-    pub(crate) root: Node<K, V>,
+    pub(crate) root: Root<K, V>,
 }
 
 impl<K: PathKey, V> Model for View<K, V> {
     ghost use Rattle.std.specs.Prelude.{◌≤◌, length};
     ghost use Rattle.trie_shape.specs.Roots.{IsRoot, map_of};
-    ghost use Rattle.trie_shape.specs.View.{tree};
     ghost use Rattle.versions.specs.Map.{Map};
     ghost use Rattle.versions.specs.declared.version.TheConstants.{MOST_PAIRS};
 
     ghost Value = { Map K V };
 
-    ghost view = { λ a. map_of K.cmp (tree a.root) };
+    ghost view = { λ a. map_of K.cmp a.root };
 
-    ghost invariant = { λ a. IsRoot K.cmp K.path_of (tree a.root) × (length (map_of K.cmp (tree a.root)) ≤ MOST_PAIRS) };
+    ghost invariant = { λ a. IsRoot K.cmp K.path_of a.root × (length (map_of K.cmp a.root) ≤ MOST_PAIRS) };
 }
 
 impl<K: PathKey, V> View<K, V> {
@@ -35,7 +35,7 @@ impl<K: PathKey, V> View<K, V> {
     pub fn get<Q: Sought<K>>(&self, key: Q) -> Option<&Arc<V>>
         ensures { option_map (λ value. value.now.value) result ≡ value_at K.cmp self.now (Q.key_of key) }
     {
-        trie_node::find(&self.root, key)
+        trie_node::find(self.root.node(), key)
     }
 
     /// Whether the key has a value. It takes no memory.
@@ -52,7 +52,7 @@ impl<K: PathKey, V> View<K, V> {
         ensures sorted { IsMap K.cmp self.now }
     {
         root_is_map::<K, V>();
-        trie_node::size(&self.root)
+        trie_node::size(self.root.node())
     }
 
     /// Whether there is no pair. It takes no memory.
@@ -67,7 +67,7 @@ impl<K: PathKey, V> View<K, V> {
         ensures root { IsRoot K.cmp K.path_of (tree result.now) }
         ensures entries { map_of K.cmp (tree result.now) ≡ self.now }
     {
-        &self.root
+        self.root.node()
     }
 }
 

@@ -9,7 +9,7 @@ ghost use Rattle.versions.specs.Puts.{FullExactly};
 
 use super::{MOST_PAIRS_OF_STRIPE, Stripe};
 use crate::keeps::Keeps;
-use hash_path::{Path, PathKey};
+use hash_path::{Path, PathKey, Sought};
 use std::alloc::Global;
 use std::sync::Arc;
 use trie_node::NoMemory;
@@ -94,20 +94,20 @@ impl<K: PathKey + Drop, V: Drop, P: Keeps<K, V>> Stripe<K, V, P> {
     /// Removes the key where it has a value of which the test holds, and answers the value that was removed, or none.
     ///
     /// It is refused for want of memory alone. The test has run then, and the stripe is as before.
-    pub fn remove_passing<F: FnOnce(&V) -> bool>(
+    pub fn remove_passing<Q: Sought<K>, F: FnOnce(&V) -> bool>(
         &mut self,
         alloc: Global,
-        key: &K,
+        key: Q,
         path: Path,
         test: F,
     ) -> Result<Option<Arc<V>>, NoMemory>
-        requires path { path.0 ≡ K.path_of key.now }
-        requires place { digit_of K.path_of key.now ≡ self.old.digit }
-        requires callable { (value : _) → P.holds key.now value.now → F.pre test value }
-        ensures removed { (passes : Bool) × MayPass F.FnOnce test (value_at K.cmp self.old.entries key.now) passes × OnOk result (self.new.entries ≡ (if passes then without K.cmp self.old.entries key.now else self.old.entries)) × IfOk result (λ removed. option_map arc_value removed ≡ value_if K.cmp passes self.old.entries key.now) }
+        requires path { path.0 ≡ K.path_of (Q.key_of key) }
+        requires place { digit_of K.path_of (Q.key_of key) ≡ self.old.digit }
+        requires callable { (value : _) → P.holds (Q.key_of key) value.now → F.pre test value }
+        ensures removed { (passes : Bool) × MayPass F.FnOnce test (value_at K.cmp self.old.entries (Q.key_of key)) passes × OnOk result (self.new.entries ≡ (if passes then without K.cmp self.old.entries (Q.key_of key) else self.old.entries)) × IfOk result (λ removed. option_map arc_value removed ≡ value_if K.cmp passes self.old.entries (Q.key_of key)) }
         ensures digit { self.new.digit ≡ self.old.digit }
         ensures err { OnErr result (self.new ≡ self.old) }
-        ensures kept { IfOk result (λ removed. IfSome removed (λ value. P.holds key.now value.value)) }
+        ensures kept { IfOk result (λ removed. IfSome removed (λ value. P.holds (Q.key_of key) value.value)) }
     {
         if self.passes(key, path, test) {
             self.remove(alloc, key, path)

@@ -25,11 +25,11 @@ impl<K: PathKey + Drop, V: Drop, P: Keeps<K, V>> Stripe<K, V, P> {
     }
 
     /// Whether the key has a value, and the test holds of it.
-    pub fn passes<F: FnOnce(&V) -> bool>(&self, key: &K, path: Path, test: F) -> bool
-        requires path { path.0 ≡ K.path_of key.now }
-        requires place { digit_of K.path_of key.now ≡ self.now.digit }
-        requires callable { (value : _) → P.holds key.now value.now → F.pre test value }
-        ensures { MayPass F.FnOnce test (value_at K.cmp self.now.entries key.now) result }
+    pub fn passes<Q: Sought<K>, F: FnOnce(&V) -> bool>(&self, key: Q, path: Path, test: F) -> bool
+        requires path { path.0 ≡ K.path_of (Q.key_of key) }
+        requires place { digit_of K.path_of (Q.key_of key) ≡ self.now.digit }
+        requires callable { (value : _) → P.holds (Q.key_of key) value.now → F.pre test value }
+        ensures { MayPass F.FnOnce test (value_at K.cmp self.now.entries (Q.key_of key)) result }
     {
         match self.value(key, path) {
             Some(value) => test(value),

@@ -69,7 +69,7 @@ const TEXT: &[u8] = b"{\"call\":\"open 1\",\"entry\":1,\"reply\":\"ok\",\"seat\"
 {\"entries\":10}
 ";
 
-/// It catches a line that is lost where memory is wanting.
+/// It catches a line that is lost if memory runs out.
 #[test]
 fn a_text_is_refused_at_each_request(rt: HostRuntime) {
     let journal = journal_of(&rt, SCRIPT);

@@ -182,7 +182,7 @@ fn refusals<R: Abort + Threads + Wait + Sync>(
 
 // With each try a request more is met. No thread is started in what little there is, so the clients are run one after
 // another by the caller, and the pieces of their crews are left to them. It catches a run that loses a line, a piece or
-// an entry where memory is wanting, one that writes before all replies are there, and one that takes want of memory for
+// an entry if memory runs out, one that writes before all replies are there, and one that takes want of memory for
 // a reply.
 #[test]
 fn a_run_is_refused_at_each_request(rt: HostRuntime) {
@@ -281,7 +281,7 @@ impl<R: Wait> LineGate for Taker<'_, R> {
     }
 }
 
-// What the run came to where memory is wanting from a line on until another one.
+// What the run came to if memory runs out from a line on until another one.
 fn is_run_without<R: Threads + Wait + Sync>(
     rt: &R,
     alloc: Global,

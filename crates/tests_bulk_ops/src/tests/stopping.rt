@@ -14,8 +14,8 @@ use versions::View;
 
 // Its part is the number of pairs that it was given. It is settled at once, or never.
 #[derive(Drop)]
-struct Given {
-    settled: bool,
+pub(super) struct Given {
+    pub(super) settled: bool,
 }
 
 impl Bulk<ChosenKey, i64> for Given {

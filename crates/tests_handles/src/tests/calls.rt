@@ -1,7 +1,7 @@
 //! Calls and their refusals. Replies and refusals under the largest limits are cases of the built program.
 
 use super::{LARGEST, Row, assert_entries, assert_is, assert_new, assert_rows, table_of};
-use crate::asking::Asking;
+use crate::asking::{Ask, Asking};
 use crate::steps::{Act, Do, command_of};
 use crate::told::{Told, call_told, value_in};
 use handles::{Call, CallReply, Limits};
@@ -162,6 +162,24 @@ fn each_live_handle_has_a_stamp_of_its_own(rt: HostRuntime) {
     assert_rows(&rt, rt.alloc(), &mut table, &rows);
     assert_is(&rt, table.places().len(), 1024);
     assert_stamps(&rt, &table, [4, 3, 5]);
+}
+
+// A command leaves its map's stamp. The target of a finish gets the one that is issued next.
+#[test]
+fn a_target_has_the_next_stamp(rt: HostRuntime) {
+    let mut table = table_of(&rt, rt.alloc(), LARGEST);
+    let rows = [
+        (Do::Open(1), Told::Unit),
+        (Do::Snapshot(1, 2), Told::Unit),
+        (Do::On(1, Act::Put(97, 4)), Told::Old(None)),
+        (
+            Do::Freeze(1, Ask::Filter(4, 4, 5)),
+            Told::Frozen(0, 1, Some(4)),
+        ),
+        (Do::Finish(0), Told::Made(1)),
+    ];
+    assert_rows(&rt, rt.alloc(), &mut table, &rows);
+    assert_stamps(&rt, &table, [2, 3, 4]);
 }
 
 // What the calls are answered as a list: an open, the size of the handle 1, a snapshot of it, and the same once more.

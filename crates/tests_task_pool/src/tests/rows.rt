@@ -71,6 +71,36 @@ fn two_pieces_start_two_workers(rt: HostRuntime) {
     assert_is(&rt, counted, Ok((Some(64), (2, 17, false), 0)));
 }
 
+// One worker.
+fn one() -> Crew
+    ensures { result ≡ record { workers = 1; grain = 1; patience = 1000 } }
+{
+    Crew {
+        workers: 1,
+        grain: 1,
+        patience: 1000,
+    }
+}
+
+// A crew of one lists each piece for its worker, and none for the caller on whose thread it runs.
+#[test]
+fn one_worker_works_all_pieces(rt: HostRuntime) {
+    let alloc = rt.alloc();
+    let view = seen(&rt, alloc, 64, false);
+    let counted = counted(&rt, alloc, &view, one(), &Free, 1);
+    assert_is(&rt, counted, Ok((Some(64), (64, 2, false), 0)));
+}
+
+// It ends at the first piece whose part is settled.
+#[test]
+fn one_worker_ends_once_it_is_settled(rt: HostRuntime) {
+    let alloc = rt.alloc();
+    let view = seen(&rt, alloc, 64, false);
+    let query = Asked::Exists(all());
+    let report = run_crew(&rt, alloc, &view, &query, one(), &Free).expect(&rt, "no report");
+    assert_is(&rt, listed(&report), (1, 2, false));
+}
+
 // What a crew of a number of workers may be set up as.
 #[test]
 fn a_crew_has_at_least_one_worker_and_at_most_sixteen(rt: HostRuntime) {

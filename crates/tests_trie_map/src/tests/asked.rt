@@ -2,6 +2,7 @@
 use super::{Map, Seen, assert_is, empty, key, put, view_of};
 use std::process::Abort;
 use std::sync::Wait;
+use std::sync::atomic::{AtomicU32, Ordering};
 use trie_map::{Greatest, Least, NoMemory, Sum};
 
 // A map of ten keys in three stripes; the value of each is its number.
@@ -92,6 +93,32 @@ fn a_pair_that_passes_is_found(rt: HostRuntime) {
     let view = view_of(&rt, &ten(&rt));
     assert_is(&rt, found_above(&view, 8), Ok(Some((9, 9))));
     assert_is(&rt, found_above(&view, 9), Ok(None));
+}
+
+// An answer, which is counted.
+fn counted(count: &AtomicU32, answer: bool) -> bool {
+    count.fetch_add(1, Ordering::SeqCst);
+    answer
+}
+
+// How often a test that answers so of each pair is called by an exists, by a for-all and by a search.
+fn calls(view: &Seen, answer: bool) -> [u32; 3] {
+    let (some, all, found) = (AtomicU32::new(0), AtomicU32::new(0), AtomicU32::new(0));
+    view.exists(|_, _| counted(&some, answer));
+    view.for_all(|_, _| counted(&all, answer));
+    let _ = view.find(|_, _| counted(&found, answer));
+    [
+        some.load(Ordering::SeqCst),
+        all.load(Ordering::SeqCst),
+        found.load(Ordering::SeqCst),
+    ]
+}
+
+#[test]
+fn a_question_ends_where_it_is_settled(rt: HostRuntime) {
+    let view = view_of(&rt, &ten(&rt));
+    assert_is(&rt, calls(&view, true), [1, 10, 1]);
+    assert_is(&rt, calls(&view, false), [10, 1, 10]);
 }
 
 #[test]

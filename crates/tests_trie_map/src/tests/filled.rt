@@ -1,6 +1,9 @@
 //! Maps that are filled with many pairs.
 use super::{Map, assert_is, at, empty, key, plain};
+use std::alloc::Global;
+use std::process::Abort;
 use std::sync::Wait;
+use test_keys::ChosenKey;
 use trie_map::{Anything, PutError, TrieMap};
 
 // How many pairs there are.
@@ -11,6 +14,25 @@ fn a_map_is_extended_by_an_iterator(rt: HostRuntime) {
     let map = empty(&rt);
     let pairs = (0..MANY).map(|id| (key(id % 1_000, id), u64::from(id)));
     assert_is(&rt, map.extend_from(&rt, pairs), Ok(()));
+    assert_is(&rt, map.len(&rt), 100_000);
+    assert_is(&rt, at(&rt, &map, key(999, 99_999)), Some(99_999));
+}
+
+// Many pairs in a vector.
+fn many(rt: &impl Abort, alloc: Global) -> Vec<(ChosenKey, u64)> {
+    let mut pairs = Vec::new(alloc);
+    for id in 0..MANY {
+        let pair = (key(id % 1_000, id), u64::from(id));
+        pairs.push(pair).expect(rt, "no room");
+    }
+    pairs
+}
+
+#[test]
+fn a_map_is_extended_by_a_vector(rt: HostRuntime) {
+    let map = empty(&rt);
+    let pairs = many(&rt, rt.alloc());
+    assert_is(&rt, map.extend(&rt, pairs), Ok(()));
     assert_is(&rt, map.len(&rt), 100_000);
     assert_is(&rt, at(&rt, &map, key(999, 99_999)), Some(99_999));
 }

@@ -18,6 +18,8 @@ enum Calls {
     PutAndRemove,
     // The same, where its value passes a test.
     PutAndRemoveWhere,
+    // Put it, replace it where it is present, and remove it.
+    PutReplaceAndRemove,
     // Make its value one more where it is the one that was read.
     Replace,
     // Draw numbers from it.
@@ -49,6 +51,13 @@ fn put_and_remove_where<R: Wait>(rt: &R, map: &Map) -> Told {
     let added = one_if(map.put_if_absent(rt, the_key(), 1)?.is_none());
     let removed = map.remove_where(rt, &the_key(), |value| *value == 1)?;
     Ok(added.wrapping_sub(one_if(removed.is_some())))
+}
+
+fn put_replace_and_remove<R: Wait>(rt: &R, map: &Map) -> Told {
+    let added = one_if(map.put(rt, the_key(), 1)?.is_none());
+    map.replace(rt, the_key(), 2)?;
+    let removed = one_if(map.remove(rt, &the_key())?.is_some());
+    Ok(added.wrapping_sub(removed))
 }
 
 // 1 where this thread made the value one more.
@@ -87,6 +96,7 @@ fn call<R: Wait>(rt: &R, map: &Map, calls: Calls) -> Told {
     match calls {
         Calls::PutAndRemove => put_and_remove(rt, map),
         Calls::PutAndRemoveWhere => put_and_remove_where(rt, map),
+        Calls::PutReplaceAndRemove => put_replace_and_remove(rt, map),
         Calls::Replace => replace(rt, map),
         Calls::Draw => draw(rt, map),
         Calls::Enter => enter(rt, map),
@@ -119,7 +129,11 @@ fn told<R: AllocGlobal + Threads + Wait + Abort + Sync>(rt: &R, map: &Map, calls
 
 #[test]
 fn what_is_added_is_removed_once(rt: HostRuntime) {
-    for calls in [Calls::PutAndRemove, Calls::PutAndRemoveWhere] {
+    for calls in [
+        Calls::PutAndRemove,
+        Calls::PutAndRemoveWhere,
+        Calls::PutReplaceAndRemove,
+    ] {
         let map = empty(&rt);
         let left = told(&rt, &map, calls);
         assert_eq!(rt; left, map.len(&rt), "{calls:?}");

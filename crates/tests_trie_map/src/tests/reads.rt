@@ -3,7 +3,7 @@ use super::{Map, assert_is, empty, key, put, view_of};
 use std::alloc::AllocError;
 use std::process::Abort;
 use std::sync::Wait;
-use trie_map::{ByteText, NoMemory, PutError, TrieMap, View};
+use trie_map::{TrieMap, View};
 
 // Whether `look` was given a value, and what it makes of it.
 fn looked<R: Wait>(rt: &R, map: &Map, id: u32) -> (bool, u64) {
@@ -59,38 +59,4 @@ fn a_map_and_a_view_in_text(rt: HostRuntime) {
     assert_is(&rt, map.as_str(), "TrieMap { len: 1 }");
     assert_is(&rt, view.as_str(), "{7: 70}");
     assert_is(&rt, view_of(&rt, &empty(&rt)).is_empty(), true);
-}
-
-// A map of two texts.
-fn of_texts<R: AllocGlobal + Wait>(rt: &R) -> Result<TrieMap<ByteText, u64>, PutError> {
-    let map: TrieMap<ByteText, u64> = TrieMap::new(rt)?;
-    map.put(rt, ByteText::from_text(rt.alloc(), "a")?, 4)?;
-    map.put(rt, ByteText::from_text(rt.alloc(), "ab")?, 6)?;
-    Ok(map)
-}
-
-// The value of a text, by `get`.
-fn got<R: Wait>(rt: &R, map: &TrieMap<ByteText, u64>, text: &str) -> Result<Option<u64>, NoMemory> {
-    Ok(map.get(rt, text)?.map(|value| *value))
-}
-
-#[test]
-fn a_text_is_looked_up_with_no_key_made(rt: HostRuntime) {
-    let map = of_texts(&rt).expect(&rt, "no map of texts");
-    assert_is(&rt, got(&rt, &map, "a"), Ok(Some(4)));
-    assert_is(&rt, got(&rt, &map, "b"), Ok(None));
-    let copies = ["a", "ab", "b", ""].map(|text| map.get_copied(&rt, text));
-    assert_is(&rt, copies, [Some(4), Some(6), None, None]);
-    let there = [b"ab".as_slice(), b"ba".as_slice()].map(|bytes| map.contains_key(&rt, bytes));
-    assert_is(&rt, there, [true, false]);
-    assert_is(&rt, map.read(&rt, "ab", |found| found.is_some()), true);
-}
-
-#[test]
-fn a_text_is_looked_up_in_a_view(rt: HostRuntime) {
-    let map = of_texts(&rt).expect(&rt, "no map of texts");
-    let view: View<ByteText, u64> = map.view(&rt).expect(&rt, "no view");
-    let there = ["a", "ab", "b"].map(|text| view.contains_key(text));
-    assert_is(&rt, there, [true, true, false]);
-    assert_is(&rt, view.get("ab").map(|value| **value), Some(6));
 }

@@ -1,8 +1,13 @@
 //! Closures that call the map: no lock is held while they run, or the thread would wait for itself.
-use super::{Map, assert_is, empty, key, put, view_of};
+use super::{Map, assert_is, empty, key, put};
 use std::process::Abort;
 use std::sync::Wait;
-use trie_map::{Crew, NoMemory, PutError, Sum};
+use std::thread::Threads;
+use test_keys::ChosenKey;
+use test_queries::{Values, Zero};
+use trie_map::{
+    Answer, Crew, NoImages, NoMemory, PairFn, PutError, Query, Stored, StoredTest, Sum,
+};
 
 // Puts a key of each first digit, and answers whether each was put.
 fn puts_everywhere<R: Wait>(rt: &R, map: &Map) -> bool {
@@ -39,7 +44,8 @@ fn a_test_may_put(rt: HostRuntime) {
 fn found_and_summed<R: AllocGlobal + Wait + Abort>(rt: &R) -> Result<(bool, i128), NoMemory> {
     let map = two(rt);
     let found = map.find(rt, |_, value| puts_everywhere(rt, &map) && *value == 2)?;
-    let sum = two(rt).fold(rt, &Sum, |_, value| {
+    let map = two(rt);
+    let sum = map.fold(rt, &Sum, |_, value| {
         i128::from(puts_everywhere(rt, &map)) + i128::from(*value)
     })?;
     Ok((found.is_some(), sum))
@@ -64,25 +70,106 @@ fn what_makes_a_map_may_put(rt: HostRuntime) {
     assert_is(&rt, made(&rt), Ok((2, 2)));
 }
 
-// A crew counts and adds; and pairs are retained that pass, so that the test never runs under a lock.
-#[test]
-fn a_crew_and_a_retain_may_put(rt: HostRuntime) {
-    let map = two(&rt);
-    let counted = map.par_count(&rt, |_, _| puts_everywhere(&rt, &map), Crew::of(2));
-    assert_is(&rt, counted, Ok(2));
-    let view = view_of(&rt, &two(&rt));
-    let summed = view.par_fold(
-        &rt,
+// Two workers, each of which has its pieces cut down to single pairs.
+fn two_workers() -> Crew {
+    Crew {
+        workers: 2,
+        grain: 1,
+        patience: 1_000,
+    }
+}
+
+// What a crew answers of a map of two pairs: how many pass, and the sum of the values, each one more.
+fn counted_and_summed<R: AllocGlobal + Threads + Wait + Abort + Sync>(
+    rt: &R,
+) -> Result<(u64, i128), NoMemory> {
+    let map = two(rt);
+    let counted = map.par_count(rt, |_, _| puts_everywhere(rt, &map), two_workers())?;
+    let map = two(rt);
+    let summed = map.par_fold(
+        rt,
         &Sum,
-        |_, value| i128::from(puts_everywhere(&rt, &map)) + i128::from(*value),
-        Crew::of(2),
-    );
-    assert_is(&rt, summed, Ok(5));
-    assert_is(
-        &rt,
-        map.retain(&rt, |_, _| puts_everywhere(&rt, &map)),
-        Ok(0),
-    );
+        |_, value| i128::from(puts_everywhere(rt, &map)) + i128::from(*value),
+        two_workers(),
+    )?;
+    Ok((counted, summed))
+}
+
+// How many groups the pairs of a map are in, and how many pairs are listed of another.
+fn grouped_and_ranked<R: AllocGlobal + Threads + Wait + Abort + Sync>(
+    rt: &R,
+) -> Result<(usize, usize), NoMemory> {
+    let map = two(rt);
+    let groups = map.par_group_count(
+        rt,
+        |_, _| u64::from(puts_everywhere(rt, &map)),
+        two_workers(),
+    )?;
+    let map = two(rt);
+    let ranked = map.par_top(rt, 2, |_, _| puts_everywhere(rt, &map), two_workers())?;
+    Ok((groups.len(), ranked.len()))
+}
+
+#[test]
+fn what_a_crew_works_may_put(rt: HostRuntime) {
+    assert_is(&rt, counted_and_summed(&rt), Ok((2, 5)));
+    assert_is(&rt, grouped_and_ranked(&rt), Ok((1, 2)));
+}
+
+// The test runs once more under the lock for a pair that fails, so here all pass.
+#[test]
+fn a_retain_may_put(rt: HostRuntime) {
+    let map = two(&rt);
+    let removed = map.retain(&rt, |_, _| puts_everywhere(&rt, &map));
+    assert_is(&rt, removed, Ok(0));
+}
+
+// A test that puts a key of each first digit, and passes.
+#[derive(Drop)]
+struct Puts<'a, R>(&'a R, &'a Map);
+
+impl<'a, R: Wait> PairFn<ChosenKey, u64, bool> for Puts<'a, R> {
+    ghost use Rattle.std.specs.Prelude.{◌≡◌, true};
+
+    ghost can = { λ test. Unit {0} };
+
+    ghost gives = { λ test key value passes. passes ≡ true };
+
+    fn answer(&self, _key: &ChosenKey, _value: &u64) -> bool {
+        puts_everywhere(self.0, self.1);
+        true
+    }
+}
+
+// That test, as a query asks it.
+fn putting<'a, R: Wait>(rt: &'a R, map: &'a Map) -> StoredTest<ChosenKey, u64, Puts<'a, R>> {
+    Stored::new(Puts(rt, map))
+}
+
+type Putting<'a, R> = Query<ChosenKey, u64, Puts<'a, R>, Zero, Sum, Values, NoImages>;
+
+// How many pairs pass.
+fn counted<I>(answer: &Answer<ChosenKey, u64, I>) -> u64 {
+    match answer {
+        Answer::Count(count) => *count,
+        _ => 0,
+    }
+}
+
+// What a query counts in a map of two pairs, by the calling thread and by a crew.
+fn queried<R: AllocGlobal + Threads + Wait + Abort + Sync>(rt: &R) -> Result<(u64, u64), NoMemory> {
+    let map = two(rt);
+    let query: Putting<R> = Query::Count(putting(rt, &map));
+    let (alone, _) = map.query(rt, &query)?;
+    let map = two(rt);
+    let query: Putting<R> = Query::Count(putting(rt, &map));
+    let (together, _) = map.par_query(rt, &query, two_workers())?;
+    Ok((counted(&alone), counted(&together)))
+}
+
+#[test]
+fn what_a_query_asks_may_put(rt: HostRuntime) {
+    assert_is(&rt, queried(&rt), Ok((2, 2)));
 }
 
 // The value that a key has once the closure that makes it has put others.

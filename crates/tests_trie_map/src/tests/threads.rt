@@ -65,7 +65,7 @@ fn none() -> Counts {
     }
 }
 
-// The next number of no order: xorshift.
+// The next random number: xorshift.
 fn next(state: u64) -> u64 {
     let state = state ^ (state << 13);
     let state = state ^ (state >> 7);

@@ -5,7 +5,7 @@ ghost use Rattle.stripes.specs.Updates.{MayMake, MayPass};
 
 use super::TrieMap;
 use crate::put_error::PutError;
-use hash_path::PathKey;
+use hash_path::{PathKey, Sought};
 use std::sync::{Arc, Wait};
 use stripes::Keeps;
 use trie_node::NoMemory;
@@ -101,18 +101,18 @@ impl<K: PathKey + Drop, V: Drop, P: Keeps<K, V>> TrieMap<K, V, P> {
     ///
     /// The test runs at most once, while the stripe of the key is locked, as `change` does in `update`. It is refused
     /// for want of memory alone; the test has then run, and the map is as before.
-    pub fn remove_where<R: Wait, F: FnOnce(&V) -> bool>(
+    pub fn remove_where<R: Wait, Q: Sought<K>, F: FnOnce(&V) -> bool>(
         &self,
         rt: &R,
-        key: &K,
+        key: Q,
         test: F,
     ) -> Result<Option<Arc<V>>, NoMemory>
-        requires callable { (value : _) → P.holds key.now value.now → F.pre test value }
-        ensures tested { IfOk result (λ removed. (found : Option V) × IfSome found (P.holds key.now) × MayPass F.FnOnce test found (is_some removed)) }
+        requires callable { (value : _) → P.holds (Q.key_of key) value.now → F.pre test value }
+        ensures tested { IfOk result (λ removed. (found : Option V) × IfSome found (P.holds (Q.key_of key)) × MayPass F.FnOnce test found (is_some removed)) }
         ensures removed { IfOk result (λ removed. IfSome removed (λ value. MayPass F.FnOnce test (Some value.value) true)) }
-        ensures kept { IfOk result (λ removed. IfSome removed (λ value. P.holds key.now value.value)) }
+        ensures kept { IfOk result (λ removed. IfSome removed (λ value. P.holds (Q.key_of key) value.value)) }
     {
-        let path = key.path();
+        let path = key.path_sought();
         let mut stripe = self.row.stripe_at(rt, path);
         stripe.law();
         stripe.remove_passing(self.alloc, key, path, test)

@@ -22,7 +22,7 @@ impl<K: PathKey + Drop, V: Drop> Version<K, V> {
         requires { path.0 ≡ K.path_of (Q.key_of key) }
         ensures { option_map (λ value. value.now.value) result ≡ value_at K.cmp self.now.entries (Q.key_of key) }
     {
-        trie_node::find_along(&self.root, key, path)
+        trie_node::find_along(self.root.node(), key, path)
     }
 
     /// `put_where`, where the caller has the key's path word already: the key is not hashed again.
@@ -47,8 +47,12 @@ impl<K: PathKey + Drop, V: Drop> Version<K, V> {
         writes_keep_stamps_below();
         let full = self.len() == self.limit;
         let room = WithinRoom { condition, full };
-        let root = &mut self.root;
-        let done = trie_node::put_in_where_along(alloc, root, key, path, value, self.stamp, &room)?;
+        let mut root = self.root.take();
+        let done = trie_node::put_in_where_along(
+            alloc, &mut root, key, path, value, self.stamp, &room,
+        );
+        self.root.put_back(root);
+        let done = done?;
         if done.written {
             return Ok(Change {
                 previous: done.previous,
@@ -66,44 +70,48 @@ impl<K: PathKey + Drop, V: Drop> Version<K, V> {
     }
 
     /// `remove`, where the caller has the key's path word already: the key is not hashed again.
-    pub fn remove_along(
+    pub fn remove_along<Q: Sought<K>>(
         &mut self,
         alloc: Global,
-        key: &K,
+        key: Q,
         path: Path,
     ) -> Result<Option<Arc<V>>, NoMemory>
-        requires { path.0 ≡ K.path_of key.now }
-        ensures before { IfOk result (λ before. option_map arc_value before ≡ value_at K.cmp self.old.entries key.now) }
-        ensures entries { OnOk result (self.new.entries ≡ without K.cmp self.old.entries key.now) }
+        requires { path.0 ≡ K.path_of (Q.key_of key) }
+        ensures before { IfOk result (λ before. option_map arc_value before ≡ value_at K.cmp self.old.entries (Q.key_of key)) }
+        ensures entries { OnOk result (self.new.entries ≡ without K.cmp self.old.entries (Q.key_of key)) }
         ensures limit { self.new.limit ≡ self.old.limit }
         ensures stamp { self.new.stamp ≡ self.old.stamp }
-        ensures nodes { OnOk result (RestampsIf (is_some (value_at K.cmp self.old.entries key.now)) self.old.stamp (word_of K.path_of key.now) self.old.nodes self.new.nodes) }
+        ensures nodes { OnOk result (RestampsIf (is_some (value_at K.cmp self.old.entries (Q.key_of key))) self.old.stamp (word_of K.path_of (Q.key_of key)) self.old.nodes self.new.nodes) }
         ensures err { OnErr result (self.new ≡ self.old) }
     {
         Ok(self.remove_where_along(alloc, key, path, &Always)?.previous)
     }
 
     /// `remove_where`, where the caller has the key's path word already: the key is not hashed again.
-    pub fn remove_where_along<C: Condition<V>>(
+    pub fn remove_where_along<Q: Sought<K>, C: Condition<V>>(
         &mut self,
         alloc: Global,
-        key: &K,
+        key: Q,
         path: Path,
         condition: &C,
     ) -> Result<Change<V>, NoMemory>
-        requires { path.0 ≡ K.path_of key.now }
-        ensures before { IfOk result (λ change. option_map arc_value change.previous ≡ value_at K.cmp self.old.entries key.now) }
-        ensures done { IfOk result (λ change. change.done ≡ (is_some (value_at K.cmp self.old.entries key.now) && C.holds condition.now (value_at K.cmp self.old.entries key.now))) }
-        ensures entries { IfOk result (λ change. self.new.entries ≡ (if change.done then without K.cmp self.old.entries key.now else self.old.entries)) }
+        requires { path.0 ≡ K.path_of (Q.key_of key) }
+        ensures before { IfOk result (λ change. option_map arc_value change.previous ≡ value_at K.cmp self.old.entries (Q.key_of key)) }
+        ensures done { IfOk result (λ change. change.done ≡ (is_some (value_at K.cmp self.old.entries (Q.key_of key)) && C.holds condition.now (value_at K.cmp self.old.entries (Q.key_of key)))) }
+        ensures entries { IfOk result (λ change. self.new.entries ≡ (if change.done then without K.cmp self.old.entries (Q.key_of key) else self.old.entries)) }
         ensures limit { self.new.limit ≡ self.old.limit }
         ensures stamp { self.new.stamp ≡ self.old.stamp }
-        ensures nodes { IfOk result (λ change. RestampsIf change.done self.old.stamp (word_of K.path_of key.now) self.old.nodes self.new.nodes) }
+        ensures nodes { IfOk result (λ change. RestampsIf change.done self.old.stamp (word_of K.path_of (Q.key_of key)) self.old.nodes self.new.nodes) }
         ensures err { OnErr result (self.new ≡ self.old) }
     {
         root_is_map::<K, V>();
         writes_keep_stamps_below();
-        let root = &mut self.root;
-        let done = trie_node::remove_in_where_along(alloc, root, key, path, self.stamp, condition)?;
+        let mut root = self.root.take();
+        let done = trie_node::remove_in_where_along(
+            alloc, &mut root, key, path, self.stamp, condition,
+        );
+        self.root.put_back(root);
+        let done = done?;
         if done.written {
             return Ok(Change {
                 previous: done.previous,

@@ -4,14 +4,7 @@ use Rattle.handles.specs.Machine.{freeze}
 use Rattle.questions.specs.Program.{told_reply}
 use Rattle.batch_cli.specs.Filing.{FilesService}
 use Rattle.batch_cli.proofs.Filing.{bulk_refused, bulk_told}
-use Rattle.batch_cli.proofs.Crossing.{part_send}
-use denote.Param.Send.{sendable}
-use Rattle.std.proofs.Crossing as heap
 use Rattle.batch_cli.proofs.events.worked.Goals as goal
-
--- a part of a script's query lies deeper than the search looks by itself
-pub bulk-requires-send-Q-Part : goal.bulk-requires-send-Q-Part
-bulk-requires-send-Q-Part g c κs within = search (sendable, heap.crosses, part_send) depth 30
 
 pub returns-in-Ok : goal.returns-in-Ok
 returns-in-Ok g c =

@@ -5,17 +5,7 @@ use Rattle.task_pool.specs.declared.crew.Crew.{Crew}
 use Rattle.batch_cli.specs.CommandLine.{AreInRange}
 use Rattle.script_runs.specs.Runs.{AreMerged, AreRepliesTo}
 use Rattle.batch_cli.proofs.RunOf.{each_made, replied, run_of}
-use Rattle.batch_cli.proofs.Crossing.{part_send, part_sync}
-use denote.Param.Send.{sendable}
-use Rattle.std.proofs.Crossing as heap
 use Rattle.batch_cli.proofs.run.replies_to.Goals as goal
-
--- a part of a script's query lies deeper than the search looks by itself
-pub with_clients-requires-send-Q-Part : goal.with_clients-requires-send-Q-Part
-with_clients-requires-send-Q-Part g c κs within = search (sendable, heap.crosses, part_send) depth 30
-
-pub with_clients-requires-sync-Q-Part : goal.with_clients-requires-sync-Q-Part
-with_clients-requires-sync-Q-Part g c κs within = search (sendable, heap.crosses, part_sync) depth 30
 
 pub with_clients-requires-clause-needs : goal.with_clients-requires-clause-needs
 with_clients-requires-clause-needs g c = λ lifetimes lives k client lt.

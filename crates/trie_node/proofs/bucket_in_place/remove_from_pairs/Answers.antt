@@ -13,14 +13,14 @@ use Rattle.trie_node.proofs.bucket_in_place.remove_from_pairs.Goals as goal
 pub returns-in_err-value-clause-due : goal.returns-in_err-value-clause-due
 returns-in_err-value-clause-due g c =
     let R = g.K.Ord.cmp in
-    let k = c.args.key.now in
+    let k = g.Q.Sought.key_of c.args.key in
     let at = subst (λ xs. IsAt R k c.in-Some.at (map pair_values xs)) c.as_slice.ensures.value c.in-Some.ensures.there in
     at_err c.from_residual.result (ap is_some (at.value (pair_values c.index.result.now)))
 
 pub returns-then-not-holds_of-clause-ok : goal.returns-then-not-holds_of-clause-ok
 returns-then-not-holds_of-clause-ok g c level trie =
     let R = g.K.Ord.cmp in
-    let k = c.args.key.now in
+    let k = g.Q.Sought.key_of c.args.key in
     let items = c.args.pairs.now.items in
     let i = c.in-Some.at in
     let at = subst (λ xs. IsAt R k i (map pair_values xs)) c.as_slice.ensures.value c.in-Some.ensures.there in
@@ -35,7 +35,7 @@ pub returns-clause-ok : goal.returns-clause-ok
 returns-clause-ok g c level trie =
     let R = g.K.Ord.cmp in
     let path = g.K.PathKey.path_of in
-    let k = c.args.key.now in
+    let k = g.Q.Sought.key_of c.args.key in
     let s = c.args.new_stamp.0 in
     let before = c.args.stamp.now.0 in
     let holds = g.C.Condition.holds c.args.condition.now in

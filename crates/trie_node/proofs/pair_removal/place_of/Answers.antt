@@ -7,6 +7,6 @@ use Rattle.trie_node.proofs.pair_removal.place_of.Goals as goal
 pub returns-then-eq-clause-there : goal.returns-then-eq-clause-there
 returns-then-eq-clause-there g c =
     let a = c.args in
-    let tie : g.K.Ord.cmp a.key.now (pair_values (get_or a.pairs.now c.loop-i.i c.index-pairs-i.result)).0 ≡ Equal =
-    ap (g.K.Ord.cmp a.key.now) (sym c.deref.ensures) ∙ sym c.cmp.ensures ∙ equal_of_index c.cmp.result (sym c.eq.ensures ∙ c.if-eq.true) in
-    at_place g.K.Ord.cmp g.met.K.PathKey.exact pair_values a.key.now a.pairs.now c.loop-i.i c.index-pairs-i.result c.loop-i-test.true tie c.loop-i.invariant
+    let tie : g.K.Ord.cmp (g.Q.Sought.key_of a.key) (pair_values (get_or a.pairs.now c.loop-i.i c.index-pairs-i.result)).0 ≡ Equal =
+    ap (g.K.Ord.cmp (g.Q.Sought.key_of a.key)) (sym c.deref.ensures) ∙ sym c.compare_with.ensures ∙ equal_of_index c.compare_with.result (sym c.eq.ensures ∙ c.if-eq.true) in
+    at_place g.K.Ord.cmp g.met.K.PathKey.exact pair_values (g.Q.Sought.key_of a.key) a.pairs.now c.loop-i.i c.index-pairs-i.result c.loop-i-test.true tie c.loop-i.invariant

@@ -44,7 +44,7 @@ remove_in_branch-remove_in_at-requires g t c κs inside =
     let has = sym c.has_digit.ensures ∙ c.if-not-has_digit.false in
     let there = held_there a.row.now c.place-at.result c.index-row-at.result (place_in_row a.size.now a.bitmap.now a.row.now u has c.place-at.ensures) in
     let w = way_in_row a.size.now a.bitmap.now a.row.now u g.met.K.PathKey.exact has c.place-at.ensures there in
-    (omega (arith, w.above), (search rules, (search rules, (search rules, (c.requires.path, w.trie)))))
+    (omega (arith, w.above), (search rules, (search rules, (search rules, (search rules, (c.requires.path, w.trie))))))
 
 pub remove_in_branch-returns-in_err-found-clause-err : goal.remove_in_branch-returns-in_err-found-clause-err
 remove_in_branch-returns-in_err-found-clause-err g t c =
@@ -79,7 +79,7 @@ remove_in_branch-returns-in-Nothing-clause-ok g t c =
     let child = get_or a.row.now c.place-at.result c.index-row-at.result in
     let s = a.new_stamp.0 in
     let holds = g.C.Condition.holds a.condition.now in
-    let h = subst (λ r. TakesOut g.K.Ord.cmp g.K.PathKey.path_of (a.level + 1) s a.key.now holds (tree child) r (tree c.remove_in_at.new.node)) c.in-Nothing.is c.in_ok-found.ensures.ok in
+    let h = subst (λ r. TakesOut g.K.Ord.cmp g.K.PathKey.path_of (a.level + 1) s (g.Q.Sought.key_of a.key) holds (tree child) r (tree c.remove_in_at.new.node)) c.in-Nothing.is c.in_ok-found.ensures.ok in
     let nothing = nothing_below w g.met.K.Ord.total g.met.K.PathKey.exact a.stamp.now.0 s holds (option_map arc_value c.in-Nothing.found) (h.0, h.1) in
     (nothing.0, nothing.1, ap (λ xs. branch a.stamp.now.0 a.size.now a.bitmap.now (trees xs)) (same_in_row (count_ones a.bitmap.now) a.row.now c.place-at.result used c.remove_in_at.new.node child there h.2))
 
@@ -180,7 +180,7 @@ remove_in_node-remove_in_two-requires g t c κs inside =
     let m = c.in-Two in
     let row = c.in-Some-get_mut.ensures.value ∙ ap arc_value m.row-is in
     let opened = (λ i. branch_of (m.old-is i).0 (in_row (m.size-is i) (m.bitmap-is i) (row i))) ∙ sym (ap tree m.is ∙ tree-Two m.bitmap m.old m.size m.row) in
-    (omega arith, (search rules, (search rules, (search rules, (omega arith, (c.requires.path, subst (IsTrie R path a.level) (sym opened) c.requires.trie))))))
+    (omega arith, (search rules, (search rules, (search rules, (search rules, (omega arith, (c.requires.path, subst (IsTrie R path a.level) (sym opened) c.requires.trie)))))))
 
 pub remove_in_node-returns-in-Some-get_mut-clause-ok : goal.remove_in_node-returns-in-Some-get_mut-clause-ok
 remove_in_node-returns-in-Some-get_mut-clause-ok g t c =
@@ -190,7 +190,7 @@ remove_in_node-returns-in-Some-get_mut-clause-ok g t c =
     let opened = (λ i. branch_of (m.old-is i).0 (in_row (m.size-is i) (m.bitmap-is i) (row i))) ∙ sym (ap tree m.is ∙ tree-Two m.bitmap m.old m.size m.row) in
     let n = c.remove_in_two.new in
     let made = tree-Two n.bitmap n.stamp n.size (record m.row { value = n.row }) in
-    on_ok c.remove_in_two.result _ _ (λ r h. takes_equal g.K.Ord.cmp g.K.PathKey.path_of a.level a.stamp.0 a.key.now (g.C.Condition.holds a.condition.now) _ _ _ _ r opened made h) c.remove_in_two.ensures.ok
+    on_ok c.remove_in_two.result _ _ (λ r h. takes_equal g.K.Ord.cmp g.K.PathKey.path_of a.level a.stamp.0 (g.Q.Sought.key_of a.key) (g.C.Condition.holds a.condition.now) _ _ _ _ r opened made h) c.remove_in_two.ensures.ok
 
 pub remove_in_node-returns-in-Some-get_mut-clause-due : goal.remove_in_node-returns-in-Some-get_mut-clause-due
 remove_in_node-returns-in-Some-get_mut-clause-due g t c =
@@ -198,7 +198,7 @@ remove_in_node-returns-in-Some-get_mut-clause-due g t c =
     let m = c.in-Two in
     let row = c.in-Some-get_mut.ensures.value ∙ ap arc_value m.row-is in
     let opened = (λ i. branch_of (m.old-is i).0 (in_row (m.size-is i) (m.bitmap-is i) (row i))) ∙ sym (ap tree m.is ∙ tree-Two m.bitmap m.old m.size m.row) in
-    on_err_weaker c.remove_in_two.result (λ e. ap (λ x. is_some (find g.K.Ord.cmp a.key.now (entries x))) (sym opened) ∙ e) c.remove_in_two.ensures.due
+    on_err_weaker c.remove_in_two.result (λ e. ap (λ x. is_some (find g.K.Ord.cmp (g.Q.Sought.key_of a.key) (entries x))) (sym opened) ∙ e) c.remove_in_two.ensures.due
 
 pub remove_in_node-returns-in-Some-get_mut-clause-err : goal.remove_in_node-returns-in-Some-get_mut-clause-err
 remove_in_node-returns-in-Some-get_mut-clause-err g t c =
@@ -217,7 +217,7 @@ remove_in_node-remove_in_four-requires g t c κs inside =
     let m = c.in-Four in
     let row = c.in-Some-get_mut-2.ensures.value ∙ ap arc_value m.row-is in
     let opened = (λ i. branch_of (m.old-is i).0 (in_row (m.size-is i) (m.bitmap-is i) (row i))) ∙ sym (ap tree m.is ∙ tree-Four m.bitmap m.old m.size m.row) in
-    (omega arith, (search rules, (search rules, (search rules, (omega arith, (c.requires.path, subst (IsTrie R path a.level) (sym opened) c.requires.trie))))))
+    (omega arith, (search rules, (search rules, (search rules, (search rules, (omega arith, (c.requires.path, subst (IsTrie R path a.level) (sym opened) c.requires.trie)))))))
 
 pub remove_in_node-returns-in-Some-get_mut-2-clause-ok : goal.remove_in_node-returns-in-Some-get_mut-2-clause-ok
 remove_in_node-returns-in-Some-get_mut-2-clause-ok g t c =
@@ -227,7 +227,7 @@ remove_in_node-returns-in-Some-get_mut-2-clause-ok g t c =
     let opened = (λ i. branch_of (m.old-is i).0 (in_row (m.size-is i) (m.bitmap-is i) (row i))) ∙ sym (ap tree m.is ∙ tree-Four m.bitmap m.old m.size m.row) in
     let n = c.remove_in_four.new in
     let made = tree-Four n.bitmap n.stamp n.size (record m.row { value = n.row }) in
-    on_ok c.remove_in_four.result _ _ (λ r h. takes_equal g.K.Ord.cmp g.K.PathKey.path_of a.level a.stamp.0 a.key.now (g.C.Condition.holds a.condition.now) _ _ _ _ r opened made h) c.remove_in_four.ensures.ok
+    on_ok c.remove_in_four.result _ _ (λ r h. takes_equal g.K.Ord.cmp g.K.PathKey.path_of a.level a.stamp.0 (g.Q.Sought.key_of a.key) (g.C.Condition.holds a.condition.now) _ _ _ _ r opened made h) c.remove_in_four.ensures.ok
 
 pub remove_in_node-returns-in-Some-get_mut-2-clause-due : goal.remove_in_node-returns-in-Some-get_mut-2-clause-due
 remove_in_node-returns-in-Some-get_mut-2-clause-due g t c =
@@ -235,7 +235,7 @@ remove_in_node-returns-in-Some-get_mut-2-clause-due g t c =
     let m = c.in-Four in
     let row = c.in-Some-get_mut-2.ensures.value ∙ ap arc_value m.row-is in
     let opened = (λ i. branch_of (m.old-is i).0 (in_row (m.size-is i) (m.bitmap-is i) (row i))) ∙ sym (ap tree m.is ∙ tree-Four m.bitmap m.old m.size m.row) in
-    on_err_weaker c.remove_in_four.result (λ e. ap (λ x. is_some (find g.K.Ord.cmp a.key.now (entries x))) (sym opened) ∙ e) c.remove_in_four.ensures.due
+    on_err_weaker c.remove_in_four.result (λ e. ap (λ x. is_some (find g.K.Ord.cmp (g.Q.Sought.key_of a.key) (entries x))) (sym opened) ∙ e) c.remove_in_four.ensures.due
 
 pub remove_in_node-returns-in-Some-get_mut-2-clause-err : goal.remove_in_node-returns-in-Some-get_mut-2-clause-err
 remove_in_node-returns-in-Some-get_mut-2-clause-err g t c =
@@ -254,7 +254,7 @@ remove_in_node-remove_in_eight-requires g t c κs inside =
     let m = c.in-Eight in
     let row = c.in-Some-get_mut-3.ensures.value ∙ ap arc_value m.row-is in
     let opened = (λ i. branch_of (m.old-is i).0 (in_row (m.size-is i) (m.bitmap-is i) (row i))) ∙ sym (ap tree m.is ∙ tree-Eight m.bitmap m.old m.size m.row) in
-    (omega arith, (search rules, (search rules, (search rules, (omega arith, (c.requires.path, subst (IsTrie R path a.level) (sym opened) c.requires.trie))))))
+    (omega arith, (search rules, (search rules, (search rules, (search rules, (omega arith, (c.requires.path, subst (IsTrie R path a.level) (sym opened) c.requires.trie)))))))
 
 pub remove_in_node-returns-in-Some-get_mut-3-clause-ok : goal.remove_in_node-returns-in-Some-get_mut-3-clause-ok
 remove_in_node-returns-in-Some-get_mut-3-clause-ok g t c =
@@ -264,7 +264,7 @@ remove_in_node-returns-in-Some-get_mut-3-clause-ok g t c =
     let opened = (λ i. branch_of (m.old-is i).0 (in_row (m.size-is i) (m.bitmap-is i) (row i))) ∙ sym (ap tree m.is ∙ tree-Eight m.bitmap m.old m.size m.row) in
     let n = c.remove_in_eight.new in
     let made = tree-Eight n.bitmap n.stamp n.size (record m.row { value = n.row }) in
-    on_ok c.remove_in_eight.result _ _ (λ r h. takes_equal g.K.Ord.cmp g.K.PathKey.path_of a.level a.stamp.0 a.key.now (g.C.Condition.holds a.condition.now) _ _ _ _ r opened made h) c.remove_in_eight.ensures.ok
+    on_ok c.remove_in_eight.result _ _ (λ r h. takes_equal g.K.Ord.cmp g.K.PathKey.path_of a.level a.stamp.0 (g.Q.Sought.key_of a.key) (g.C.Condition.holds a.condition.now) _ _ _ _ r opened made h) c.remove_in_eight.ensures.ok
 
 pub remove_in_node-returns-in-Some-get_mut-3-clause-due : goal.remove_in_node-returns-in-Some-get_mut-3-clause-due
 remove_in_node-returns-in-Some-get_mut-3-clause-due g t c =
@@ -272,7 +272,7 @@ remove_in_node-returns-in-Some-get_mut-3-clause-due g t c =
     let m = c.in-Eight in
     let row = c.in-Some-get_mut-3.ensures.value ∙ ap arc_value m.row-is in
     let opened = (λ i. branch_of (m.old-is i).0 (in_row (m.size-is i) (m.bitmap-is i) (row i))) ∙ sym (ap tree m.is ∙ tree-Eight m.bitmap m.old m.size m.row) in
-    on_err_weaker c.remove_in_eight.result (λ e. ap (λ x. is_some (find g.K.Ord.cmp a.key.now (entries x))) (sym opened) ∙ e) c.remove_in_eight.ensures.due
+    on_err_weaker c.remove_in_eight.result (λ e. ap (λ x. is_some (find g.K.Ord.cmp (g.Q.Sought.key_of a.key) (entries x))) (sym opened) ∙ e) c.remove_in_eight.ensures.due
 
 pub remove_in_node-returns-in-Some-get_mut-3-clause-err : goal.remove_in_node-returns-in-Some-get_mut-3-clause-err
 remove_in_node-returns-in-Some-get_mut-3-clause-err g t c =
@@ -291,7 +291,7 @@ remove_in_node-remove_in_sixteen-requires g t c κs inside =
     let m = c.in-Sixteen in
     let row = c.in-Some-get_mut-4.ensures.value ∙ ap arc_value m.row-is in
     let opened = (λ i. branch_of (m.old-is i).0 (in_row (m.size-is i) (m.bitmap-is i) (row i))) ∙ sym (ap tree m.is ∙ tree-Sixteen m.bitmap m.old m.size m.row) in
-    (omega arith, (search rules, (search rules, (search rules, (omega arith, (c.requires.path, subst (IsTrie R path a.level) (sym opened) c.requires.trie))))))
+    (omega arith, (search rules, (search rules, (search rules, (search rules, (omega arith, (c.requires.path, subst (IsTrie R path a.level) (sym opened) c.requires.trie)))))))
 
 pub remove_in_node-returns-in-Some-get_mut-4-clause-ok : goal.remove_in_node-returns-in-Some-get_mut-4-clause-ok
 remove_in_node-returns-in-Some-get_mut-4-clause-ok g t c =
@@ -301,7 +301,7 @@ remove_in_node-returns-in-Some-get_mut-4-clause-ok g t c =
     let opened = (λ i. branch_of (m.old-is i).0 (in_row (m.size-is i) (m.bitmap-is i) (row i))) ∙ sym (ap tree m.is ∙ tree-Sixteen m.bitmap m.old m.size m.row) in
     let n = c.remove_in_sixteen.new in
     let made = tree-Sixteen n.bitmap n.stamp n.size (record m.row { value = n.row }) in
-    on_ok c.remove_in_sixteen.result _ _ (λ r h. takes_equal g.K.Ord.cmp g.K.PathKey.path_of a.level a.stamp.0 a.key.now (g.C.Condition.holds a.condition.now) _ _ _ _ r opened made h) c.remove_in_sixteen.ensures.ok
+    on_ok c.remove_in_sixteen.result _ _ (λ r h. takes_equal g.K.Ord.cmp g.K.PathKey.path_of a.level a.stamp.0 (g.Q.Sought.key_of a.key) (g.C.Condition.holds a.condition.now) _ _ _ _ r opened made h) c.remove_in_sixteen.ensures.ok
 
 pub remove_in_node-returns-in-Some-get_mut-4-clause-due : goal.remove_in_node-returns-in-Some-get_mut-4-clause-due
 remove_in_node-returns-in-Some-get_mut-4-clause-due g t c =
@@ -309,7 +309,7 @@ remove_in_node-returns-in-Some-get_mut-4-clause-due g t c =
     let m = c.in-Sixteen in
     let row = c.in-Some-get_mut-4.ensures.value ∙ ap arc_value m.row-is in
     let opened = (λ i. branch_of (m.old-is i).0 (in_row (m.size-is i) (m.bitmap-is i) (row i))) ∙ sym (ap tree m.is ∙ tree-Sixteen m.bitmap m.old m.size m.row) in
-    on_err_weaker c.remove_in_sixteen.result (λ e. ap (λ x. is_some (find g.K.Ord.cmp a.key.now (entries x))) (sym opened) ∙ e) c.remove_in_sixteen.ensures.due
+    on_err_weaker c.remove_in_sixteen.result (λ e. ap (λ x. is_some (find g.K.Ord.cmp (g.Q.Sought.key_of a.key) (entries x))) (sym opened) ∙ e) c.remove_in_sixteen.ensures.due
 
 pub remove_in_node-returns-in-Some-get_mut-4-clause-err : goal.remove_in_node-returns-in-Some-get_mut-4-clause-err
 remove_in_node-returns-in-Some-get_mut-4-clause-err g t c =
@@ -328,7 +328,7 @@ remove_in_node-remove_in_all-requires g t c κs inside =
     let m = c.in-All in
     let row = c.in-Some-get_mut-5.ensures.value ∙ ap arc_value m.row-is in
     let opened = (λ i. branch_of (m.old-is i).0 (in_row (m.size-is i) (m.bitmap-is i) (row i))) ∙ sym (ap tree m.is ∙ tree-All m.bitmap m.old m.size m.row) in
-    (omega arith, (search rules, (search rules, (search rules, (omega arith, (c.requires.path, subst (IsTrie R path a.level) (sym opened) c.requires.trie))))))
+    (omega arith, (search rules, (search rules, (search rules, (search rules, (omega arith, (c.requires.path, subst (IsTrie R path a.level) (sym opened) c.requires.trie)))))))
 
 pub remove_in_node-returns-in-Some-get_mut-5-clause-ok : goal.remove_in_node-returns-in-Some-get_mut-5-clause-ok
 remove_in_node-returns-in-Some-get_mut-5-clause-ok g t c =
@@ -338,7 +338,7 @@ remove_in_node-returns-in-Some-get_mut-5-clause-ok g t c =
     let opened = (λ i. branch_of (m.old-is i).0 (in_row (m.size-is i) (m.bitmap-is i) (row i))) ∙ sym (ap tree m.is ∙ tree-All m.bitmap m.old m.size m.row) in
     let n = c.remove_in_all.new in
     let made = tree-All n.bitmap n.stamp n.size (record m.row { value = n.row }) in
-    on_ok c.remove_in_all.result _ _ (λ r h. takes_equal g.K.Ord.cmp g.K.PathKey.path_of a.level a.stamp.0 a.key.now (g.C.Condition.holds a.condition.now) _ _ _ _ r opened made h) c.remove_in_all.ensures.ok
+    on_ok c.remove_in_all.result _ _ (λ r h. takes_equal g.K.Ord.cmp g.K.PathKey.path_of a.level a.stamp.0 (g.Q.Sought.key_of a.key) (g.C.Condition.holds a.condition.now) _ _ _ _ r opened made h) c.remove_in_all.ensures.ok
 
 pub remove_in_node-returns-in-Some-get_mut-5-clause-due : goal.remove_in_node-returns-in-Some-get_mut-5-clause-due
 remove_in_node-returns-in-Some-get_mut-5-clause-due g t c =
@@ -346,7 +346,7 @@ remove_in_node-returns-in-Some-get_mut-5-clause-due g t c =
     let m = c.in-All in
     let row = c.in-Some-get_mut-5.ensures.value ∙ ap arc_value m.row-is in
     let opened = (λ i. branch_of (m.old-is i).0 (in_row (m.size-is i) (m.bitmap-is i) (row i))) ∙ sym (ap tree m.is ∙ tree-All m.bitmap m.old m.size m.row) in
-    on_err_weaker c.remove_in_all.result (λ e. ap (λ x. is_some (find g.K.Ord.cmp a.key.now (entries x))) (sym opened) ∙ e) c.remove_in_all.ensures.due
+    on_err_weaker c.remove_in_all.result (λ e. ap (λ x. is_some (find g.K.Ord.cmp (g.Q.Sought.key_of a.key) (entries x))) (sym opened) ∙ e) c.remove_in_all.ensures.due
 
 pub remove_in_node-returns-in-Some-get_mut-5-clause-err : goal.remove_in_node-returns-in-Some-get_mut-5-clause-err
 remove_in_node-returns-in-Some-get_mut-5-clause-err g t c =
@@ -366,14 +366,14 @@ remove_in_node-returns-in_ok-remove_from_pairs-in-Some-clause-ok g t c =
     let is = c.in-Some.ensures.value ∙ ap arc_value m.pairs-is in
     let opened = (λ i. bucket (m.old-is i).0 (map pair_values (is i).items)) ∙ sym (ap tree m.is) in
     let out = c.in_ok-remove_from_pairs-in-Some in
-    takes_equal R path a.level a.stamp.0 a.key.now (g.C.Condition.holds a.condition.now) _ _ _ _ (Done out.field-0) opened refl (out.ensures.ok a.level (subst (IsTrie R path a.level) (sym opened) c.requires.trie))
+    takes_equal R path a.level a.stamp.0 (g.Q.Sought.key_of a.key) (g.C.Condition.holds a.condition.now) _ _ _ _ (Done out.field-0) opened refl (out.ensures.ok a.level (subst (IsTrie R path a.level) (sym opened) c.requires.trie))
 
 pub remove_in_at-returns-in-Done-clause-ok : goal.remove_in_at-returns-in-Done-clause-ok
 remove_in_at-returns-in-Done-clause-ok g t c =
     let a = c.args in
-    subst (λ r. TakesInside g.K.Ord.cmp g.K.PathKey.path_of a.level a.stamp.0 a.key.now (g.C.Condition.holds a.condition.now) (tree a.node.now) r (tree c.remove_in_node.new.node)) c.in-Done.is c.in_ok-removed.ensures.ok
+    subst (λ r. TakesInside g.K.Ord.cmp g.K.PathKey.path_of a.level a.stamp.0 (g.Q.Sought.key_of a.key) (g.C.Condition.holds a.condition.now) (tree a.node.now) r (tree c.remove_in_node.new.node)) c.in-Done.is c.in_ok-removed.ensures.ok
 
 pub remove_in_at-returns-in-GivesWay-clause-ok : goal.remove_in_at-returns-in-GivesWay-clause-ok
 remove_in_at-returns-in-GivesWay-clause-ok g t c =
     let a = c.args in
-    subst (λ r. TakesInside g.K.Ord.cmp g.K.PathKey.path_of a.level a.stamp.0 a.key.now (g.C.Condition.holds a.condition.now) (tree a.node.now) r (tree c.remove_in_node.new.node)) c.in-GivesWay.is c.in_ok-removed.ensures.ok
+    subst (λ r. TakesInside g.K.Ord.cmp g.K.PathKey.path_of a.level a.stamp.0 (g.Q.Sought.key_of a.key) (g.C.Condition.holds a.condition.now) (tree a.node.now) r (tree c.remove_in_node.new.node)) c.in-GivesWay.is c.in_ok-removed.ensures.ok

@@ -14,7 +14,7 @@ returns-clause-map g c =
     let done = c.in_ok-remove_in_where in
     let old = tree a.node.now in
     either done.field-0.written (λ e. (done.ensures.removed e).map)
-    (λ e. ap (map_of R) (done.ensures.kept e) ∙ without_absent R g.met.K.Ord.total g.met.K.PathKey.exact (entries old) a.key.now (absent_of (value_at R (map_of R old) a.key.now) (sym e ∙ done.ensures.written)))
+    (λ e. ap (map_of R) (done.ensures.kept e) ∙ without_absent R g.met.K.Ord.total g.met.K.PathKey.exact (entries old) (g.Q.Sought.key_of a.key) (absent_of (value_at R (map_of R old) (g.Q.Sought.key_of a.key)) (sym e ∙ done.ensures.written)))
 
 pub returns-clause-stamps : goal.returns-clause-stamps
 returns-clause-stamps g c =

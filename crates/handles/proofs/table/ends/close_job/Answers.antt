@@ -1,11 +1,11 @@
-use Rattle.std.proofs.Common.{rules, ◌≡◌, Some, ap, sym, subst, ◌∙◌, length}
+use Rattle.std.proofs.Common.{rules, ◌≡◌, ◌+◌, Some, ap, sym, subst, ◌∙◌, length}
 use Rattle.std.specs.Ordering.{nat_cmp}
 use Rattle.versions.specs.Map.{value_at}
 use Rattle.bulk_ops.specs.Told.{MakesFor}
 use Rattle.handles.specs.Machine.{Job}
-use Rattle.handles.specs.Jobs.{IsPlace, job_of, live_with_made}
+use Rattle.handles.specs.Jobs.{IsPlace, job_of, live_with_made, stamps_with_made}
 use Rattle.handles.proofs.JobMaps.{can_finish}
-use Rattle.handles.proofs.Made.{fits_made, live_made}
+use Rattle.handles.proofs.Made.{fits_made, live_made, stamps_made}
 use Rattle.handles.proofs.table.ends.close_job.Goals as goal
 
 pub conclude-answer-requires : goal.conclude-answer-requires
@@ -44,6 +44,7 @@ returns-clause-done g c =
       is_answer = subst (λ q. g.Q.Asks.answered q j.frozen answer) c.deref-2.ensures (c.conclude-answer.ensures.answered j.frozen answers);
       is_told = c.conclude-answer.ensures.told;
       live = c.settle.ensures.live ∙ (λ i. live_with_made c.args.places.now.live (target i) c.conclude-answer.result.1) ∙ live_made c.args.places.now.live (g.Q.Asks.target_of j.query) answer c.conclude-answer.result.1 makes;
+      fresh = c.settle.ensures.fresh ∙ (λ i. stamps_with_made c.args.places.now.stamps (c.args.places.now.issued + 1) (target i) c.conclude-answer.result.1) ∙ stamps_made c.args.places.now.stamps (c.args.places.now.issued + 1) (g.Q.Asks.target_of j.query) answer c.conclude-answer.result.1 makes;
       closed = c.close.ensures.jobs;
       kept = c.close.ensures.next;
     }

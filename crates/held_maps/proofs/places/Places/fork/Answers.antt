@@ -3,7 +3,7 @@ use Rattle.std.specs.Prelude.{IsSome, Some, slice_set, unwrap_or}
 use Rattle.std.specs.Ordering.{nat_cmp}
 use Rattle.versions.specs.Map.{value_at, with_pair}
 use Rattle.held_maps.specs.Held.{Held, live_from}
-use Rattle.held_maps.proofs.Live.{held_here, live_here, not_live_here, same_maps, with_version}
+use Rattle.held_maps.proofs.Live.{held_here, live_here, not_live_here, same_maps, with_stamp, with_version}
 use Rattle.held_maps.proofs.Kept.{length-slice_set, read_here, set_fresh}
 use Rattle.held_maps.proofs.places.Places.fork.Goals as goal
 
@@ -53,3 +53,13 @@ returns-clause-live g c =
     with_version c.args.to c.in_ok-version-in-Some.version (slice_set places c.args.handle (Some c.fork.new.self)) (omega (arith, length-slice_set places c.args.handle (Some c.fork.new.self), c.self.invariant.0.count, c.requires.target))
     ∙ (λ i. with_pair nat_cmp (left i) c.args.to ((c.in_ok-version-in-Some.ensures.entries ∙ sym held) i))
     ∙ ap (λ (p : Held g.row.K.Denot g.row.V.Denot). with_pair nat_cmp p.live c.args.to (unwrap_or (value_at nat_cmp p.live c.args.handle) [])) c.self.view_is
+
+pub returns-clause-fresh : goal.returns-clause-fresh
+returns-clause-fresh g c =
+    let places = c.self.inside.versions.items in
+    let first = c.in_ok-version-in-Some.ensures.fresh ∙ ap (λ (p : Held g.row.K.Denot g.row.V.Denot). p.issued + 1) c.self.view_is in
+    let second = c.in_ok-version-in-Some.ensures.stamp ∙ ap (λ (p : Held g.row.K.Denot g.row.V.Denot). p.issued + 2) c.self.view_is in
+    let here = with_stamp c.args.handle c.fork.new.self places (omega (arith, c.self.invariant.0.count, c.requires.place)) in
+    with_stamp c.args.to c.in_ok-version-in-Some.version (slice_set places c.args.handle (Some c.fork.new.self)) (omega (arith, length-slice_set places c.args.handle (Some c.fork.new.self), c.self.invariant.0.count, c.requires.target))
+    ∙ (λ i. with_pair nat_cmp (here i) c.args.to c.in_ok-version-in-Some.version.stamp)
+    ∙ (λ i. with_pair nat_cmp (with_pair nat_cmp (c.self.view_is i).stamps c.args.handle (first i)) c.args.to (second i))

@@ -6,7 +6,7 @@ use Rattle.versions.specs.Map.{Map, value_at, with_pair}
 use Rattle.versions.specs.Puts.{FullExactly}
 use Rattle.held_maps.specs.Held.{Held, live_from, maps_in}
 use Rattle.held_maps.specs.Commands.{command_of}
-use Rattle.held_maps.proofs.Live.{held_here, live_here, not_live_here, with_version}
+use Rattle.held_maps.proofs.Live.{held_here, live_here, not_live_here, same_stamps, with_version}
 use Rattle.held_maps.proofs.Kept.{read_here, set_again}
 use Rattle.held_maps.proofs.Results.{if_ok, on_ok}
 use Rattle.held_maps.proofs.places.Places.run.Goals as goal
@@ -59,3 +59,10 @@ returns-clause-full g c live =
     let command = command_of c.args.command in
     let same : is_full g.K.Ord.cmp version.limit version.entries command ≡ is_full g.K.Ord.cmp c.args.self.now.limit (unwrap_or (value_at nat_cmp c.args.self.now.live c.args.handle) []) command = λ i. is_full g.K.Ord.cmp (limit i) (held i) command in
     subst (FullExactly c.run_on.result) same c.run_on.ensures.full
+
+pub returns-clause-stamps : goal.returns-clause-stamps
+returns-clause-stamps g c =
+    let places = c.self.inside.versions.items in
+    let here = read_here c.args.handle places c.index_mut.result.now (omega (arith, c.self.invariant.0.count, c.requires.place)) c.index_mut.ensures.value ∙ c.in-Some.is in
+    ap (live_from 0) (same_stamps c.args.handle places c.in-Some.version c.run_on.new.version here c.run_on.ensures.stamp)
+    ∙ ap (λ (p : Held g.row.K.Denot g.row.V.Denot). p.stamps) c.self.view_is

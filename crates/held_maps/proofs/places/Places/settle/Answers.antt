@@ -2,7 +2,7 @@ use Rattle.std.proofs.Common.{◌+◌, ap, subst, sym, ◌∙◌, arith}
 use Rattle.std.specs.Ordering.{nat_cmp}
 use Rattle.versions.specs.Map.{with_pair}
 use Rattle.held_maps.specs.Held.{Held}
-use Rattle.held_maps.specs.Targets.{IsPlace, live_with_made, stamps_with_made}
+use Rattle.held_maps.specs.Targets.{IsPlace, issued_with_made, live_with_made, stamps_with_made}
 use Rattle.held_maps.proofs.Live.{with_stamp, with_version}
 use Rattle.held_maps.proofs.Kept.{set_fresh}
 use Rattle.held_maps.proofs.places.Places.settle.Goals as goal
@@ -30,3 +30,9 @@ returns-in-Some-Some-clause-fresh g c =
     with_stamp c.in-Some-Some.to c.restamp.new.self c.self.inside.versions.items (omega (arith, c.self.invariant.0.count, place))
     ∙ (λ i. with_pair nat_cmp (c.self.view_is i).stamps c.in-Some-Some.to (next i))
     ∙ (λ i. stamps_with_made c.args.self.now.stamps (c.args.self.now.issued + 1) (sym c.in-Some-Some.is-0 i) (sym c.in-Some-Some.is-1 i))
+
+pub returns-in-Some-Some-clause-next : goal.returns-in-Some-Some-clause-next
+returns-in-Some-Some-clause-next g c =
+    c.restamp.ensures.issued
+    ∙ ap (λ (p : Held g.row.K.Denot g.row.V.Denot). p.issued + 1) c.self.view_is
+    ∙ (λ i. issued_with_made c.args.self.now.issued (sym c.in-Some-Some.is-0 i) (sym c.in-Some-Some.is-1 i))

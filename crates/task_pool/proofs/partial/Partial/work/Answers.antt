@@ -5,8 +5,8 @@ use Rattle.task_pool.specs.Worked.{IsPartial, once}
 use Rattle.task_pool.proofs.Partials.{has_worked, may_work}
 use Rattle.task_pool.proofs.partial.Partial.work.Goals as goal
 
-pub join-requires : goal.join-requires
-join-requires g c =
+pub work_into-requires-clause-apart : goal.work_into-requires-clause-apart
+work_into-requires-clause-apart g c =
     let R = g.K.Ord.cmp in
     let path = g.K.PathKey.path_of in
     let answers = g.B.Bulk.answers in
@@ -17,7 +17,7 @@ join-requires g c =
     let laws = c.parts_follow_intervals.ensures in
     let ws = c.self.inside.worked.items in
     let apart : AreApart (ws ++ c.args.task ∷ []) = subst (λ xs. AreApart (xs ++ c.args.task ∷ [])) (sym c.self.view_is) c.requires.apart in
-    ∣ may_work R path answers ready m grain named laws.one laws.map laws.apart laws.union c.self.inside.bulk.now c.self.inside.part c.in_ok-made.made ws c.self.inside.runs.items c.args.task c.self.invariant apart c.in_ok-made.ensures ∣₁
+    ∣ may_work R path answers ready m grain named laws.one laws.map laws.apart laws.union c.self.inside.bulk.now c.self.inside.part ws c.self.inside.runs.items c.args.task c.self.invariant apart ∣₁
 
 pub invariant_of-result : goal.invariant_of-result
 invariant_of-result g c =
@@ -37,5 +37,5 @@ invariant_of-result g c =
     let is : interval ≡ c.args.task = λ k. record { lo = c.lo.ensures.lo k; hi = c.hi.ensures.hi k } in
     let list : c.push.new.self.items ≡ ws ++ c.args.task ∷ [] = c.in_ok-push.ensures.items ∙ (λ k. ws ++ is k ∷ []) in
     subst (λ xs. IsPartial R path answers ready m grain named c.self.inside.bulk.now c.in_ok-part.part xs qs) (sym list)
-    (has_worked R path answers ready m grain named laws.one laws.map laws.apart laws.union c.self.inside.bulk.now c.self.inside.part c.in_ok-made.made c.in_ok-part.part ws rs qs c.args.task c.self.invariant apart c.in_ok-made.ensures c.requires.uncut c.in_ok-part.ensures
+    (has_worked R path answers ready m grain named laws.one laws.map laws.apart laws.union c.self.inside.bulk.now c.self.inside.part c.in_ok-part.part ws rs qs c.args.task c.self.invariant apart c.requires.uncut c.in_ok-part.ensures
     (λ x. c.in_ok-add_run.ensures x ∙ ap (λ j. cover rs x + once j x) is))

@@ -13,7 +13,7 @@ pub returns-clause-tested : goal.returns-clause-tested
 returns-clause-tested g c =
     let R = g.K.Ord.cmp in
     let H = g.P.Keeps.holds in
-    let key = c.args.key.now in
+    let key = g.Q.Sought.key_of c.args.key in
     let stripe = c.deref_mut.result.now in
     let here = value_at R stripe.entries key in
     let law : AllKeep R (Belongs g.K.PathKey.path_of H stripe.digit) stripe.entries =
@@ -27,5 +27,5 @@ returns-clause-tested g c =
 pub returns-clause-removed : goal.returns-clause-removed
 returns-clause-removed g c =
     let told = c.remove_passing.ensures.removed in
-    let here = value_at g.K.Ord.cmp c.deref_mut.result.now.entries c.args.key.now in
+    let here = value_at g.K.Ord.cmp c.deref_mut.result.now.entries (g.Q.Sought.key_of c.args.key) in
     IfOk-weaker c.remove_passing.result _ _ (λ removed is. removed_passes g.F.FnOnce c.args.test arc_value here told.0 removed told.1 is) told.3

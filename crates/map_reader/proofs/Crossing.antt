@@ -1,0 +1,47 @@
+-- The latest base may be shared by threads, and go from one to another, where keys and values may.
+use denote.RattleType.{RattleType}
+use denote.Param.Send.{IsSend, IsSync, owning_send, sendable, struct_send, struct_sync}
+use denote.Struct.Owning.{fields, shape, to}
+use denote.Struct.Struct.{exits_of}
+use Rattle.std.proofs.Crossing as heap
+use Rattle.std.specs.contracts.alloc.Global as Heap
+use Rattle.std.specs.contracts.impls.GlobalAllocator.TheImpl as allocator
+use Rattle.std.specs.contracts.option.Option as Option
+use Rattle.std.specs.contracts.sync.Arc as Arc
+use Rattle.std.specs.contracts.sync.Mutex as Mutex
+use Rattle.std.specs.declared.cmp.Ord as Ord
+use Rattle.std.specs.declared.cmp.PartialEq as PartialEq
+use Rattle.std.specs.declared.cmp.PartialOrd as PartialOrd
+use Rattle.hash_path.specs.declared.key.PathKey as PathKey
+use Rattle.stripes.specs.declared.keeps.Keeps as Keeps
+use Rattle.map_reader.specs.contracts.latest.LatestBase as LatestBase
+use Rattle.map_reader.specs.contracts.latest.LatestBase.TheInside as Inside
+use Rattle.map_reader.specs.contracts.base.Base as Base
+use Rattle.stripes.proofs.Crossing.{quiet}
+use Rattle.versions.proofs.Crossing as maps
+
+module _ (K V P : RattleType) (key : PathKey.Ghosts K.Denot) (order : Ord.Ghosts K.Denot) (keq : PartialEq.Ghosts K.Denot) (kord : PartialOrd.Ghosts K.Denot) (keeps : Keeps.Ghosts P.Denot K.Denot V.Denot) where
+  abbrev Lock : RattleType
+  Lock = Mutex.the_row (Option.the_row (Arc.the_row (Base.the_row K V P key order keq kord keeps) Heap.the_row allocator.ghosts))
+
+  lock_send : IsSend K → IsSync K → IsSend V → IsSync V → IsSend Lock
+  lock_send ks ky vs vy = search (sendable, heap.crosses, maps.view_send, maps.view_sync) depth 40 fits 20000
+
+  lock_sync : IsSend K → IsSync K → IsSend V → IsSync V → IsSync Lock
+  lock_sync ks ky vs vy = search (sendable, heap.crosses, maps.view_send, maps.view_sync) depth 40 fits 20000
+
+  fields_send : IsSend Lock → IsSend (Inside.the_row K V P key order keq kord keeps)
+  fields_send lock =
+      let T = Inside.the_type K V P key order keq kord keeps in
+      owning_send T (lock, tt) (λ d. tt) (λ k. quiet (to T) (exits_of k (fields T)) ((struct_send (shape T) (lock, tt)).leaving k))
+
+  fields_sync : IsSync Lock → IsSync (Inside.the_row K V P key order keq kord keeps)
+  fields_sync lock =
+      let T = Inside.the_type K V P key order keq kord keeps in
+      record { shared = λ d b o κ. ((struct_sync (shape T) (lock, tt)).shared (to T d) b o κ, tt) }
+
+  pub latest_send : IsSend K → IsSend V → IsSync K → IsSync V → IsSend (LatestBase.the_row K V P key order keq kord keeps)
+  latest_send ks vs ky vy = let inside = fields_send (lock_send ks ky vs vy) in search sendable
+
+  pub latest_sync : IsSend K → IsSend V → IsSync K → IsSync V → IsSync (LatestBase.the_row K V P key order keq kord keeps)
+  latest_sync ks vs ky vy = let inside = fields_sync (lock_sync ks ky vs vy) in search sendable

@@ -1,0 +1,72 @@
+-- The lock goes into the struct. Assumes `Logic`.
+use lib.Dec.{T}
+use mir.Syntax.{a_type, dcons, dnil}
+use mir.Val.{Val, vstruct, of_list}
+use mir.MapTy.{inst_fn}
+use base.Logic.{SProp}
+use base.Fml.{fsep, feq, ftrue}
+use prog.Wp.{WpFn}
+use contract.Running.{tables}
+use types.Kit.{‵, raw, ◌⊛◌, prop, ◌$◌, ◌∵◌, !, qed, by, move, drop, split, fsplit, fjoin, fpack, feq_i, rewrite, regoal}
+use types.Run.{of_opd, no_more, and_then, returns, enter}
+use types.ByLocal.{alloc_all, pass_all, free_all, look_at, get, sets}
+use types.Part.{agg}
+use denote.Exit.{rest, no}
+use denote.RattleType.{RattleType, owns, Valss}
+use denote.Signature.{types_at, plain}
+use denote.Steps.{nothing}
+use denote.Param.{param, layout, bounded}
+use denote.Param.Laws.{Laws, param_laws}
+use denote.Triple.Entry.{alive}
+use denote.Triple.Walked.{Stays, stay_dropped, walk_of}
+use Rattle.std.proofs.Common.{◌≡◌, Bool, true, false, ◌&&◌, List, [], ◌∷◌, ◌++◌, refl}
+use Rattle.std.proofs.alloc.Calls.{Goes-blank}
+use Rattle.std.proofs.cell.Inside.{one}
+use Rattle.std.proofs.raw_atomic.Walks.{proved_at, leaves}
+use Rattle.std.proofs.alloc.Global.TheLaws as global
+use Rattle.std.proofs.option.Option.TheLaws as option
+use Rattle.std.proofs.sync.Arc.TheLaws as arc
+use Rattle.std.proofs.sync.Mutex.TheLaws as mutex
+use Rattle.map_reader.proofs.base.Base.TheLaws as kept
+use Rattle.std.specs.contracts.alloc.Global as Heap
+use Rattle.std.specs.contracts.impls.GlobalAllocator.TheImpl as allocator
+use Rattle.std.specs.contracts.option.Option as Option
+use Rattle.std.specs.contracts.sync.Arc as Arc
+use Rattle.std.specs.contracts.sync.Mutex as Mutex
+use Rattle.map_reader.specs.contracts.latest.LatestBase.TheInside as Inside
+use Rattle.map_reader.specs.contracts.base.Base as Base
+use Rattle.map_reader.specs.contracts.latest.LatestBase.new.{ended, clauses}
+use Rattle.map_reader.specs.contracts.latest.LatestBase.new.Key.{name as #self}
+use Rattle.map_reader.proofs.latest.LatestBase.new.Statement.{statement}
+use Rattle.map_reader.proofs.latest.LatestBase.new.Code as code
+
+and_tt : (b : Bool) → T b → T (b && true)
+and_tt true t = tt
+and_tt false t = absurd t
+
+pub new_spec : {M : Type 1} → statement M
+new_spec 𝓤 𝓛 𝓜 𝓡 wired K V P LK LV LP gk dk go dr gq dq ge de gp dp gr ds _ _ _ _ _ _ =
+    let H = 𝓛.H in let 𝓣 = tables 𝓤 H 𝓜 𝓡 𝓡.env in let R : RattleType = param 0 K in let Z : RattleType = param 1 V in let Q : RattleType = param 2 P in
+    let B : RattleType = Base.the_row R Z Q gk go ge gp gr in let A : RattleType = Arc.the_row B Heap.the_row allocator.ghosts in let L : RattleType = Mutex.the_row (Option.the_row A) in
+    let base_laws : Laws B = kept.the_row_laws R Z Q gk go ge gp gr (param_laws 0 K LK) (param_laws 1 V LV) (param_laws 2 P LP) in
+    let laws : Laws L = mutex.the_row_laws (Option.the_row A) (option.the_row_laws A (arc.the_row_laws B Heap.the_row allocator.ghosts base_laws global.the_row_laws)) in
+    let En = ended K V P gk dk go dr gq dq ge de gp dp gr ds in let c = clauses K V P gk dk go dr gq dq ge de gp dp gr ds 𝓛 𝓜.mem 𝓡.returns in
+    let inst = bounded (a_type ∷ a_type ∷ a_type ∷ []) (K, (V, (P, tt))) (dcons dk (dcons dr (dcons dq (dcons de (dcons dp (dcons ds dnil)))))) in let fn = inst_fn inst code.function in
+    let hs : Stays En.signature.params En.kept = (stay_dropped (plain (λ _. L)) no, tt) in
+    proved_at 𝓛 En hs c 𝓜 𝓡 (Goes-blank 𝓛 3 (plain (λ _. L)) no (λ κs x f. tt), tt) (#self inst) fn (code.unfolded 𝓤 H 𝓜 𝓡 wired (K, (V, (P, tt))) dk dr dq de dp ds) (λ z are.
+    let Post : Val → SProp 𝓤 = (walk_of 𝓛 En hs c).post z in let a = z.0.3 in let vss = z.0.4 in let x = a.0 in
+    let got = one (layout L) vss.0 ((laws.lawful 𝓛).typed x vss.0 are.0) in let w : Val = got.0 in let good = got.2 in let v : Val = vstruct (of_list (w ∷ [])) in
+    let I : RattleType = Inside.the_row R Z Q gk go ge gp gr in let made : I.Denot = record { lock = x } in
+    qed 𝓛 ((raw (alive 𝓛 En.signature z.0.0 z.0.1) ⊛ ‵ (owns (types_at En.signature.params z.0.0) a vss)) ∷ raw ((c z.0.0 a).requires z.1) ∷ []) ∵
+    move ! (1 ∷ []) $ drop ! $ split ! $ move ! (1 ∷ []) $ fsplit ! $ move ! (1 ∷ []) $ drop ! $
+    rewrite ! 0 (λ (us : List Val). ‵ (L.own_val x us)) got.1 refl $
+    regoal ! (λ (us : List Val). prop (WpFn 𝓤 H 𝓣.C 𝓣.Λ fn us Post)) (λ i. got.1 i ++ []) refl $
+    enter ! 𝓣.C 𝓣.Λ fn (w ∷ []) Post $ alloc_all ! (λ l. pass_all ! refl (good, tt) $
+    sets ! (of_opd ! (get ! refl)) refl good $ sets ! (agg ! (and_then ! (get ! refl) (no_more !))) refl (and_tt _ good.0, (good.1, tt)) $
+    returns ! (look_at ! 0 refl) $ free_all ! refl $
+    nothing ! $ move ! (1 ∷ 0 ∷ []) $ fjoin ! $ feq_i ! (List Val) (v ∷ []) (v ∷ []) refl $ fjoin ! $
+    fpack ! (Valss (L ∷ [])) (λ us. fsep (feq (List Val) (v ∷ []) (vstruct (of_list (us.0 ++ [])) ∷ [])) (owns (L ∷ []) (x, tt) us)) (w ∷ [], tt) $
+    nothing ! $ move ! (1 ∷ 0 ∷ []) $ fjoin ! $ nothing ! $ move ! (1 ∷ 0 ∷ []) $ fjoin ! $
+    fpack ! ((i : I.Denot) × ((tt {0} ≡ tt {0}) × Unit {0})) (λ h. fsep (I.own_val h.0 (v ∷ [])) ftrue) (made, (refl, tt)) $
+    nothing ! $ nothing ! $ nothing ! $ fjoin ! $ move ! (3 ∷ 0 ∷ 2 ∷ 1 ∷ []) $
+    by ! (leaves 𝓛 En hs c z v (tt {0}) (rest (L.exit no) x, tt) (tt, tt))))

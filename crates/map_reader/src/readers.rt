@@ -1,0 +1,113 @@
+//! What the readers of a map share.
+ghost use Rattle.std.specs.Prelude.{◌≡◌, ◌≤◌};
+
+use crate::base::Base;
+use crate::latest::LatestBase;
+use crate::reader::Reader;
+use hash_path::PathKey;
+use std::alloc::Global;
+use std::mem;
+use std::sync::atomic::{AtomicU64, Ordering};
+use std::sync::{Arc, Mutex, Wait};
+use stripes::{Anything, Keeps, Marking, Marks, Row, joined};
+use trie_node::NoMemory;
+use united_roots::RootRow;
+
+/// The latest base, unless its marks have ended, and how many bases were made until then.
+pub type Latest<K, V, P> = (Option<Arc<Base<K, V, P>>>, u64);
+
+/// What the readers of one map share: the latest base.
+///
+/// It borrows the map, so its readers read no other. Threads share it by reference, and each makes a `Reader` of its
+/// own by `reader`. One is enough for a map: of two, each ends the bases of the other.
+///
+/// # What it keeps
+///
+/// It makes a base when its readers need one: a view of the map, which keeps what was written over or removed since,
+/// and marks of 2 to 32 bits for each pair, of 1,024 bytes at least. The view is dropped when the next base is made and
+/// all readers have that one, or when a reader finds that the map was cleared, or with the `Readers` and its readers.
+/// The marks stay with the map until the next base or `clear`: a first write of a key sets a bit there. A map of which
+/// no reader was made has none.
+#[derive(Drop)]
+pub struct Readers<'m, K: PathKey, V, P: Keeps<K, V> = Anything> {
+    alloc: Global,
+    row: &'m Row<K, V, P>,
+    latest: LatestBase<K, V, P>,
+    made: AtomicU64,
+}
+
+impl<'m, K: PathKey + Drop, V: Drop, P: Keeps<K, V>> Readers<'m, K, V, P> {
+    /// Readers of the map that has these stripes, with no base yet.
+    pub fn new(alloc: Global, row: &'m Row<K, V, P>) -> Readers<'m, K, V, P> {
+        Readers {
+            alloc,
+            row,
+            latest: LatestBase::new(Mutex::new(None)),
+            made: AtomicU64::new(0),
+        }
+    }
+
+    /// A reader for one thread. It takes no memory.
+    pub fn reader(&self) -> Reader<'_, K, V, P> {
+        Reader::new(self)
+    }
+
+    /// The stripes of the map.
+    pub(crate) fn row(&self) -> &Row<K, V, P> {
+        self.row
+    }
+
+    /// How many bases its readers have made until now: each is a view of the map. It takes no memory and no lock.
+    pub fn made(&self) -> u64 {
+        self.made.load(Ordering::SeqCst)
+    }
+
+    /// The latest base, unless it has ended: then it is let go. None is answered where another thread is at it, and
+    /// nobody waits.
+    pub(crate) fn latest(&self) -> Option<Latest<K, V, P>> {
+        let mut latest = self.latest.as_lock().try_lock()?;
+        let base = unless_over(&latest);
+        let ended = if base.is_none() { latest.take() } else { None };
+        let made = self.made();
+        drop(latest);
+        // So its nodes are dropped with no lock held.
+        drop(ended);
+        Some((base, made))
+    }
+
+    /// A new base for about so many pairs, or the latest one where others than `seen` were made. None is answered where
+    /// another thread is at it, and if memory runs out.
+    pub(crate) fn next<R: Wait>(&self, rt: &R, pairs: u64, seen: u64) -> Option<Latest<K, V, P>> {
+        let mut latest = self.latest.as_lock().try_lock()?;
+        if self.made() != seen {
+            return Some((unless_over(&latest), self.made()));
+        }
+        let base = self.new_base(rt, pairs).ok()?;
+        let before = mem::replace(&mut *latest, Some(Arc::try_clone(&base).ok()?));
+        let made = self.made.fetch_add(1, Ordering::SeqCst).wrapping_add(1);
+        drop(latest);
+        // So the nodes of the base before are dropped with no lock held.
+        drop(before);
+        Some((Some(base), made))
+    }
+
+    // A base of the map as it stands at one moment of the call, when all stripes are held.
+    fn new_base<R: Wait>(&self, rt: &R, pairs: u64) -> Result<Arc<Base<K, V, P>>, NoMemory> {
+        let marks = Arc::new(self.alloc, Marks::new(self.alloc, pairs)?)?;
+        let mut marking = Marking::new(self.alloc, &marks)?;
+        let room = RootRow::new(self.alloc)?;
+        let held = self.row.all_marked(rt, self.alloc, &mut marking)?;
+        let map = joined(self.alloc, room, held)?;
+        Ok(Arc::new(self.alloc, Base::new(map.view()?, marks))?)
+    }
+}
+
+// A handle on the base, unless its marks have ended.
+fn unless_over<K: PathKey + Drop, V: Drop, P: Keeps<K, V>>(
+    base: &Option<Arc<Base<K, V, P>>>,
+) -> Option<Arc<Base<K, V, P>>> {
+    match base {
+        Some(base) if !base.is_over() => Arc::try_clone(base).ok(),
+        _ => None,
+    }
+}

@@ -1,0 +1,108 @@
+//! What readers answer beside writers, and how often they have a new base.
+mod answers;
+mod bases;
+mod threads;
+
+use crate::{Reader, Readers};
+use hash_path::PathKey;
+use std::fmt::Debug;
+use std::process::Abort;
+use std::sync::{Arc, MutexGuard, Wait};
+use stripes::{Anything, Row, Stripe, blanks, clear_all, empties};
+
+// The stripes of a map of the tests.
+type Stripes = Row<u64, u64, Anything>;
+
+// A key that no test writes.
+const ABSENT: u64 = u64::MAX;
+
+// What is seen is what is wanted. An assertion is proved wherever it is written out, so it stands here once.
+fn assert_is<T: PartialEq + Debug + Drop>(rt: &impl Abort, seen: T, want: T) {
+    assert_eq!(rt; seen, want);
+}
+
+// The stripes of a map with no pairs. A step that fails ends its test.
+fn empty<R: AllocGlobal + Abort>(rt: &R) -> Stripes {
+    let stripes = empties(rt.alloc()).expect(rt, "no stripes");
+    Row::new(rt.alloc(), stripes).expect(rt, "no locks")
+}
+
+// The stripes of a map in which each key below `pairs` has itself as its value.
+fn filled<R: AllocGlobal + Wait + Abort>(rt: &R, pairs: u64) -> Stripes {
+    let row = empty(rt);
+    for key in 0..pairs {
+        put(rt, &row, key, key);
+    }
+    row
+}
+
+fn locked<'m, R: Wait>(
+    rt: &R,
+    row: &'m Stripes,
+    key: u64,
+) -> MutexGuard<'m, Stripe<u64, u64, Anything>> {
+    row.stripe_at(rt, key.path())
+}
+
+fn put<R: AllocGlobal + Wait + Abort>(rt: &R, row: &Stripes, key: u64, value: u64) {
+    let path = key.path();
+    let key = Arc::new(rt.alloc(), key).expect(rt, "no key");
+    let value = Arc::new(rt.alloc(), value).expect(rt, "no value");
+    let mut stripe = row.stripe_at(rt, path);
+    let done = stripe.put(rt.alloc(), key, path, value);
+    assert!(rt; done.is_ok(), "not put");
+}
+
+fn remove<R: AllocGlobal + Wait + Abort>(rt: &R, row: &Stripes, key: u64) {
+    let path = key.path();
+    let mut stripe = row.stripe_at(rt, path);
+    let done = stripe.remove(rt.alloc(), &key, path);
+    assert!(rt; done.is_ok(), "not removed");
+}
+
+// Adds 100 to the value of the key.
+fn update<R: AllocGlobal + Wait + Abort>(rt: &R, row: &Stripes, key: u64) {
+    let path = key.path();
+    let key = Arc::new(rt.alloc(), key).expect(rt, "no key");
+    let mut stripe = row.stripe_at(rt, path);
+    let done = stripe.update(
+        rt.alloc(),
+        key,
+        path,
+        |old: Option<&u64>| old.map(|value| value.wrapping_add(100)),
+    );
+    assert!(rt; done.is_ok(), "not updated");
+}
+
+fn clear<R: AllocGlobal + Wait + Abort>(rt: &R, row: &Stripes) {
+    let blanks = blanks(rt.alloc()).expect(rt, "no blanks");
+    let held = row.all(rt, rt.alloc()).expect(rt, "not held");
+    clear_all(held, blanks);
+}
+
+// Reads the absent key so often.
+fn miss<R: Wait>(rt: &R, reader: &mut Reader<'_, u64, u64>, times: u32) {
+    for _ in 0..times {
+        reader.get_copied(rt, &ABSENT);
+    }
+}
+
+// A reader of a map of fewer than 32 pairs that has just made a base.
+fn with_base<'r, R: Wait>(rt: &R, readers: &'r Readers<'_, u64, u64>) -> Reader<'r, u64, u64> {
+    let mut reader = readers.reader();
+    miss(rt, &mut reader, 64);
+    reader
+}
+
+// What the reader answers for the key by both of its calls.
+fn both<R: Wait>(
+    rt: &R,
+    reader: &mut Reader<'_, u64, u64>,
+    key: u64,
+) -> (Option<u64>, Option<u64>) {
+    let copied = reader.get_copied(rt, &key);
+    (
+        copied,
+        reader.read(rt, &key, |found: Option<&u64>| found.copied()),
+    )
+}

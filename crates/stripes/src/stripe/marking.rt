@@ -1,0 +1,30 @@
+//! The marks of what was written to a stripe.
+ghost use Rattle.std.specs.Prelude.{◌≡◌};
+
+use super::Stripe;
+use crate::keeps::Keeps;
+use crate::marks::Marks;
+use hash_path::PathKey;
+use std::mem;
+use std::sync::Arc;
+
+impl<K: PathKey + Drop, V: Drop, P: Keeps<K, V>> Stripe<K, V, P> {
+    /// Has the stripe's writes marked there from now on, and answers where they were marked before. The pairs stay as
+    /// they are.
+    ///
+    /// The marks before have to end before the stripe is let go.
+    pub fn follow(&mut self, marks: Arc<Marks>) -> Option<Arc<Marks>>
+        ensures { self.new ≡ self.old }
+    {
+        mem::replace(&mut self.marks, Some(marks))
+    }
+
+    // Ends the marks and lets them go, before all pairs are removed.
+    pub(super) fn end_marks(&mut self)
+        ensures { self.new ≡ self.old }
+    {
+        if let Some(marks) = self.marks.take() {
+            marks.end();
+        }
+    }
+}

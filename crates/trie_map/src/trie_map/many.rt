@@ -1,0 +1,52 @@
+//! The values of several keys, at one moment.
+ghost use Rattle.std.specs.Prelude.{◌≡◌, IfOk, map, option_map};
+ghost use Rattle.stripes.specs.Rules.{AllKeep};
+ghost use Rattle.versions.specs.Map.{Map, value_at};
+
+use super::TrieMap;
+use hash_path::{PathKey, Sought};
+use std::alloc::Global;
+use std::sync::{Arc, Wait};
+use stripes::Keeps;
+use trie_node::NoMemory;
+
+impl<K: PathKey + Drop, V: Drop, P: Keeps<K, V>> TrieMap<K, V, P> {
+    /// The values of keys, in the order of the keys, of the map as it stands at one moment of the call: for each its
+    /// value, or none. A view is taken, and its `get_many` answers: nobody waits for the look-ups. So it is for more
+    /// than a few keys, or where their values have to be of one moment; who has a view already asks that.
+    pub fn get_many<R: Wait, Q: Sought<K>>(
+        &self,
+        rt: &R,
+        keys: &[Q],
+    ) -> Result<Vec<Option<Arc<V>>>, NoMemory>
+        ensures { IfOk result (λ values. (m : Map K V) × AllKeep K.cmp P.holds m × (map (option_map (λ value. value.value)) values.items ≡ map (λ key. value_at K.cmp m (Q.key_of key)) keys.now)) }
+    {
+        let view = self.view(rt)?;
+        view.law();
+        handles_on(self.alloc, view.get_many(keys)?.as_slice())
+    }
+}
+
+/// A handle on each of some values that are lent.
+fn handles_on<V: Drop>(
+    alloc: Global,
+    lent: &[Option<&Arc<V>>],
+) -> Result<Vec<Option<Arc<V>>>, NoMemory>
+    ensures { IfOk result (λ values. map (option_map (λ value. value.value)) values.items ≡ map (option_map (λ value. value.now.value)) lent.now) }
+{
+    let mut values = Vec::with_capacity(alloc, lent.len())?;
+    for value in lent {
+        values.push(handle_on(*value)?)?;
+    }
+    Ok(values)
+}
+
+/// A handle on a value that is lent, or none.
+fn handle_on<V>(lent: Option<&Arc<V>>) -> Result<Option<Arc<V>>, NoMemory>
+    ensures { IfOk result (λ value. option_map (λ value. value.value) value ≡ option_map (λ value. value.now.value) lent.entry) }
+{
+    match lent {
+        Some(value) => Ok(Some(Arc::try_clone(value)?)),
+        None => Ok(None),
+    }
+}

@@ -1,0 +1,23 @@
+//! The values of several keys of a view.
+ghost use Rattle.std.specs.Prelude.{◌≡◌, IfOk, map, option_map};
+ghost use Rattle.versions.specs.Map.{value_at};
+
+use super::View;
+use hash_path::{PathKey, Sought};
+use std::sync::Arc;
+use stripes::Keeps;
+use trie_lookups::find_many;
+use trie_node::NoMemory;
+
+impl<K: PathKey + Drop, V: Drop, P: Keeps<K, V>> View<K, V, P> {
+    /// The values of keys, in the order of the keys: for each what `get` answers. They are lent, and no memory is
+    /// requested but for the list.
+    ///
+    /// Eight keys are looked up side by side: a look-up waits for memory at each level, and those of other keys do not
+    /// wait for it. So in a large map a key takes less time than by `get`.
+    pub fn get_many<Q: Sought<K>>(&self, keys: &[Q]) -> Result<Vec<Option<&Arc<V>>>, NoMemory>
+        ensures { IfOk result (λ values. map (option_map (λ value. value.now.value)) values.items ≡ map (λ key. value_at K.cmp self.now (Q.key_of key)) keys.now) }
+    {
+        find_many(self.alloc, self.plain.root(), keys)
+    }
+}
