@@ -33,6 +33,8 @@ where
     /// finish finds no memory, and as `NoJob`, where the job is closed already. The job is open after `NoMemory`:
     /// `finish` closes it by a part of the ticket's view, which `bulk_ops::work` makes, and `abandon` closes it without
     /// an answer.
+    ///
+    /// The contract allows `NoMemory` whatever memory there is. Tests show that it is answered for want of memory alone.
     pub fn bulk<G: Gate + Sync, R: Threads + Wait + Sync>(
         &self,
         rt: &R,

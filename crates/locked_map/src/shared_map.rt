@@ -209,9 +209,17 @@ impl<K: PathKey + Drop, V: Eq + Drop, Q: Asks<K, V> + Drop, J: Room> SharedMap<K
     /// Ends the map, where each seat's list is what the journal has of the seat, and its marks hold. It takes no
     /// memory.
     ///
-    /// It is `Torn` where the seats are not all those of the map, in the order of their numbers, or where an entry of a
-    /// seat is not the journal's at its place, or stands below the floor beside it, or where an entry was placed that is
-    /// nobody's, or a seat was answered `JournalFull` and the journal has room, or `NoJob` and the job is open.
+    /// # Errors
+    ///
+    /// `Torn`, where one of these does not hold:
+    ///
+    /// - the seats are all those of the map, in the order of their numbers;
+    /// - each entry of a seat is the journal's at its place, and does not stand below the floor beside it;
+    /// - each entry that was placed is a seat's;
+    /// - a seat that was answered `JournalFull` finds the journal full, and one that was answered `NoJob` the job closed.
+    ///
+    /// The contract says what holds where the map was closed. That it is closed where all of these hold, and that a run in
+    /// which every seat is handed back comes to that, tests show.
     pub fn close(self, seats: Vec<Seat<K, V, Q, J>>) -> Result<Closed<K, V, Q>, Torn>
         ensures legal { IfOk result (λ c. IsLegal (machine K.cmp V.eq Q.target_of Q.answered) c.table.limits c.journal c.table) }
         ensures seats { IfOk result (λ c. All (λ e. e.seat < vec_len seats) c.journal) }
