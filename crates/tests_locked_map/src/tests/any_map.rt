@@ -1,14 +1,15 @@
 //! A shared map of the tests by its calls alone, without what they promise.
 //!
 //! What a shared map is made of is much to prove in each function that names it. So functions are written over any map,
-//! and only this file, and where a client or a script is handed its map, names the shared one.
+//! and only this file, and where a client or a script is handed its map, names the shared one. It is lent in a type of its
+//! own, and so are its tickets and parts: the prover compares such a type with itself in few steps.
 ghost use Rattle.std.specs.Prelude.{◌≡◌, ◌≤◌, IfErr, IfOk};
 ghost use Rattle.std.specs.Thread.{IsSync};
 
-use super::outcomes::{Seen, seen_in};
+use super::outcomes::{Outcome, Seen, seen_in, told_of_answer};
 use super::questions::{Query, worked};
 use super::waiting::TestGate;
-use bulk_ops::{Answer, Part};
+use bulk_ops::Part;
 use combiner::Bulk;
 use handles::{Call, CallReply};
 use locked_map::{Crew, Room, Seat, SharedMap, Ticket};
@@ -18,15 +19,17 @@ use std::thread::Threads;
 use test_keys::ChosenKey;
 use versions::{NoMemory, Refusal, View};
 
-/// What a query of the tests is answered.
-pub type TestAnswer = Answer<ChosenKey, u64, i128>;
-
 type TestSeat<J> = Seat<ChosenKey, u64, Query, J>;
 
-type TestTicket<J> = Ticket<ChosenKey, u64, Query, J>;
+/// A shared map of the tests.
+#[derive(Drop)]
+pub struct Lent<'a, J: Room>(pub &'a SharedMap<ChosenKey, u64, Query, J>);
 
-/// A part of a query of the tests. In a type of its own, which has no parameters, it is compared with itself in few steps
-/// of the prover.
+/// A ticket of one.
+#[derive(Drop)]
+pub struct TestTicket<J: Room>(Ticket<ChosenKey, u64, Query, J>);
+
+/// A part of a query of the tests.
 #[derive(Drop)]
 pub struct TestPart(Part<ChosenKey, u64, i128>);
 
@@ -90,14 +93,14 @@ pub trait AnyMap {
     fn work(alloc: Global, ticket: &Self::Ticket) -> Result<Self::Part, NoMemory>
         ensures { IfOk result (λ part. answers ticket.now part) };
 
-    /// Finishes the job by the part.
+    /// Finishes the job by the part, and gives what is told.
     fn finish<R: Wait>(
         &self,
         rt: &R,
         seat: &mut Self::Seat,
         ticket: Self::Ticket,
         part: Self::Part,
-    ) -> Result<TestAnswer, (Refusal, Self::Ticket, Self::Part)>
+    ) -> Result<Outcome, (Refusal, Self::Ticket, Self::Part)>
         requires { answers ticket part }
         ensures ticket { IfErr result (λ e. e.1 ≡ ticket) }
         ensures part { IfErr result (λ e. e.2 ≡ part) };
@@ -110,7 +113,7 @@ pub trait AnyMap {
         ticket: Self::Ticket,
     ) -> Result<(), (Refusal, Self::Ticket)>;
 
-    /// Has a crew answer the query, which asks the gate before each piece.
+    /// Has a crew answer the query, which asks the gate before each piece, and gives what is told.
     fn bulk<R: Threads + Wait + Sync>(
         &self,
         rt: &R,
@@ -119,7 +122,7 @@ pub trait AnyMap {
         query: Arc<Query>,
         crew: Crew,
         gate: &TestGate<'_>,
-    ) -> Result<TestAnswer, (Refusal, Option<Self::Ticket>)>
+    ) -> Result<Outcome, (Refusal, Option<Self::Ticket>)>
         requires sync { IsSync R.row }
         requires least_workers { 1 ≤ crew.workers }
         requires most_workers { crew.workers ≤ 16 }
@@ -127,21 +130,21 @@ pub trait AnyMap {
         requires most_grain { crew.grain ≤ 65536 };
 }
 
-impl<J: Room> AnyMap for SharedMap<ChosenKey, u64, Query, J> {
+impl<'a, J: Room> AnyMap for Lent<'a, J> {
     type Seat = Seat<ChosenKey, u64, Query, J>;
 
-    type Ticket = Ticket<ChosenKey, u64, Query, J>;
+    type Ticket = TestTicket<J>;
 
     type Part = TestPart;
 
-    ghost answers = { λ ticket part. ⟦<Query as Bulk<ChosenKey, u64>>⟧.answers ticket.query ticket.frozen part.0 };
+    ghost answers = { λ ticket part. ⟦<Query as Bulk<ChosenKey, u64>>⟧.answers ticket.0.query ticket.0.frozen part.0 };
 
     fn meet(one: &mut TestSeat<J>, two: &mut TestSeat<J>) {
         one.meet(two);
     }
 
     fn job(ticket: &TestTicket<J>) -> u64 {
-        ticket.job()
+        ticket.0.job()
     }
 
     fn call<R: Wait>(
@@ -150,7 +153,7 @@ impl<J: Room> AnyMap for SharedMap<ChosenKey, u64, Query, J> {
         seat: &mut TestSeat<J>,
         call: Call<ChosenKey, u64>,
     ) -> Result<CallReply<u64>, Refusal> {
-        self.call(rt, seat, call)
+        self.0.call(rt, seat, call)
     }
 
     fn get_or_else_update<R: Wait, F: FnOnce() -> u64>(
@@ -161,7 +164,7 @@ impl<J: Room> AnyMap for SharedMap<ChosenKey, u64, Query, J> {
         key: Arc<ChosenKey>,
         make: F,
     ) -> Result<Arc<u64>, Refusal> {
-        self.get_or_else_update(rt, seat, handle, key, make)
+        self.0.get_or_else_update(rt, seat, handle, key, make)
     }
 
     fn view<R: Wait>(
@@ -170,7 +173,7 @@ impl<J: Room> AnyMap for SharedMap<ChosenKey, u64, Query, J> {
         seat: &mut TestSeat<J>,
         handle: u32,
     ) -> Result<View<ChosenKey, u64>, Refusal> {
-        self.view(rt, seat, handle)
+        self.0.view(rt, seat, handle)
     }
 
     fn freeze<R: Wait>(
@@ -180,17 +183,17 @@ impl<J: Room> AnyMap for SharedMap<ChosenKey, u64, Query, J> {
         handle: u32,
         query: Arc<Query>,
     ) -> Result<(TestTicket<J>, Seen), Refusal> {
-        match self.freeze(rt, seat, handle, query) {
+        match self.0.freeze(rt, seat, handle, query) {
             Ok(ticket) => {
                 let seen = seen_in(ticket.view());
-                Ok((ticket, seen))
+                Ok((TestTicket(ticket), seen))
             }
             Err(refusal) => Err(refusal),
         }
     }
 
     fn work(alloc: Global, ticket: &TestTicket<J>) -> Result<TestPart, NoMemory> {
-        Ok(TestPart(worked(alloc, ticket.view(), ticket.query())?))
+        Ok(TestPart(worked(alloc, ticket.0.view(), ticket.0.query())?))
     }
 
     fn finish<R: Wait>(
@@ -199,10 +202,10 @@ impl<J: Room> AnyMap for SharedMap<ChosenKey, u64, Query, J> {
         seat: &mut TestSeat<J>,
         ticket: TestTicket<J>,
         part: TestPart,
-    ) -> Result<TestAnswer, (Refusal, TestTicket<J>, TestPart)> {
-        match self.finish(rt, seat, ticket, part.0) {
-            Ok(answer) => Ok(answer),
-            Err((refusal, ticket, part)) => Err((refusal, ticket, TestPart(part))),
+    ) -> Result<Outcome, (Refusal, TestTicket<J>, TestPart)> {
+        match self.0.finish(rt, seat, ticket.0, part.0) {
+            Ok(answer) => Ok(told_of_answer(&answer)),
+            Err((refusal, ticket, part)) => Err((refusal, TestTicket(ticket), TestPart(part))),
         }
     }
 
@@ -212,7 +215,10 @@ impl<J: Room> AnyMap for SharedMap<ChosenKey, u64, Query, J> {
         seat: &mut TestSeat<J>,
         ticket: TestTicket<J>,
     ) -> Result<(), (Refusal, TestTicket<J>)> {
-        self.abandon(rt, seat, ticket)
+        match self.0.abandon(rt, seat, ticket.0) {
+            Ok(()) => Ok(()),
+            Err((refusal, ticket)) => Err((refusal, TestTicket(ticket))),
+        }
     }
 
     fn bulk<R: Threads + Wait + Sync>(
@@ -223,7 +229,11 @@ impl<J: Room> AnyMap for SharedMap<ChosenKey, u64, Query, J> {
         query: Arc<Query>,
         crew: Crew,
         gate: &TestGate<'_>,
-    ) -> Result<TestAnswer, (Refusal, Option<TestTicket<J>>)> {
-        self.bulk(rt, seat, handle, query, crew, gate)
+    ) -> Result<Outcome, (Refusal, Option<TestTicket<J>>)> {
+        match self.0.bulk(rt, seat, handle, query, crew, gate) {
+            Ok(answer) => Ok(told_of_answer(&answer)),
+            Err((refusal, Some(ticket))) => Err((refusal, Some(TestTicket(ticket)))),
+            Err((refusal, None)) => Err((refusal, None)),
+        }
     }
 }

@@ -3,7 +3,7 @@
 //! Nothing here returns early, and what the test itself lacks is an outcome too, which no test wants: so no function
 //! has values to let go on the way.
 use super::any_map::AnyMap;
-use super::outcomes::{Outcome, told_of_answer, told_of_call, told_of_got, told_of_view};
+use super::outcomes::{Outcome, told_of_call, told_of_got, told_of_view};
 use super::questions::Query;
 use super::requests::{Deed, Prepared, prepare};
 use super::waiting::TestGate;
@@ -118,7 +118,7 @@ fn finish<M: AnyMap, R: Wait>(
         return Outcome::Lost;
     };
     match map.finish(rt, seat, ticket, part) {
-        Ok(answer) => told_of_answer(&answer),
+        Ok(told) => told,
         Err((refusal, ticket, _)) => kept(tickets, ticket, Outcome::Refused(refusal)),
     }
 }
@@ -190,7 +190,7 @@ pub fn bulk<M: AnyMap, R: Threads + Wait + Sync>(
     gate: &TestGate<'_>,
 ) -> Outcome {
     match map.bulk(rt, seat, handle, query, CREW, gate) {
-        Ok(answer) => told_of_answer(&answer),
+        Ok(told) => told,
         Err((refusal, ticket)) => match ticket {
             Some(ticket) => kept(tickets, ticket, Outcome::Returned(refusal)),
             None => Outcome::Refused(refusal),

@@ -1,7 +1,7 @@
 //! How a seat does something with requests for memory refused: all of them, or the first, the second and so on.
-use super::any_map::{AnyMap, TestAnswer};
+use super::any_map::AnyMap;
 use super::making::{take, taken};
-use super::outcomes::{Outcome, told_of_answer};
+use super::outcomes::Outcome;
 use super::requests::Prepared;
 use std::alloc::Global;
 use std::sync::Wait;
@@ -106,7 +106,7 @@ fn short_finish<M: AnyMap, R: Wait>(
         return Outcome::Lost;
     };
     match finish(rt, alloc, map, seat, ticket, part) {
-        Some(answer) => told_of_answer(&answer),
+        Some(told) => told,
         None => Outcome::Lost,
     }
 }
@@ -119,7 +119,7 @@ fn finish<M: AnyMap, R: Wait>(
     seat: &mut M::Seat,
     ticket: M::Ticket,
     part: M::Part,
-) -> Option<TestAnswer>
+) -> Option<Outcome>
     requires { M.answers ticket part }
 {
     let mut ticket = ticket;
@@ -127,7 +127,7 @@ fn finish<M: AnyMap, R: Wait>(
     let mut shortage = Shortage::new(alloc).ok()?;
     for refused in 0..TRIES {
         match map.finish(rt, seat, ticket, part) {
-            Ok(answer) => return if refused > 0 { Some(answer) } else { None },
+            Ok(told) => return if refused > 0 { Some(told) } else { None },
             Err((Refusal::NoMemory, same_ticket, same_part)) => {
                 ticket = same_ticket;
                 part = same_part;

@@ -2,7 +2,7 @@
 ghost use Rattle.std.specs.Prelude.{⊤};
 ghost use Rattle.std.specs.Thread.{IsSync};
 
-use super::any_map::AnyMap;
+use super::any_map::{AnyMap, Lent};
 use super::assert_limits;
 use super::entries::TestClosed;
 use super::questions::Query;
@@ -49,7 +49,7 @@ impl<P: Plays> Client<ChosenKey, u64, Query> for Playing<P> {
         seat: &mut Seat<ChosenKey, u64, Query, J>,
     ) -> P::Out {
         let Playing(client) = self;
-        client.play(rt, alloc, map, seat)
+        client.play(rt, alloc, &Lent(map), seat)
     }
 }
 

@@ -3,7 +3,7 @@
 //! Most tests are such a list, each step beside what it is told: a list is no work to prove.
 ghost use Rattle.std.specs.Prelude.{⊤};
 
-use super::any_map::AnyMap;
+use super::any_map::{AnyMap, Lent};
 use super::entries::{Entered, TestClosed};
 use super::making::{act, take, taken};
 use super::memory::{dry, short};
@@ -65,7 +65,7 @@ impl Use<ChosenKey, u64, Query> for Script {
         map: &SharedMap<ChosenKey, u64, Query, J>,
         seats: &mut Vec<Seat<ChosenKey, u64, Query, J>>,
     ) -> Told {
-        play(rt, alloc, map, seats, self)
+        play(rt, alloc, &Lent(map), seats, self)
     }
 }
 

@@ -1,5 +1,5 @@
 use Rattle.test_queries.proofs.Ready.{always_ready}
-use Rattle.tests_locked_map.proofs.tests.any_map.SharedMapChosenKeyU64QueryAnyMap.bulk.Goals as goal
+use Rattle.tests_locked_map.proofs.tests.any_map.LentAnyMap.bulk.Goals as goal
 
 -- the closures of the tests may be called on every pair
 pub bulk-requires-clause-ready : goal.bulk-requires-clause-ready
