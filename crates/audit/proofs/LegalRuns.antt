@@ -11,7 +11,7 @@ use Rattle.questions.proofs.OneStep.{Settled, settled}
 use Rattle.journal_text.specs.Calls.{IsLawfulRequest, call_text, outcome_text}
 use Rattle.journal_text.specs.Entries.{ProgramEntry, IsLawfulEntry}
 use Rattle.audit.specs.Verdicts.{AreLawful}
-use Rattle.audit.specs.Runs.{MayBeAsked, MayBeMade, RunsAreLegal, StatementsMayBeAsked}
+use Rattle.audit.specs.Runs.{EntriesAreLawful, MayBeAsked, MayBeMade, RunsAreLegal, StatementsMayBeAsked}
 use Rattle.audit.proofs.Room.{HasRoom, job_number, no_end_entry, open_job, step_has_room}
 use Rattle.audit.proofs.ByteLemmas.{ascii_text}
 use Rattle.audit.proofs.AsciiLemmas.{ascii_call, ascii_outcome}
@@ -64,10 +64,11 @@ all_lawful (e ∷ es) s t may filed run k keys =
     let kept = step_keys s e.request e.outcome run.0 may.1 p.0 keys run.1 in
     (lawful_entry e s run.0 may.0 may.1 p.0 k keys run.1, all_lawful es run.0 t may.2 p.1 run.2 later kept.0)
 
+pub entries_are_lawful : EntriesAreLawful
+entries_are_lawful es t may legal = all_lawful es (nothing largest) t may legal.filed legal.run room_at_first (record { live = tt; jobs = tt })
+
 pub runs_are_legal : RunsAreLegal
-runs_are_legal es t may legal =
-    let lawful = all_lawful es (nothing largest) t may legal.filed legal.run room_at_first (record { live = tt; jobs = tt }) in
-    (es, t, record { lawful = lawful; legal = legal }, refl, refl)
+runs_are_legal es t may legal = (es, t, record { lawful = entries_are_lawful es t may legal; legal = legal }, refl, refl)
 
 -- what a statement asks is what it says, but for the value of a getorelse
 pub statements_may_be_asked : StatementsMayBeAsked

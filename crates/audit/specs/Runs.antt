@@ -7,7 +7,7 @@ use Rattle.script.specs.declared.statement.Statement.TheVariants.{PutIfAbsent}
 use Rattle.script.specs.Statements.{IsLawful}
 use Rattle.questions.specs.Program.{program, ProgramState, ProgramRequest, largest, request_for}
 use Rattle.journal_text.specs.Calls.{IsLawfulRequest}
-use Rattle.journal_text.specs.Entries.{ProgramEntry, text_of_journal}
+use Rattle.journal_text.specs.Entries.{AreLawful, ProgramEntry, text_of_journal}
 use Rattle.audit.specs.Verdicts.{IsVerdict}
 use Rattle.audit.specs.declared.verdict.Verdict.{Verdict}
 use Rattle.audit.specs.declared.verdict.Verdict.TheVariants.{Legal}
@@ -30,6 +30,10 @@ HasOneVerdict = (text : List ℕ) (v w : Verdict) → IsVerdict text v → IsVer
 -- the text of a legal journal whose entries may be made is legal, of as many entries
 abbrev pub RunsAreLegal : Type 0
 RunsAreLegal = (es : List ProgramEntry) (t : ProgramState) → MayBeMade es → IsLegal program largest es t → IsVerdict (text_of_journal es) (Legal (length es))
+
+-- the entries of a legal journal that may be made are lawful
+abbrev pub EntriesAreLawful : Type 0
+EntriesAreLawful = (es : List ProgramEntry) (t : ProgramState) → MayBeMade es → IsLegal program largest es t → AreLawful es
 
 -- what a statement asks at first may be asked, where its parts are in their ranges
 abbrev pub StatementsMayBeAsked : Type 0

@@ -1,17 +1,13 @@
 -- What the audit of a text says.
-use Rattle.std.specs.Prelude.{◌≡◌, ℕ, ◌-◌, List, [], ◌∷◌, length, take}
+use Rattle.std.specs.Prelude.{◌≡◌, ℕ, ◌-◌, List, length, take}
 use Rattle.journal.specs.Journals.{IsLegal}
 use Rattle.questions.specs.Program.{program, ProgramState, largest}
-use Rattle.journal_text.specs.Entries.{ProgramEntry, IsLawfulEntry, lines_behind}
+pub use Rattle.journal_text.specs.Entries.{AreLawful}
+use Rattle.journal_text.specs.Entries.{ProgramEntry, lines_behind}
 use Rattle.journal_lines.specs.Lines.{lines_in}
 use Rattle.journal_text.specs.Entries.{text_of_journal}
 use Rattle.audit.specs.declared.verdict.Verdict.{Verdict}
 use Rattle.audit.specs.declared.verdict.Verdict.TheVariants.{Legal, Bad}
-
--- each of the entries has a seat and a request in their ranges
-abbrev pub AreLawful : List ProgramEntry → Type 0
-AreLawful [] = Unit {0}
-AreLawful (e ∷ es) = IsLawfulEntry e × AreLawful es
 
 -- a legal journal, which leads to this state: its entries are lawful and are a run of the machine from no handles, no jobs and no entries
 pub record IsLegalJournal (es : List ProgramEntry) (t : ProgramState) : Type 0 where

@@ -15,5 +15,5 @@ mod values;
 mod verdict;
 
 pub use auditing::audit;
-pub use laws::{law_of_runs, law_of_statements, law_of_verdicts};
+pub use laws::{law_of_entries, law_of_runs, law_of_statements, law_of_verdicts};
 pub use verdict::Verdict;

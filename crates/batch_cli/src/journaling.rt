@@ -1,6 +1,7 @@
 //! The text of a run's journal.
 
 ghost use Rattle.std.specs.Prelude.{◌≡◌, ◌≢◌, ◌≤◌, None, option_map};
+ghost use Rattle.journal_text.specs.Entries.{AreLawful};
 ghost use Rattle.script_runs.specs.Runs.{IsKept};
 
 use crate::run::Journal;
@@ -17,6 +18,7 @@ pub fn kept<E: Write>(
     journal: &Journal,
     err: &mut E,
 ) -> (u8, Option<Vec<u8>>)
+    requires { AreLawful journal.now }
     ensures kept { result.0 ≡ 0 → IsKept asked journal.now (option_map (λ kept. kept.items) result.1) }
     ensures failed { result.0 ≢ 0 → result.1 ≡ None }
     ensures statuses { result.0 ≤ 1 }

@@ -4,6 +4,7 @@ ghost use Rattle.std.specs.Prelude.{◌≡◌, ◌<◌, ◌≤◌, All, IfOk, Is
 ghost use Rattle.std.specs.Io.KnownBytes.{Appends, Keeps};
 ghost use Rattle.script.specs.Statements.{IsLawfulLine};
 ghost use Rattle.batch_cli.specs.CommandLine.{AreInRange};
+ghost use Rattle.journal_text.specs.Entries.{AreLawful};
 ghost use Rattle.script_runs.specs.Runs.{IsRunOf};
 
 use crate::client::ScriptClient;
@@ -15,6 +16,7 @@ use program_io::RunFault;
 use questions::ScriptQuery;
 use reply_order::{all_of, replies_in_order};
 use script::{CommandLine, Script};
+use script_runs::run_has_lawful_entries;
 use std::alloc::{AllocError, Global};
 use std::io::Write;
 use std::sync::Wait;
@@ -34,7 +36,7 @@ const LARGEST: Limits = Limits {
 
 /// Runs the lines of each client in the order of their numbers, each client on a thread of its own over one map, and
 /// writes a line for each, in the order of all numbers: its number, a space and its reply. All replies are there before
-/// the first is written. It gives the journal of the run.
+/// the first is written. It gives the journal of the run, whose entries are lawful: `journal_text` writes it.
 ///
 /// A crew of its own works each bulk verb. A client asks the gate before each of its lines. The clients are those from 0
 /// to the greatest number in the script; one without a line ends at once. A client whose thread cannot be started runs
@@ -57,8 +59,10 @@ where
     G: LineGate + Sync,
     requires crew { AreInRange crew.workers crew.grain }
     ensures ok { IfOk result (λ journal. (text : List ℕ) × IsRunOf script.now journal text × Appends (W.contents writer.old) (W.contents writer.new) text) }
+    ensures lawful { IfOk result (λ journal. AreLawful journal) }
     ensures memory { IsErrOf result RunFault.Memory → Keeps (W.contents writer.old) (W.contents writer.new) }
 {
+    run_has_lawful_entries();
     let Ok((replies, journal)) = replies_to(rt, alloc, script.lines(), crew, gate) else {
         // A run is not torn, and so it has no fault of that name.
         return Err(RunFault::Memory);

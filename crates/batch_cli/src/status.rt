@@ -4,6 +4,7 @@ ghost use Rattle.std.specs.Prelude.{◌≡◌, ◌≢◌, ◌≤◌, IfErr, IfOk
 ghost use Rattle.std.specs.Io.KnownBytes.{Appends, Keeps};
 ghost use Rattle.batch_cli.specs.Audits.{TellsVerdict};
 ghost use Rattle.batch_cli.specs.CommandLine.{AreInRange};
+ghost use Rattle.journal_text.specs.Entries.{AreLawful};
 ghost use Rattle.script_runs.specs.Runs.{HasRun, IsRunOf, RunsText};
 ghost use Rattle.script.specs.Scripts.{HasFault};
 
@@ -79,6 +80,7 @@ fn ran<R: Threads + Wait + Sync, W: Write, E: Write>(
 ) -> Result<Journal, u8>
     requires crew { AreInRange crew.workers crew.grain }
     ensures done { IfOk result (λ journal. HasRun text.now journal (W.contents out.old) (W.contents out.new)) }
+    ensures lawful { IfOk result (λ journal. AreLawful journal) }
     ensures refused { IfErr result (λ status. status ≡ 2 → HasFault text.now × Keeps (W.contents out.old) (W.contents out.new)) }
     ensures statuses { IfErr result (λ status. (1 ≤ status) × (status ≤ 2)) }
 {
@@ -103,6 +105,7 @@ fn run<R: Threads + Wait + Sync, W: Write, E: Write>(
 ) -> Result<Journal, u8>
     requires crew { AreInRange crew.workers crew.grain }
     ensures done { IfOk result (λ journal. (output : List ℕ) × IsRunOf script.now journal output × Appends (W.contents out.old) (W.contents out.new) output) }
+    ensures lawful { IfOk result (λ journal. AreLawful journal) }
     ensures failed { IfErr result (λ status. status ≡ 1) }
 {
     match run_script(rt, alloc, script, crew, out, &Free) {

@@ -1,11 +1,11 @@
 -- The lines that are left of a journal.
-use Rattle.std.proofs.Common.{◌≡◌, ℕ, ◌+◌, ◌<◌, ◌∙◌, List, [], ◌∷◌, ◌++◌, Some, None, length, drop, get_or, refl, ap, sym, arith, append-nil}
+use Rattle.std.proofs.Common.{◌≡◌, ℕ, suc, zero, ◌+◌, ◌<◌, ◌∙◌, List, [], ◌∷◌, ◌++◌, Some, None, length, drop, get_or, refl, ap, sym, subst, arith, append-nil}
 use Rattle.std.specs.List.{flat_map, slice_get}
 use Rattle.std.proofs.lemmas.List.{append_assoc, drop_more}
 use Rattle.std.proofs.lemmas.Option.{slice_get_within, get_or_from_slice_get}
 use Rattle.std.proofs.Math.Seq.{drop-length}
 use Rattle.journal_lines.specs.Lines.{ended, end_line}
-use Rattle.journal_text.specs.Entries.{ProgramEntry, entry_line, lines_behind, text_of_journal}
+use Rattle.journal_text.specs.Entries.{AreLawful, IsLawfulEntry, ProgramEntry, entry_line, lines_behind, text_of_journal}
 
 -- the text of the lines from the entry at this place on
 abbrev pub text_from : ℕ → List ProgramEntry → List ℕ
@@ -33,3 +33,9 @@ whole_text es n old whole is so_far =
 pub last_text : (es : List ProgramEntry) (n m : ℕ) (old bytes new whole : List ℕ) → n ≡ length es → m ≡ length es → bytes ≡ end_line m → new ≡ (old ++ bytes) ++ 10 ∷ [] → old ++ text_from n es ≡ whole → new ≡ whole
 last_text es n m old bytes new whole is too line pushed so_far =
     pushed ∙ append_assoc old bytes (10 ∷ []) ∙ ap (λ (b : List ℕ). old ++ ended b) (line ∙ ap end_line (too ∙ sym is)) ∙ whole_text es n old whole is so_far
+
+-- the entry at a place is lawful, where all are
+pub lawful_at : (es : List ProgramEntry) (n : ℕ) (e : ProgramEntry) → AreLawful es → slice_get es n ≡ Some e → IsLawfulEntry e
+lawful_at [] n e all is = absurd (cc)
+lawful_at (x ∷ es) zero e all is = let same : x ≡ e = cc in subst IsLawfulEntry same all.0
+lawful_at (x ∷ es) (suc n) e all is = lawful_at es n e all.1 is

@@ -35,3 +35,8 @@ pub record IsLawfulEntry (e : ProgramEntry) : Type 0 where
   pub request : IsLawfulRequest e.request
   pub call_is_text : IsUtf8 (call_text e.request)
   pub reply_is_text : IsUtf8 (outcome_text e.outcome)
+
+-- each of the entries is lawful
+abbrev pub AreLawful : List ProgramEntry → Type 0
+AreLawful [] = Unit {0}
+AreLawful (e ∷ es) = IsLawfulEntry e × AreLawful es

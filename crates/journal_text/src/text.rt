@@ -1,8 +1,9 @@
 //! The text of a journal.
 
-ghost use Rattle.std.specs.Prelude.{◌≡◌, ◌++◌, IfOk, OnOk};
+ghost use Rattle.std.specs.Prelude.{◌≡◌, ◌++◌, IfOk, IsUtf8, OnOk};
 ghost use Rattle.journal_lines.specs.Lines.{ended};
-ghost use Rattle.journal_text.specs.Entries.{entry_line, text_of_journal};
+ghost use Rattle.journal_text.specs.Calls.{call_text, outcome_text};
+ghost use Rattle.journal_text.specs.Entries.{AreLawful, entry_line, text_of_journal};
 
 use crate::call::push_call;
 use crate::outcome::push_told;
@@ -18,10 +19,13 @@ pub type ProgramJournal = Journal<ByteText, i64, ScriptQuery, Option<i128>>;
 
 /// The text of the journal: a line for each entry, and a last one that tells how many there are.
 ///
+/// The entries have to be lawful, as those of a script's run are. So their calls and replies are text, as JSON wants it.
+///
 /// # Errors
 ///
-/// Memory was refused. So it is answered too where a key of the journal is no UTF-8: a script's keys all are.
+/// Memory was refused.
 pub fn journal_text(alloc: Global, journal: &ProgramJournal) -> Result<Vec<u8>, NoMemory>
+    requires { AreLawful journal.now }
     ensures { IfOk result (λ text. text.items ≡ text_of_journal journal.now) }
 {
     let mut text = Vec::new(alloc);
@@ -37,13 +41,15 @@ pub fn journal_text(alloc: Global, journal: &ProgramJournal) -> Result<Vec<u8>, 
     Ok(text)
 }
 
-/// Appends the line of the entry of this number.
+/// Appends the line of the entry of this number. What it asked and was told is written as text.
 fn push_entry(
     alloc: Global,
     text: &mut Vec<u8>,
     number: u64,
     entry: &Entry<ByteText, i64, ScriptQuery, Option<i128>>,
 ) -> Result<(), NoMemory>
+    requires call { IsUtf8 (call_text entry.now.request) }
+    requires reply { IsUtf8 (outcome_text entry.now.outcome) }
     ensures { OnOk result (text.new.items ≡ text.old.items ++ ended (entry_line number entry.now)) }
 {
     let mut call = Vec::new(alloc);
@@ -52,14 +58,21 @@ fn push_entry(
     }
     let mut reply = Vec::new(alloc);
     push_told(alloc, &mut reply, entry.told())?;
-    let Ok(call) = str::from_utf8(&call) else {
-        return Err(NoMemory);
-    };
-    let Ok(reply) = str::from_utf8(&reply) else {
-        return Err(NoMemory);
-    };
+    let call = as_text(&call);
+    let reply = as_text(&reply);
     let line = line_text(alloc, number, call, reply, u64::from(entry.seat()))?;
     text.extend_from_slice(line.as_bytes())?;
     text.push(b'\n')?;
     Ok(())
+}
+
+/// The bytes as the text that they are.
+fn as_text(bytes: &[u8]) -> &str
+    requires { IsUtf8 bytes.now }
+    ensures { result.now ≡ bytes.now }
+{
+    let Ok(text) = str::from_utf8(bytes) else {
+        unreachable!();
+    };
+    text
 }

@@ -1,11 +1,11 @@
 //! Laws of scripts and of their runs. Each function says one, and does nothing.
 
 ghost use Rattle.std.specs.Prelude.{◌≡◌, ℕ, List};
-ghost use Rattle.script_runs.specs.Legality.{RunsHaveLegalTexts};
+ghost use Rattle.script_runs.specs.Legality.{RunsHaveLawfulEntries, RunsHaveLegalTexts};
 ghost use Rattle.script_runs.specs.Runs.{LeavesNoChoice, HasOneClient, IsOutputOf};
 ghost use Rattle.script.specs.declared.statement.CommandLine.{CommandLine};
 
-use audit::{law_of_runs, law_of_statements};
+use audit::{law_of_entries, law_of_runs, law_of_statements};
 use handles::law_of_freezes;
 use keys::ByteText;
 use questions::{ScriptQuery, finishes_tell_one_answer, requests_have_one_outcome};
@@ -25,5 +25,13 @@ pub fn run_has_legal_text()
     ensures { RunsHaveLegalTexts }
 {
     law_of_runs();
+    law_of_statements();
+}
+
+/// The entries of the journal of a run are lawful, so that `journal_text` may write it.
+pub fn run_has_lawful_entries()
+    ensures { RunsHaveLawfulEntries }
+{
+    law_of_entries();
     law_of_statements();
 }

@@ -5,4 +5,4 @@
 
 mod laws;
 
-pub use laws::{run_has_legal_text, script_has_one_output};
+pub use laws::{run_has_lawful_entries, run_has_legal_text, script_has_one_output};

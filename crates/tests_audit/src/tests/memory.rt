@@ -1,4 +1,6 @@
 //! Audits with no memory, with a little, and so on.
+ghost use Rattle.journal_text.specs.Entries.{AreLawful};
+
 use crate::tests::rows::BULK;
 use crate::tests::runs::journal_of;
 use audit::{Verdict, audit};
@@ -26,7 +28,9 @@ fn audited(rt: &impl Abort, alloc: Global, text: &[u8]) -> Option<(u32, Verdict)
 }
 
 /// How often the text of the journal was refused memory, and the text then; nothing where memory is never enough.
-fn spelled(rt: &impl Abort, alloc: Global, journal: &ProgramJournal) -> Option<(u32, Vec<u8>)> {
+fn spelled(rt: &impl Abort, alloc: Global, journal: &ProgramJournal) -> Option<(u32, Vec<u8>)>
+    requires { AreLawful journal.now }
+{
     let mut shortage = Shortage::new(alloc).expect(rt, "no list");
     for refused in 0..TRIES {
         if let Ok(text) = journal_text(alloc, journal) {

@@ -2,8 +2,18 @@ use Rattle.std.proofs.Common.{◌≡◌, ◌++◌, ◌∷◌, [], Some, length, 
 use Rattle.std.specs.List.{slice_get}
 use Rattle.journal_lines.specs.Lines.{end_line}
 use Rattle.journal_text.specs.Entries.{text_of_journal}
-use Rattle.journal_text.proofs.TextLemmas.{more_text, last_text}
+use Rattle.journal_text.proofs.TextLemmas.{lawful_at, more_text, last_text}
 use Rattle.journal_text.proofs.text.journal_text.Goals as goal
+
+pub push_entry-requires-clause-call : goal.push_entry-requires-clause-call
+push_entry-requires-clause-call c =
+    let is : slice_get c.args.journal.now c.loop-place.place ≡ Some c.in-Some.entry.now = search rules in
+    (lawful_at c.args.journal.now c.loop-place.place c.in-Some.entry.now c.requires is).call_is_text
+
+pub push_entry-requires-clause-reply : goal.push_entry-requires-clause-reply
+push_entry-requires-clause-reply c =
+    let is : slice_get c.args.journal.now c.loop-place.place ≡ Some c.in-Some.entry.now = search rules in
+    (lawful_at c.args.journal.now c.loop-place.place c.in-Some.entry.now c.requires is).reply_is_text
 
 pub loop-place-preserved : goal.loop-place-preserved
 loop-place-preserved c =
