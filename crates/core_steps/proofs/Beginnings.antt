@@ -9,7 +9,7 @@ use Rattle.versions.specs.declared.version.TheConstants.{MOST_PAIRS}
 use Rattle.iter.specs.Intervals.{whole, lies_in, cover, parts}
 use Rattle.splitter.specs.Portion.{Portion}
 use Rattle.core_steps.specs.Boards.{Worker, nobody, first_board, intervals}
-use Rattle.core_steps.specs.Desks.{Station, IsVacant, interval_of, worker_of, board, result_of, results, HasPieces, HasPart, IsJobOn}
+use Rattle.core_steps.specs.WorkerValues.{WorkerValue, IsVacant, interval_of, worker_of, board, result_of, results, HasPieces, HasPart, IsJobOn}
 use Rattle.core_steps.proofs.KeptBoards.{first_is_board}
 
 -- no interval has no pairs
@@ -17,16 +17,16 @@ pub no_parts : {K V : Type 0} (path : K → ℕ) (m : Map K V) → parts path m 
 no_parts path [] = refl
 no_parts path (x ∷ m) = no_parts path m
 
--- the desk of worker 0
-pub first_station : {K V P : Type 0} (ds : List (Station K V P)) → 1 ≤ length ds → Station K V P
-first_station [] some = absurd (omega arith)
-first_station (d ∷ ds) some = d
+-- the state of worker 0
+pub first_state : {K V P : Type 0} (ds : List (WorkerValue K V P)) → 1 ≤ length ds → WorkerValue K V P
+first_state [] some = absurd (omega arith)
+first_state (d ∷ ds) some = d
 
 module _ {K V P : Type 0} (answers : Map K V → P → Type 0) where
-  vacant_worker : (d : Station K V P) → IsVacant answers d → worker_of d ≡ nobody
+  vacant_worker : (d : WorkerValue K V P) → IsVacant answers d → worker_of d ≡ nobody
   vacant_worker d none = λ i. record { queue = map interval_of (none.queue i); held = option_map interval_of (none.held i); worked = none.worked i }
 
-  vacant_board : (ds : List (Station K V P)) (n : ℕ) → length ds ≡ n → All (IsVacant answers) ds → board ds ≡ replicate n nobody
+  vacant_board : (ds : List (WorkerValue K V P)) (n : ℕ) → length ds ≡ n → All (IsVacant answers) ds → board ds ≡ replicate n nobody
   vacant_board [] zero e all = refl
   vacant_board [] (suc n) e all = cc
   vacant_board (d ∷ ds) zero e all = cc
@@ -36,7 +36,7 @@ module _ {K V P : Type 0} (answers : Map K V → P → Type 0) where
       λ i. first i ∷ rest i
 
   -- the board of a job, once the whole piece waits for worker 0
-  pub begun_board : (m : Map K V) (ds : List (Station K V P)) (n : ℕ) (d : Station K V P) → 1 ≤ n → length ds ≡ n → All (IsVacant answers) ds
+  pub begun_board : (m : Map K V) (ds : List (WorkerValue K V P)) (n : ℕ) (d : WorkerValue K V P) → 1 ≤ n → length ds ≡ n → All (IsVacant answers) ds
       → board (set ds 0 (record (get_or ds 0 d) { queue = record { map = m; interval = whole } ∷ [] })) ≡ first_board n
   begun_board m ds n d some long all =
       let none = All-get_or (IsVacant answers) ds 0 d (omega arith) all in
@@ -46,21 +46,21 @@ module _ {K V P : Type 0} (answers : Map K V → P → Type 0) where
       ∙ (λ i. set (vacant_board ds n long all i) 0 (shown i))
 
 module _ {K V P : Type 0} (R : K → K → Ordering) (path : K → ℕ) (answers : Map K V → P → Type 0) (m : Map K V) where
-  vacant_pieces : (d : Station K V P) → IsVacant answers d → HasPieces m d
+  vacant_pieces : (d : WorkerValue K V P) → IsVacant answers d → HasPieces m d
   vacant_pieces d none = record {
     queue = subst (All (λ p. p.map ≡ m)) (sym none.queue) (All-nil (λ p. p.map ≡ m));
     held = subst (λ (o : Option (Portion K V)). IfSome o (λ p. p.map ≡ m)) (sym none.held) tt;
   }
 
-  vacant_part : (d : Station K V P) → IsVacant answers d → HasPart R path answers m (result_of d)
+  vacant_part : (d : WorkerValue K V P) → IsVacant answers d → HasPart R path answers m (result_of d)
   vacant_part d none = subst (λ (n : Map K V). answers n d.part) (sym (ap (parts path m) none.worked ∙ no_parts path m)) none.part
 
   -- it is the board of a job on the map
-  pub begun_job : (ds : List (Station K V P)) (n : ℕ) (d : Station K V P) → IsMap R m → length m ≤ MOST_PAIRS → 1 ≤ n → length ds ≡ n → All (IsVacant answers) ds
+  pub begun_job : (ds : List (WorkerValue K V P)) (n : ℕ) (d : WorkerValue K V P) → IsMap R m → length m ≤ MOST_PAIRS → 1 ≤ n → length ds ≡ n → All (IsVacant answers) ds
       → IsJobOn R path answers m (set ds 0 (record (get_or ds 0 d) { queue = record { map = m; interval = whole } ∷ [] }))
   begun_job ds n d sorted few some long all =
       let none = All-get_or (IsVacant answers) ds 0 d (omega arith) all in
-      let e : Station K V P = record (get_or ds 0 d) { queue = record { map = m; interval = whole } ∷ [] } in
+      let e : WorkerValue K V P = record (get_or ds 0 d) { queue = record { map = m; interval = whole } ∷ [] } in
       record {
         sorted = sorted;
         few = few;

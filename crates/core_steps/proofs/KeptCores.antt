@@ -16,8 +16,8 @@ use Rattle.handles.specs.declared.limits.Limits.{Limits}
 use Rattle.handles.specs.Machine.{Kind, State, Job, Request, open_handle, snapshot, drop_handle, on, view, freeze, finish, abandon, worker_step, Outcome, made, replied, viewed, frozen, finished, unfinished, refused, worked, Step, job_at, first_of}
 use Rattle.iter.specs.Intervals.{part}
 use Rattle.splitter.specs.Cuts.{cut_point}
-use Rattle.core_steps.specs.Boards.{Board, Move, named_by, first_board, Turn, tells_settled}
-use Rattle.core_steps.specs.Cores.{CoreState, Asked, of_client, of_worker, Told, to_client, to_worker, no_turn, Division, Turns, turn_of, board_of, frozen_map, refusal_of, boards_after, CoreStep, new_core}
+use Rattle.core_steps.specs.Boards.{Board, Move, named_by, first_board, MoveResult, tells_settled}
+use Rattle.core_steps.specs.Cores.{CoreState, Asked, of_client, of_worker, Told, to_client, to_worker, no_move, Division, WorkerMoves, progress_of, board_of, frozen_map, refusal_of, boards_after, CoreStep, new_core}
 use Rattle.core_steps.specs.Invariants.{IsBoard, IsCore}
 use Rattle.core_steps.proofs.KeptBoards.{CutsWithin, board_kept, first_is_board}
 
@@ -129,17 +129,17 @@ not_false false e = cc
 
 module _ {K V Q : Type 0} (division : Division K V Q) (cuts : (m : Map K V) (grain : ℕ) → CutsWithin (λ i. cut_point division.path m i grain)) where
   -- a worker's step
-  worker_kept : (s : CoreState K V Q) (j : ℕ) (x : Move) (y : Turn) (t : CoreState K V Q) → refusal_of s j x ≡ None → Turns division s j x y t → IsCore s → IsCore t
-  worker_kept s j x y t none turn is =
+  worker_kept : (s : CoreState K V Q) (j : ℕ) (x : Move) (y : MoveResult) (t : CoreState K V Q) → refusal_of s j x ≡ None → WorkerMoves division s j x y t → IsCore s → IsCore t
+  worker_kept s j x y t none move is =
       let both = neither (not (is_some (job_at s.machine j))) (list_any (λ w. nat_le s.workers w) (named_by x)) NoJob NoWorker none in
       let job_there = not_false (is_some (job_at s.machine j)) both.0 in
       let here = is.matches j ∙ job_there in
       let board : IsBoard s.workers (board_of s j) = its_board (IsBoard s.workers) (value_at nat_cmp s.boards j) here (is.boards j) in
       let named : All (λ w. w < length (board_of s j)) (named_by x) = subst (λ n. All (λ w. w < n) (named_by x)) (sym board.long) (all_below s.workers (named_by x) both.1) in
-      let after : Board = (turn_of division s j x (tells_settled y)).1 in
+      let after : Board = (progress_of division s j x (tells_settled y)).1 in
       let kept : IsBoard s.workers after =
       board_kept (λ i. cut_point division.path (frozen_map s j) i s.grain) (cuts (frozen_map s j) s.grain) s.workers (λ i. length (part division.path (frozen_map s j) i)) (tells_settled y) (board_of s j) x named board in
-      subst IsCore (sym turn.left) (record {
+      subst IsCore (sym move.left) (record {
         some = is.some;
         matches = λ q. ap is_some (at_put s.boards j q after) ∙ there after (eq_by_cmp nat_cmp q j) (value_at nat_cmp s.boards q) (job_at s.machine q) (λ e. ap (λ k. is_some (job_at s.machine k)) (same q j e) ∙ job_there) (is.matches q);
         numbers = is.numbers;
@@ -162,10 +162,10 @@ module _ {K V Q A B : Type 0} (kind : Kind K V Q A B) (division : Division K V Q
   pub step_kept : (s : CoreState K V Q) (x : Asked K V Q) (y : Told K V B) (t : CoreState K V Q) → CoreStep kind division s x y t → IsCore s → IsCore t
   step_kept s (of_client r) (to_client o) t step is = subst IsCore (sym step.3) (client_kept kind s r o step.0 step.1 is)
   step_kept s (of_client r) (to_worker y) t step is = absurd step
-  step_kept s (of_client r) (no_turn e) t step is = absurd step
+  step_kept s (of_client r) (no_move e) t step is = absurd step
   step_kept s (of_worker j x) (to_client o) t step is = absurd step
   step_kept s (of_worker j x) (to_worker y) t step is = worker_kept division cuts s j x y t step.0 step.1 is
-  step_kept s (of_worker j x) (no_turn e) t step is = subst IsCore (sym step.1) is
+  step_kept s (of_worker j x) (no_move e) t step is = subst IsCore (sym step.1) is
 
 -- a new core is one
 pub new_is_core : {K V Q : Type 0} (limits : Limits) (workers grain : ℕ) → 1 ≤ workers → IsCore {K = K} {V = V} {Q = Q} (new_core limits workers grain)

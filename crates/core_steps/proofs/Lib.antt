@@ -8,12 +8,12 @@ pub mod Tilings
 pub mod Coverings
 pub mod NeverTwice
 pub mod Wholes
-pub mod Stations
+pub mod WorkerLemmas
 pub mod Takings
 pub mod Workings
 pub mod Beginnings
 pub mod JobSteps
-pub mod Postings
+pub mod JobStateLemmas
 pub mod MoveSteps
 pub mod WholeSteps
 pub mod OpenSteps

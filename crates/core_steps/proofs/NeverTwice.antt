@@ -14,8 +14,8 @@ use Rattle.iter.specs.declared.interval.Interval.{Interval}
 use Rattle.iter.specs.Intervals.{whole, lies_in, cover, AreApart, part}
 use Rattle.core_steps.proofs.Covers.{once}
 use Rattle.splitter.specs.Cuts.{cut_point}
-use Rattle.core_steps.specs.Boards.{Board, Move, taking, stealing, splitting, working, named_by, first_board, all_worked, Turn, took, cut, uncut, done, idle, tells_settled}
-use Rattle.core_steps.specs.Cores.{CoreState, Asked, of_client, of_worker, Told, to_client, to_worker, no_turn, Division, Turns, turn_of, board_of, frozen_map, refusal_of, boards_after}
+use Rattle.core_steps.specs.Boards.{Board, Move, taking, stealing, splitting, working, named_by, first_board, all_worked, MoveResult, took, cut, uncut, done, idle, tells_settled}
+use Rattle.core_steps.specs.Cores.{CoreState, Asked, of_client, of_worker, Told, to_client, to_worker, no_move, Division, WorkerMoves, progress_of, board_of, frozen_map, refusal_of, boards_after}
 use Rattle.core_steps.specs.Traces.{covered, CoreRun}
 use Rattle.core_steps.specs.Invariants.{IsBoard, IsCore}
 use Rattle.core_steps.proofs.KeptBoards.{CutsWithin}
@@ -96,7 +96,7 @@ module _ {K V Q : Type 0} where
       kept false (Some x) b h most = let past : cond (nat_lt q s.machine.next) 1 0 ≡ 1 = ap (λ (t : Bool). cond {A = ℕ} t 1 0) (lt-ltb q s.machine.next (h refl)) in omega (arith, most, past)
 
 -- what a worker's step adds to the covering of a job
-covered_one : {K V Q B : Type 0} (q j : ℕ) (x : Move) (y : Turn) (xs : List (Asked K V Q)) (ys : List (Told K V B)) (p : ℕ)
+covered_one : {K V Q B : Type 0} (q j : ℕ) (x : Move) (y : MoveResult) (xs : List (Asked K V Q)) (ys : List (Told K V B)) (p : ℕ)
     → cover (covered q (of_worker j x ∷ xs) (to_worker y ∷ ys)) p ≤ cond (j == q) (cover (worked_by y) p) 0 + cover (covered q xs ys) p
 covered_one q j (taking w) y xs ys p = omega arith
 covered_one q j (stealing w from) y xs ys p = omega arith
@@ -112,18 +112,18 @@ covered_one q j (working w) (done lo hi n settled) xs ys p = at (j == q) (record
     at false i is = omega arith
 
 module _ {K V Q : Type 0} (division : Division K V Q) (cuts : (m : Map K V) (grain : ℕ) → CutsWithin (λ i. cut_point division.path m i grain)) where
-  worker_spent : (s : CoreState K V Q) (j : ℕ) (x : Move) (y : Turn) (t : CoreState K V Q) (q p : ℕ) → refusal_of s j x ≡ None → Turns division s j x y t → IsCore s
+  worker_spent : (s : CoreState K V Q) (j : ℕ) (x : Move) (y : MoveResult) (t : CoreState K V Q) (q p : ℕ) → refusal_of s j x ≡ None → WorkerMoves division s j x y t → IsCore s
       → cond (j == q) (cover (worked_by y) p) 0 + spent s q p ≤ spent t q p
-  worker_spent s j x y t q p none turn is =
+  worker_spent s j x y t q p none move is =
       let both = neither (not (is_some (job_at s.machine j))) (list_any (λ w. nat_le s.workers w) (named_by x)) NoJob NoWorker none in
       let there = not_false (is_some (job_at s.machine j)) both.0 in
       let board : IsBoard s.workers (board_of s j) = its_board (IsBoard s.workers) (value_at nat_cmp s.boards j) (is.matches j ∙ there) (is.boards j) in
       let named : All (λ w. w < length (board_of s j)) (named_by x) = subst (λ n. All (λ w. w < n) (named_by x)) (sym board.long) (all_below s.workers (named_by x) both.1) in
-      let after : Board = (turn_of division s j x (tells_settled y)).1 in
+      let after : Board = (progress_of division s j x (tells_settled y)).1 in
       let more = moved_done (λ i. once i p) (λ i. cut_point division.path (frozen_map s j) i s.grain) (λ i. length (part division.path (frozen_map s j) i)) (tells_settled y) (board_of s j) x named in
-      let told : cover (worked_by (turn_of division s j x (tells_settled y)).0) p ≡ cover (worked_by y) p = ap (λ z. cover (worked_by z) p) (sym turn.told) in
+      let told : cover (worked_by (progress_of division s j x (tells_settled y)).0) p ≡ cover (worked_by y) p = ap (λ z. cover (worked_by z) p) (sym move.told) in
       let left : spent t q p ≡ by_parts (is_some (job_at s.machine q)) (cond (eq_by_cmp nat_cmp q j) (Some after) (value_at nat_cmp s.boards q)) s.machine.next q p =
-      ap (λ (c : CoreState K V Q). spent c q p) turn.left ∙ ap (λ b. by_parts (is_some (job_at s.machine q)) b s.machine.next q p) (at_put s.boards j q after) in
+      ap (λ (c : CoreState K V Q). spent c q p) move.left ∙ ap (λ b. by_parts (is_some (job_at s.machine q)) b s.machine.next q p) (at_put s.boards j q after) in
       elim (cases_Bool (j == q)) [
         | inl e ↦
             let same : q ≡ j = grind (arith, nat_tests, e) in
@@ -168,16 +168,16 @@ module _ {K V Q A B : Type 0} (kind : Kind K V Q A B) (division : Division K V Q
       let less = client_spent kind s r o step.0 q p step.1 is in
       omega (arith, next, less, ap (λ (c : CoreState K V Q). spent c q p) step.3)
   run_spends s t (of_client r ∷ xs) (to_worker y ∷ ys) q p (u, step, rest) is = absurd step
-  run_spends s t (of_client r ∷ xs) (no_turn e ∷ ys) q p (u, step, rest) is = absurd step
+  run_spends s t (of_client r ∷ xs) (no_move e ∷ ys) q p (u, step, rest) is = absurd step
   run_spends s t (of_worker j x ∷ xs) (to_client o ∷ ys) q p (u, step, rest) is = absurd step
   run_spends s t (of_worker j x ∷ xs) (to_worker y ∷ ys) q p (u, step, rest) is =
       let next = run_spends u t xs ys q p rest (step_kept kind division cuts s (of_worker j x) (to_worker y) u step is) in
       omega (arith, next, worker_spent division cuts s j x y u q p step.0 step.1 is, covered_one q j x y xs ys p)
-  run_spends s t (of_worker j x ∷ xs) (no_turn e ∷ ys) q p (u, step, rest) is =
-      let next = run_spends u t xs ys q p rest (step_kept kind division cuts s (of_worker j x) (no_turn e) u step is) in
+  run_spends s t (of_worker j x ∷ xs) (no_move e ∷ ys) q p (u, step, rest) is =
+      let next = run_spends u t xs ys q p rest (step_kept kind division cuts s (of_worker j x) (no_move e) u step is) in
       omega (arith, next, ap (λ (c : CoreState K V Q). spent c q p) step.1, no_more j x xs ys e)
     where
-      no_more : (j : ℕ) (x : Move) (xs : List (Asked K V Q)) (ys : List (Told K V B)) (e : Refusal) → cover (covered q (of_worker j x ∷ xs) (no_turn e ∷ ys)) p ≡ cover (covered q xs ys) p
+      no_more : (j : ℕ) (x : Move) (xs : List (Asked K V Q)) (ys : List (Told K V B)) (e : Refusal) → cover (covered q (of_worker j x ∷ xs) (no_move e ∷ ys)) p ≡ cover (covered q xs ys) p
       no_more j (taking w) xs ys e = refl
       no_more j (stealing w from) xs ys e = refl
       no_more j (splitting w) xs ys e = refl

@@ -18,22 +18,22 @@ use Rattle.iter.specs.declared.interval.Interval.{Interval}
 use Rattle.iter.specs.Intervals.{whole, Tile, parts}
 use Rattle.splitter.specs.Cuts.{cut_point}
 use Rattle.core_steps.specs.Boards.{Worker, worker, first_board, Move, named_by}
-use Rattle.core_steps.specs.Views.{turn_of}
+use Rattle.core_steps.specs.Views.{progress_of}
 use Rattle.core_steps.specs.declared.progress.Progress.{Progress}
-use Rattle.core_steps.specs.declared.post.Post.{Post}
+use Rattle.core_steps.specs.declared.job_state.JobState.{JobState}
 use Rattle.core_steps.specs.Cores.{of_client, of_worker, IsUnfinished, worked_part, refusal_of}
-use Rattle.core_steps.specs.Desks.{Station, board, desk_parts, result_of, results, HasPart, IsJobOn}
+use Rattle.core_steps.specs.WorkerValues.{WorkerValue, board, state_parts, result_of, results, HasPart, IsJobOn}
 use Rattle.core_steps.specs.Collected.{IsCollected, MayCollect}
 use Rattle.core_steps.specs.Moves.{MovesTo}
-use Rattle.core_steps.specs.Posts.{Posted, Fits, IsPlaceOf, IsWhole, core_of, value_of, post_of, posts_of, all_parts}
+use Rattle.core_steps.specs.JobStates.{JobValue, Fits, IsPlaceOf, IsWhole, core_of, value_of, job_state_of, job_states_of, all_parts}
 use Rattle.core_steps.specs.Parts.{part_at}
 use Rattle.core_steps.specs.Queries.{divided}
 use Rattle.core_steps.specs.declared.outcome.Outcome.TheVariants as outcomes
 use Rattle.core_steps.specs.Steps.{StepsTo}
 use Rattle.core_steps.proofs.KeptBoards.{CutsWithin}
-use Rattle.core_steps.proofs.Postings.{same_parts, parts_here, AllBelow, below_all_values, push_is_put, set_is_put, value_here, number_here}
-use Rattle.core_steps.proofs.Stations.{worker_is}
-use Rattle.core_steps.proofs.WholeSteps.{IsOpen, is_open, long_desks, frozen_whole, not_refused, unfinished_whole, collected_whole, may_finish, refusal_is, no_worker, moved_whole}
+use Rattle.core_steps.proofs.JobStateLemmas.{same_parts, parts_here, AllBelow, below_all_values, push_is_put, set_is_put, value_here, number_here}
+use Rattle.core_steps.proofs.WorkerLemmas.{worker_is}
+use Rattle.core_steps.proofs.WholeSteps.{IsOpen, is_open, long_states, frozen_whole, not_refused, unfinished_whole, collected_whole, may_finish, refusal_is, no_worker, moved_whole}
 use Rattle.core_steps.proofs.Workings.{result_at}
 
 -- what stands at a place
@@ -68,11 +68,11 @@ none_past {X} {Y} {P} f h o ys k n same long = by_case o (slice_get ys k) refl s
     by_case None (Some y) e same = cc
 
 -- the part of the worker of a number is of what it has worked
-part_of : {K V P X : Type 0} (R : K → K → Ordering) (path : K → ℕ) (answers : Map K V → P → Type 0) (m : Map K V) (ds : List (Station K V P)) (k : ℕ) (f : X → P) (o : Option X)
+part_of : {K V P X : Type 0} (R : K → K → Ordering) (path : K → ℕ) (answers : Map K V → P → Type 0) (m : Map K V) (ds : List (WorkerValue K V P)) (k : ℕ) (f : X → P) (o : Option X)
     → option_map f o ≡ option_map (λ d. d.part) (slice_get ds k) → IsJobOn R path answers m ds → IfSome o (λ x. answers (parts path m (worker (board ds) k).worked) (f x))
 part_of {K} {V} {P} {X} R path answers m ds k f o same job = by_case o (slice_get ds k) refl same
   where
-    by_case : (q : Option X) (r : Option (Station K V P)) → slice_get ds k ≡ r → option_map f q ≡ option_map (λ d. d.part) r → IfSome q (λ x. answers (parts path m (worker (board ds) k).worked) (f x))
+    by_case : (q : Option X) (r : Option (WorkerValue K V P)) → slice_get ds k ≡ r → option_map f q ≡ option_map (λ d. d.part) r → IfSome q (λ x. answers (parts path m (worker (board ds) k).worked) (f x))
     by_case None r e same = tt
     by_case (Some x) None e same = cc
     by_case (Some x) (Some d) e same =
@@ -86,60 +86,60 @@ part_of {K} {V} {P} {X} R path answers m ds k f o same job = by_case o (slice_ge
 module _ {K V Q P A I : Type 0} (R : K → K → Ordering) (path : K → ℕ) (answers : Q → Map K V → P → Type 0) (ready : Q → Type 0)
     (kind : Kind K V Q A (plain.Told K V I)) (Decides : Q → Map K V → Type 0)
     (cuts : (m : Map K V) (grain : ℕ) → CutsWithin (λ i. cut_point path m i grain))
-    (s : State K V Q) (ps : List (Post K V Q P)) (w g : ℕ) (is : IsWhole R path answers ready s (posts_of ps) w g)
+    (s : State K V Q) (ps : List (JobState K V Q P)) (w g : ℕ) (is : IsWhole R path answers ready s (job_states_of ps) w g)
   where
     -- 1. A job is opened.
-    new_number : (n : ℕ) → n ≡ s.next → AllBelow n (posts_of ps)
-    new_number n new = below_all_values n (posts_of ps) (λ j there. omega (arith, new, is.core.numbers j (both (job_at s j) (value_at nat_cmp (posts_of ps) j) (is.posted j) there)))
+    new_number : (n : ℕ) → n ≡ s.next → AllBelow n (job_states_of ps)
+    new_number n new = below_all_values n (job_states_of ps) (λ j there. omega (arith, new, is.core.numbers j (both (job_at s j) (value_at nat_cmp (job_states_of ps) j) (is.fits j) there)))
       where
-        both : (o : Option (Job K V Q)) (r : Option (Posted K V Q P)) → Fits R path answers ready o r → is_some r ≡ true → is_some o ≡ true
+        both : (o : Option (Job K V Q)) (r : Option (JobValue K V Q P)) → Fits R path answers ready o r → is_some r ≡ true → is_some o ≡ true
         both (Some x) (Some p) fits e = refl
         both (Some x) None fits e = refl
         both None (Some p) fits e = absurd fits
         both None None fits e = e
 
-    pub pushed_whole : (t : State K V Q) (h : ℕ) (q : Q) (m : Map K V) (p : Post K V Q P) → Step kind s (freeze h q) (frozen p.number m) t → arc_value p.query ≡ q → ready q
+    pub pushed_whole : (t : State K V Q) (h : ℕ) (q : Q) (m : Map K V) (p : JobState K V Q P) → Step kind s (freeze h q) (frozen p.number m) t → arc_value p.query ≡ q → ready q
         → IsJobOn R path (answers (arc_value p.query)) m p.board → board p.board ≡ first_board w
-        → StepsTo kind (divided path Decides) (value_of s (posts_of ps) w g) (of_client (freeze h q)) (outcomes.Frozen p.number) (value_of t (posts_of (ps ++ p ∷ [])) w g) × IsWhole R path answers ready t (posts_of (ps ++ p ∷ [])) w g
+        → StepsTo kind (divided path Decides) (value_of s (job_states_of ps) w g) (of_client (freeze h q)) (outcomes.Frozen p.number) (value_of t (job_states_of (ps ++ p ∷ [])) w g) × IsWhole R path answers ready t (job_states_of (ps ++ p ∷ [])) w g
     pushed_whole t h q m p step same can job first =
-        subst (λ (posts : Map ℕ (Posted K V Q P)). StepsTo kind (divided path Decides) (value_of s (posts_of ps) w g) (of_client (freeze h q)) (outcomes.Frozen p.number) (value_of t posts w g) × IsWhole R path answers ready t posts w g)
+        subst (λ (job_states : Map ℕ (JobValue K V Q P)). StepsTo kind (divided path Decides) (value_of s (job_states_of ps) w g) (of_client (freeze h q)) (outcomes.Frozen p.number) (value_of t job_states w g) × IsWhole R path answers ready t job_states w g)
         (sym (push_is_put ps p (new_number p.number step.1.0)))
-        (frozen_whole R path answers ready kind Decides cuts s t (posts_of ps) w g h p.number q m (post_of p).1 step same (subst ready (sym same) can) job first is)
+        (frozen_whole R path answers ready kind Decides cuts s t (job_states_of ps) w g h p.number q m (job_state_of p).1 step same (subst ready (sym same) can) job first is)
 
     module _ (j place : ℕ) (lies : IsPlaceOf ps j place) where
       -- 2. The job at a place is open.
-      pub open_here : (d : Post K V Q P) → d ≡ get_or ps place d → IsOpen R path answers ready kind Decides cuts s (posts_of ps) w g j (post_of d).1
-      open_here d read = is_open R path answers ready kind Decides cuts s (posts_of ps) w g j (post_of d).1 (value_here ps place j d is.sorted lies.inside read (number_here ps j place d lies read)) is
+      pub open_here : (d : JobState K V Q P) → d ≡ get_or ps place d → IsOpen R path answers ready kind Decides cuts s (job_states_of ps) w g j (job_state_of d).1
+      open_here d read = is_open R path answers ready kind Decides cuts s (job_states_of ps) w g j (job_state_of d).1 (value_here ps place j d is.sorted lies.inside read (number_here ps j place d lies read)) is
 
       -- whether its part of a worker is there
-      pub part_none : {X : Type 0} (f : X → P) (o : Option X) (d : Post K V Q P) (k : ℕ) → d ≡ get_or ps place d → option_map f o ≡ option_map (λ x. x.part) (slice_get d.board k)
+      pub part_none : {X : Type 0} (f : X → P) (o : Option X) (d : JobState K V Q P) (k : ℕ) → d ≡ get_or ps place d → option_map f o ≡ option_map (λ x. x.part) (slice_get d.board k)
           → is_none o ≡ not (is_some (job_at s j) && nat_lt k w)
       part_none f o d k read same =
           let stands = open_here d read in
-          none_past f (λ (x : Station K V P). x.part) o d.board k w same (long_desks R path answers ready kind Decides cuts s (posts_of ps) w g j (post_of d).1 stands is)
+          none_past f (λ (x : WorkerValue K V P). x.part) o d.board k w same (long_states R path answers ready kind Decides cuts s (job_states_of ps) w g j (job_state_of d).1 stands is)
           ∙ ap (λ (x : Option (Job K V Q)). not (is_some x && nat_lt k w)) (sym stands.named)
 
       -- and that it is of what the worker has worked
-      pub part_some : {X : Type 0} (f : X → P) (o : Option X) (d : Post K V Q P) (k : ℕ) → d ≡ get_or ps place d → option_map f o ≡ option_map (λ x. x.part) (slice_get d.board k)
-          → IfSome o (λ x. (asking : Job K V Q) → job_at s j ≡ Some asking → answers asking.query (worked_part (divided path Decides) (core_of s (posts_of ps) w g) j k) (f x))
+      pub part_some : {X : Type 0} (f : X → P) (o : Option X) (d : JobState K V Q P) (k : ℕ) → d ≡ get_or ps place d → option_map f o ≡ option_map (λ x. x.part) (slice_get d.board k)
+          → IfSome o (λ x. (asking : Job K V Q) → job_at s j ≡ Some asking → answers asking.query (worked_part (divided path Decides) (core_of s (job_states_of ps) w g) j k) (f x))
       part_some {X} f o d k read same =
           let stands = open_here d read in
-          later o (part_of R path (answers (arc_value d.query)) stands.job.frozen d.board k f o same stands.has.desks)
+          later o (part_of R path (answers (arc_value d.query)) stands.job.frozen d.board k f o same stands.has.worker_states)
         where
           later : (r : Option X) → IfSome r (λ x. answers (arc_value d.query) (parts path (open_here d read).job.frozen (worker (board d.board) k).worked) (f x))
-              → IfSome r (λ x. (asking : Job K V Q) → job_at s j ≡ Some asking → answers asking.query (worked_part (divided path Decides) (core_of s (posts_of ps) w g) j k) (f x))
+              → IfSome r (λ x. (asking : Job K V Q) → job_at s j ≡ Some asking → answers asking.query (worked_part (divided path Decides) (core_of s (job_states_of ps) w g) j k) (f x))
           later None h = tt
           later (Some x) h = λ asking named.
               let stands = open_here d read in
               let its : stands.job ≡ asking = ap (λ (r : Option (Job K V Q)). unwrap_or r asking) (sym stands.named ∙ named) in
-              subst (λ (q : Q). answers q (worked_part (divided path Decides) (core_of s (posts_of ps) w g) j k) (f x)) (stands.has.query ∙ ap (λ (y : Job K V Q). y.query) its)
+              subst (λ (q : Q). answers q (worked_part (divided path Decides) (core_of s (job_states_of ps) w g) j k) (f x)) (stands.has.query ∙ ap (λ (y : Job K V Q). y.query) its)
               (subst (λ (n : Map K V). answers (arc_value d.query) n (f x)) (λ i. parts path (sym stands.map_is i) (worker (sym stands.board_is i) k).worked) h)
 
       -- the part is the one that the core shows
-      pub part_shown : {X : Type 0} (f : X → P) (o : Option X) (d : Post K V Q P) (k : ℕ) → d ≡ get_or ps place d → option_map f o ≡ option_map (λ x. x.part) (slice_get d.board k)
-          → option_map f o ≡ part_at (all_parts (posts_of ps)) j k
+      pub part_shown : {X : Type 0} (f : X → P) (o : Option X) (d : JobState K V Q P) (k : ℕ) → d ≡ get_or ps place d → option_map f o ≡ option_map (λ x. x.part) (slice_get d.board k)
+          → option_map f o ≡ part_at (all_parts (job_states_of ps)) j k
       part_shown f o d k read same =
-          same ∙ sym (slice_get-map (λ (x : Station K V P). x.part) d.board k) ∙ ap (λ (qs : List P). slice_get qs k) (sym (parts_here (posts_of ps) j (post_of d).1 (open_here d read).here))
+          same ∙ sym (slice_get-map (λ (x : WorkerValue K V P). x.part) d.board k) ∙ ap (λ (qs : List P). slice_get qs k) (sym (parts_here (job_states_of ps) j (job_state_of d).1 (open_here d read).here))
 
       -- a finish of it is not refused, nor a move of its workers
       pub finish_unrefused : refusal kind s (finish j) ≡ None
@@ -148,63 +148,63 @@ module _ {K V Q P A I : Type 0} (R : K → K → Ordering) (path : K → ℕ) (a
           let stands = open_here found.0 found.1 in
           not_refused R path answers ready kind Decides cuts s j stands.job stands.named
 
-      pub move_unrefused : (x : Move) → list_any (λ v. nat_le w v) (named_by x) ≡ false → refusal_of (core_of s (posts_of ps) w g) j x ≡ None
+      pub move_unrefused : (x : Move) → list_any (λ v. nat_le w v) (named_by x) ≡ false → refusal_of (core_of s (job_states_of ps) w g) j x ≡ None
       move_unrefused x e =
           let found = there_is ps place lies.inside in
-          refusal_is R path answers ready kind Decides cuts s (posts_of ps) w g j x (post_of found.0).1 false (open_here found.0 found.1) e
+          refusal_is R path answers ready kind Decides cuts s (job_states_of ps) w g j x (job_state_of found.0).1 false (open_here found.0 found.1) e
 
       -- 3. It is collected.
-      pub unfinished_here : (d : Post K V Q P) (q : Q) (o : Option P) → d ≡ get_or ps place d → q ≡ arc_value d.query → o ≡ None
+      pub unfinished_here : (d : JobState K V Q P) (q : Q) (o : Option P) → d ≡ get_or ps place d → q ≡ arc_value d.query → o ≡ None
           → ((m : Map K V) → IsJobOn R path (answers q) m d.board → IsCollected path (answers q) (Decides q) m d.board o)
-          → StepsTo kind (divided path Decides) (value_of s (posts_of ps) w g) (of_client (finish j)) outcomes.Unfinished (value_of s (posts_of ps) w g)
+          → StepsTo kind (divided path Decides) (value_of s (job_states_of ps) w g) (of_client (finish j)) outcomes.Unfinished (value_of s (job_states_of ps) w g)
       unfinished_here d q o read same none collects =
           let stands = open_here d read in
-          let left = subst (λ (r : Q). IsCollected path (answers r) (Decides r) stands.job.frozen d.board o) same (collects stands.job.frozen (subst (λ (r : Q). IsJobOn R path (answers r) stands.job.frozen d.board) (sym same) stands.has.desks)) in
-          unfinished_whole R path answers ready kind Decides cuts s (posts_of ps) w g j (post_of d).1 stands (subst (IsCollected path (answers (arc_value d.query)) (Decides (arc_value d.query)) stands.job.frozen d.board) none left) is
+          let left = subst (λ (r : Q). IsCollected path (answers r) (Decides r) stands.job.frozen d.board o) same (collects stands.job.frozen (subst (λ (r : Q). IsJobOn R path (answers r) stands.job.frozen d.board) (sym same) stands.has.worker_states)) in
+          unfinished_whole R path answers ready kind Decides cuts s (job_states_of ps) w g j (job_state_of d).1 stands (subst (IsCollected path (answers (arc_value d.query)) (Decides (arc_value d.query)) stands.job.frozen d.board) none left) is
 
-      pub collected_here : ((m : Map K V) (is : List Interval) → Tile is whole → parts path m is ≡ m) → (d : Post K V Q P) (q : Q) (o : Option P) (part : P) → d ≡ get_or ps place d → q ≡ arc_value d.query → o ≡ Some part
+      pub collected_here : ((m : Map K V) (is : List Interval) → Tile is whole → parts path m is ≡ m) → (d : JobState K V Q P) (q : Q) (o : Option P) (part : P) → d ≡ get_or ps place d → q ≡ arc_value d.query → o ≡ Some part
           → ((m : Map K V) → IsJobOn R path (answers q) m d.board → IsCollected path (answers q) (Decides q) m d.board o)
-          → ((x : Job K V Q) → job_at s j ≡ Some x → answers x.query x.frozen part) × (IsUnfinished (divided path Decides) (core_of s (posts_of ps) w g) j → ⊥)
+          → ((x : Job K V Q) → job_at s j ≡ Some x → answers x.query x.frozen part) × (IsUnfinished (divided path Decides) (core_of s (job_states_of ps) w g) j → ⊥)
       collected_here tiled d q o part read same some collects =
           let stands = open_here d read in
-          let left = subst (λ (r : Q). IsCollected path (answers r) (Decides r) stands.job.frozen d.board o) same (collects stands.job.frozen (subst (λ (r : Q). IsJobOn R path (answers r) stands.job.frozen d.board) (sym same) stands.has.desks)) in
-          let both = collected_whole R path answers ready kind Decides cuts tiled s (posts_of ps) w g j (post_of d).1 stands part (subst (IsCollected path (answers (arc_value d.query)) (Decides (arc_value d.query)) stands.job.frozen d.board) some left) is in (
+          let left = subst (λ (r : Q). IsCollected path (answers r) (Decides r) stands.job.frozen d.board o) same (collects stands.job.frozen (subst (λ (r : Q). IsJobOn R path (answers r) stands.job.frozen d.board) (sym same) stands.has.worker_states)) in
+          let both = collected_whole R path answers ready kind Decides cuts tiled s (job_states_of ps) w g j (job_state_of d).1 stands part (subst (IsCollected path (answers (arc_value d.query)) (Decides (arc_value d.query)) stands.job.frozen d.board) some left) is in (
             λ x named. subst (λ (y : Job K V Q). answers y.query y.frozen part) (ap (λ (r : Option (Job K V Q)). unwrap_or r x) (sym stands.named ∙ named)) both.0,
             both.1,
           )
 
       -- where it may be collected, a finish of it is not told that it is unfinished
-      pub may_finish_here : (d : Post K V Q P) (q : Q) → d ≡ get_or ps place d → q ≡ arc_value d.query → ((m : Map K V) → IsJobOn R path (answers q) m d.board → MayCollect path (answers q) (Decides q) m d.board)
-          → IsUnfinished (divided path Decides) (core_of s (posts_of ps) w g) j → ⊥
+      pub may_finish_here : (d : JobState K V Q P) (q : Q) → d ≡ get_or ps place d → q ≡ arc_value d.query → ((m : Map K V) → IsJobOn R path (answers q) m d.board → MayCollect path (answers q) (Decides q) m d.board)
+          → IsUnfinished (divided path Decides) (core_of s (job_states_of ps) w g) j → ⊥
       may_finish_here d q read same may =
           let stands = open_here d read in
-          may_finish R path answers ready kind Decides cuts s (posts_of ps) w g j (post_of d).1 stands
-          (subst (λ (r : Q). MayCollect path (answers r) (Decides r) stands.job.frozen d.board) same (may stands.job.frozen (subst (λ (r : Q). IsJobOn R path (answers r) stands.job.frozen d.board) (sym same) stands.has.desks))) is
+          may_finish R path answers ready kind Decides cuts s (job_states_of ps) w g j (job_state_of d).1 stands
+          (subst (λ (r : Q). MayCollect path (answers r) (Decides r) stands.job.frozen d.board) same (may stands.job.frozen (subst (λ (r : Q). IsJobOn R path (answers r) stands.job.frozen d.board) (sym same) stands.has.worker_states))) is
 
       -- 4. A worker moves on it, or is none of its workers.
       pub other_here : (x : Move) → list_any (λ v. nat_le w v) (named_by x) ≡ true
-          → StepsTo kind (divided path Decides) (value_of s (posts_of ps) w g) (of_worker j x) (outcomes.Refused NoWorker) (value_of s (posts_of ps) w g)
+          → StepsTo kind (divided path Decides) (value_of s (job_states_of ps) w g) (of_worker j x) (outcomes.Refused NoWorker) (value_of s (job_states_of ps) w g)
       other_here x e =
           let found = there_is ps place lies.inside in
-          no_worker R path answers ready kind Decides cuts s (posts_of ps) w g j x (post_of found.0).1 (open_here found.0 found.1) e
+          no_worker R path answers ready kind Decides cuts s (job_states_of ps) w g j x (job_state_of found.0).1 (open_here found.0 found.1) e
 
-      pub moved_here : (d : Post K V Q P) (x : Move) (p : Progress) (q : Q) (es : List (Station K V P)) → d ≡ get_or ps place d → q ≡ arc_value d.query → list_any (λ v. nat_le w v) (named_by x) ≡ false
-          → ((m : Map K V) → IsJobOn R path (answers q) m d.board → MovesTo R path (answers q) (Decides q) m g d.board x (turn_of p) es)
-          → StepsTo kind (divided path Decides) (value_of s (posts_of ps) w g) (of_worker j x) (outcomes.Turn p) (value_of s (posts_of (set ps place (record d { board = es }))) w g)
-          × IsWhole R path answers ready s (posts_of (set ps place (record d { board = es }))) w g
+      pub moved_here : (d : JobState K V Q P) (x : Move) (p : Progress) (q : Q) (es : List (WorkerValue K V P)) → d ≡ get_or ps place d → q ≡ arc_value d.query → list_any (λ v. nat_le w v) (named_by x) ≡ false
+          → ((m : Map K V) → IsJobOn R path (answers q) m d.board → MovesTo R path (answers q) (Decides q) m g d.board x (progress_of p) es)
+          → StepsTo kind (divided path Decides) (value_of s (job_states_of ps) w g) (of_worker j x) (outcomes.Moved p) (value_of s (job_states_of (set ps place (record d { board = es }))) w g)
+          × IsWhole R path answers ready s (job_states_of (set ps place (record d { board = es }))) w g
       moved_here d x p q es read same e moves =
           let stands = open_here d read in
           let number = number_here ps j place d lies read in
-          let goes = subst (λ (r : Q). MovesTo R path (answers r) (Decides r) stands.job.frozen g d.board x (turn_of p) es) same (moves stands.job.frozen (subst (λ (r : Q). IsJobOn R path (answers r) stands.job.frozen d.board) (sym same) stands.has.desks)) in
+          let goes = subst (λ (r : Q). MovesTo R path (answers r) (Decides r) stands.job.frozen g d.board x (progress_of p) es) same (moves stands.job.frozen (subst (λ (r : Q). IsJobOn R path (answers r) stands.job.frozen d.board) (sym same) stands.has.worker_states)) in
           let put = set_is_put ps place j d (record d { board = es }) is.sorted lies.inside read number number in
-          let quiet : desk_parts es ≡ desk_parts d.board → all_parts (with_pair nat_cmp (posts_of ps) j (post_of (record d { board = es })).1) ≡ all_parts (posts_of ps) =
+          let quiet : state_parts es ≡ state_parts d.board → all_parts (with_pair nat_cmp (job_states_of ps) j (job_state_of (record d { board = es })).1) ≡ all_parts (job_states_of ps) =
           λ parts. ap all_parts (sym put) ∙ same_parts ps place d (record d { board = es }) read (ap (λ (qs : List P). (d.number, qs)) parts) in
-          subst (λ (posts : Map ℕ (Posted K V Q P)). StepsTo kind (divided path Decides) (value_of s (posts_of ps) w g) (of_worker j x) (outcomes.Turn p) (value_of s posts w g) × IsWhole R path answers ready s posts w g)
+          subst (λ (job_states : Map ℕ (JobValue K V Q P)). StepsTo kind (divided path Decides) (value_of s (job_states_of ps) w g) (of_worker j x) (outcomes.Moved p) (value_of s job_states w g) × IsWhole R path answers ready s job_states w g)
           (sym put)
-          (moved_whole R path answers ready kind Decides cuts s (posts_of ps) w g j x p (post_of d).1 es stands e goes quiet is)
+          (moved_whole R path answers ready kind Decides cuts s (job_states_of ps) w g j x p (job_state_of d).1 es stands e goes quiet is)
 
       -- a move that finds no memory leaves all jobs
-      pub unmoved_here : (d : Post K V Q P) (es : List (Station K V P)) → d ≡ get_or ps place d → es ≡ d.board → IsWhole R path answers ready s (posts_of (set ps place (record d { board = es }))) w g
+      pub unmoved_here : (d : JobState K V Q P) (es : List (WorkerValue K V P)) → d ≡ get_or ps place d → es ≡ d.board → IsWhole R path answers ready s (job_states_of (set ps place (record d { board = es }))) w g
       unmoved_here d es read same =
-          subst (λ (qs : List (Post K V Q P)). IsWhole R path answers ready s (posts_of qs) w g)
+          subst (λ (qs : List (JobState K V Q P)). IsWhole R path answers ready s (job_states_of qs) w g)
           (sym (ap (set ps place) ((λ i. record d { board = same i }) ∙ read) ∙ set-get_or ps place d)) is

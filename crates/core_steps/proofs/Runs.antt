@@ -1,7 +1,7 @@
 -- A run of the core is a run of the machine.
 use Rattle.std.proofs.Common.{◌≡◌, List, [], ◌∷◌, ap, subst}
 use Rattle.handles.specs.Machine.{Kind, State, Request, Outcome, Run}
-use Rattle.core_steps.specs.Cores.{CoreState, Asked, of_client, of_worker, Told, to_client, to_worker, no_turn, Division}
+use Rattle.core_steps.specs.Cores.{CoreState, Asked, of_client, of_worker, Told, to_client, to_worker, no_move, Division}
 use Rattle.core_steps.specs.Traces.{client_requests, client_outcomes, CoreRun}
 
 module _ {K V Q A B : Type 0} (kind : Kind K V Q A B) (division : Division K V Q) where
@@ -15,9 +15,9 @@ module _ {K V Q A B : Type 0} (kind : Kind K V Q A B) (division : Division K V Q
   run_of_machine s t (of_client r ∷ xs) (to_client o ∷ ys) (u, step, rest) =
       (step.0, step.1, from_machine u.machine step.0 t.machine _ _ (ap (λ (c : CoreState K V Q). c.machine) step.3) (run_of_machine u t xs ys rest))
   run_of_machine s t (of_client r ∷ xs) (to_worker y ∷ ys) (u, step, rest) = absurd step
-  run_of_machine s t (of_client r ∷ xs) (no_turn e ∷ ys) (u, step, rest) = absurd step
+  run_of_machine s t (of_client r ∷ xs) (no_move e ∷ ys) (u, step, rest) = absurd step
   run_of_machine s t (of_worker j x ∷ xs) (to_client o ∷ ys) (u, step, rest) = absurd step
   run_of_machine s t (of_worker j x ∷ xs) (to_worker y ∷ ys) (u, step, rest) =
       from_machine u.machine s.machine t.machine _ _ (ap (λ (c : CoreState K V Q). c.machine) step.1.left) (run_of_machine u t xs ys rest)
-  run_of_machine s t (of_worker j x ∷ xs) (no_turn e ∷ ys) (u, step, rest) =
+  run_of_machine s t (of_worker j x ∷ xs) (no_move e ∷ ys) (u, step, rest) =
       from_machine u.machine s.machine t.machine _ _ (ap (λ (c : CoreState K V Q). c.machine) step.1) (run_of_machine u t xs ys rest)

@@ -22,85 +22,85 @@ use Rattle.handles.specs.Laws.{OthersKeepJobs}
 use Rattle.iter.specs.declared.interval.Interval.{Interval}
 use Rattle.iter.specs.Intervals.{whole, Tile, part, parts}
 use Rattle.splitter.specs.Cuts.{cut_point}
-use Rattle.core_steps.specs.Boards.{Board, worker, first_board, all_worked, Move, taking, stealing, splitting, working, mover, named_by, moved, Turn, took, cut, uncut, done, idle, tells_settled, TellsTruly}
+use Rattle.core_steps.specs.Boards.{Board, worker, first_board, all_worked, Move, taking, stealing, splitting, working, mover, named_by, moved, MoveResult, took, cut, uncut, done, idle, tells_settled, TellsTruly}
 use Rattle.core_steps.specs.Cores as cores
-use Rattle.core_steps.specs.Views.{turn_of}
+use Rattle.core_steps.specs.Views.{progress_of}
 use Rattle.core_steps.specs.declared.progress.Progress.{Progress}
-use Rattle.core_steps.specs.Cores.{CoreState, Asked, of_client, of_worker, Told, to_client, to_worker, no_turn, CoreStep, board_of, frozen_map, refusal_of, IsUnfinished, IsSettled}
-use Rattle.core_steps.specs.Desks.{Station, worker_of, board, desk_parts, IsJobOn}
+use Rattle.core_steps.specs.Cores.{CoreState, Asked, of_client, of_worker, Told, to_client, to_worker, no_move, CoreStep, board_of, frozen_map, refusal_of, IsUnfinished, IsSettled}
+use Rattle.core_steps.specs.WorkerValues.{WorkerValue, worker_of, board, state_parts, IsJobOn}
 use Rattle.core_steps.specs.Invariants.{IsBoard, waiting}
 use Rattle.core_steps.specs.Collected.{IsCollected, MayCollect}
-use Rattle.core_steps.specs.Moves.{MovesTo, turn_on}
-use Rattle.core_steps.specs.Posts.{Posted, HasDesks, Fits, IsWhole, core_of, value_of, boards_of, all_parts}
-use Rattle.core_steps.specs.Parts.{PartsMove, PartsTurn, PartsStep}
+use Rattle.core_steps.specs.Moves.{MovesTo, move_on}
+use Rattle.core_steps.specs.JobStates.{JobValue, HasWorkerStates, Fits, IsWhole, core_of, value_of, boards_of, all_parts}
+use Rattle.core_steps.specs.Parts.{PartsMove, PartsMoved, PartsStep}
 use Rattle.core_steps.specs.Queries.{divided}
 use Rattle.core_steps.specs.declared.outcome.Outcome.TheVariants as outcomes
 use Rattle.core_steps.specs.Steps.{IsAnswered, StepsTo, refused_outcome, call_told, view_told}
 use Rattle.core_steps.proofs.KeptBoards.{CutsWithin}
 use Rattle.core_steps.proofs.KeptCores.{step_kept, at_put, at_without, its_board, all_below}
-use Rattle.core_steps.proofs.Postings.{same_ties, put_sorted, less_sorted, shown_put, shown_without, shown_at, parts_put, parts_without, parts_here}
+use Rattle.core_steps.proofs.JobStateLemmas.{same_ties, put_sorted, less_sorted, shown_put, shown_without, shown_at, parts_put, parts_without, parts_here}
 use Rattle.core_steps.proofs.Wholes.{job_tiles}
 
 module _ {K V Q P A I : Type 0} (R : K → K → Ordering) (path : K → ℕ) (answers : Q → Map K V → P → Type 0) (ready : Q → Type 0)
     (kind : Kind K V Q A (plain.Told K V I)) (Decides : Q → Map K V → Type 0)
     (cuts : (m : Map K V) (grain : ℕ) → CutsWithin (λ i. cut_point path m i grain))
   where
-    abbrev Whole : State K V Q → Map ℕ (Posted K V Q P) → ℕ → ℕ → Type 0
-    Whole s posts w g = IsWhole R path answers ready s posts w g
+    abbrev Whole : State K V Q → Map ℕ (JobValue K V Q P) → ℕ → ℕ → Type 0
+    Whole s job_states w g = IsWhole R path answers ready s job_states w g
 
     -- 1. Steps that neither open nor close a job.
-    quiet : (s t : State K V Q) (posts : Map ℕ (Posted K V Q P)) (w g : ℕ) (r : Request K V Q) (o : Outcome K V (plain.Told K V I))
-        → t.jobs ≡ s.jobs → CoreStep kind (divided path Decides) (core_of s posts w g) (of_client r) (to_client o) (core_of t posts w g) → Whole s posts w g → Whole t posts w g
-    quiet s t posts w g r o same step is = record {
-      core = step_kept kind (divided path Decides) cuts (core_of s posts w g) (of_client r) (to_client o) (core_of t posts w g) step is.core;
+    quiet : (s t : State K V Q) (job_states : Map ℕ (JobValue K V Q P)) (w g : ℕ) (r : Request K V Q) (o : Outcome K V (plain.Told K V I))
+        → t.jobs ≡ s.jobs → CoreStep kind (divided path Decides) (core_of s job_states w g) (of_client r) (to_client o) (core_of t job_states w g) → Whole s job_states w g → Whole t job_states w g
+    quiet s t job_states w g r o same step is = record {
+      core = step_kept kind (divided path Decides) cuts (core_of s job_states w g) (of_client r) (to_client o) (core_of t job_states w g) step is.core;
       sorted = is.sorted;
-      posted = λ j. subst (λ js. Fits R path answers ready (value_at nat_cmp js j) (value_at nat_cmp posts j)) (sym same) (is.posted j);
+      fits = λ j. subst (λ js. Fits R path answers ready (value_at nat_cmp js j) (value_at nat_cmp job_states j)) (sym same) (is.fits j);
     }
 
-    refused_step : (s t : State K V Q) (posts : Map ℕ (Posted K V Q P)) (w g : ℕ) (r : Request K V Q) (e : Refusal)
-        → Step kind s r (refused e) t → CoreStep kind (divided path Decides) (core_of s posts w g) (of_client r) (to_client (refused e)) (core_of t posts w g)
-    refused_step s t posts w g (open_handle h) e step = (t, step, tt, refl)
-    refused_step s t posts w g (snapshot h to) e step = (t, step, tt, refl)
-    refused_step s t posts w g (drop_handle h) e step = (t, step, tt, refl)
-    refused_step s t posts w g (on h c) e step = (t, step, tt, refl)
-    refused_step s t posts w g (view h) e step = (t, step, tt, refl)
-    refused_step s t posts w g (freeze h q) e step = (t, step, tt, refl)
-    refused_step s t posts w g (finish j) e step = (t, step, tt, refl)
-    refused_step s t posts w g (abandon j) e step = (t, step, tt, refl)
-    refused_step s t posts w g worker_step e step = (t, step, tt, refl)
+    refused_step : (s t : State K V Q) (job_states : Map ℕ (JobValue K V Q P)) (w g : ℕ) (r : Request K V Q) (e : Refusal)
+        → Step kind s r (refused e) t → CoreStep kind (divided path Decides) (core_of s job_states w g) (of_client r) (to_client (refused e)) (core_of t job_states w g)
+    refused_step s t job_states w g (open_handle h) e step = (t, step, tt, refl)
+    refused_step s t job_states w g (snapshot h to) e step = (t, step, tt, refl)
+    refused_step s t job_states w g (drop_handle h) e step = (t, step, tt, refl)
+    refused_step s t job_states w g (on h c) e step = (t, step, tt, refl)
+    refused_step s t job_states w g (view h) e step = (t, step, tt, refl)
+    refused_step s t job_states w g (freeze h q) e step = (t, step, tt, refl)
+    refused_step s t job_states w g (finish j) e step = (t, step, tt, refl)
+    refused_step s t job_states w g (abandon j) e step = (t, step, tt, refl)
+    refused_step s t job_states w g worker_step e step = (t, step, tt, refl)
 
     -- a client's step that is refused
-    refused_whole : (s t : State K V Q) (posts : Map ℕ (Posted K V Q P)) (w g : ℕ) (r : Request K V Q) (e : Refusal) → Step kind s r (refused e) t → Whole s posts w g
-        → StepsTo kind (divided path Decides) (value_of s posts w g) (of_client r) (outcomes.Refused e) (value_of t posts w g) × Whole t posts w g
-    refused_whole s t posts w g r e step is =
-        let core = refused_step s t posts w g r e step in (
+    refused_whole : (s t : State K V Q) (job_states : Map ℕ (JobValue K V Q P)) (w g : ℕ) (r : Request K V Q) (e : Refusal) → Step kind s r (refused e) t → Whole s job_states w g
+        → StepsTo kind (divided path Decides) (value_of s job_states w g) (of_client r) (outcomes.Refused e) (value_of t job_states w g) × Whole t job_states w g
+    refused_whole s t job_states w g r e step is =
+        let core = refused_step s t job_states w g r e step in (
           record { told = to_client (refused e); shown = refl; step = core; parts = refl },
-          quiet s t posts w g r (refused e) (ap (λ (x : State K V Q). x.jobs) step.1) core is,
+          quiet s t job_states w g r (refused e) (ap (λ (x : State K V Q). x.jobs) step.1) core is,
         )
 
-    pub refusal_whole : {T : Type 0} (shown : T → Outcome K V (plain.Told K V I)) (s t : State K V Q) (posts : Map ℕ (Posted K V Q P)) (w g : ℕ) (r : Request K V Q) (e : Refusal) → IsStep kind s r shown (Err e) t → Whole s posts w g
-        → IsAnswered kind (divided path Decides) (value_of s posts w g) (of_client r) (refused_outcome e) (value_of t posts w g) × Whole t posts w g
-    refusal_whole shown s t posts w g r NoHandle step is = refused_whole s t posts w g r NoHandle step is
-    refusal_whole shown s t posts w g r Taken step is = refused_whole s t posts w g r Taken step is
-    refusal_whole shown s t posts w g r Full step is = refused_whole s t posts w g r Full step is
-    refusal_whole shown s t posts w g r NoJob step is = refused_whole s t posts w g r NoJob step is
-    refusal_whole shown s t posts w g r Unfinished step is = refused_whole s t posts w g r Unfinished step is
-    refusal_whole shown s t posts w g r NoWorker step is = refused_whole s t posts w g r NoWorker step is
-    refusal_whole shown s t posts w g r TooManyJobs step is = refused_whole s t posts w g r TooManyJobs step is
-    refusal_whole shown s t posts w g r JournalFull step is = refused_whole s t posts w g r JournalFull step is
-    refusal_whole shown s t posts w g r BadNumber step is = refused_whole s t posts w g r BadNumber step is
-    refusal_whole shown s t posts w g r NoMemory step is = (ap (λ (x : State K V Q). value_of x posts w g) step, subst (λ (x : State K V Q). Whole x posts w g) (sym step) is)
+    pub refusal_whole : {T : Type 0} (shown : T → Outcome K V (plain.Told K V I)) (s t : State K V Q) (job_states : Map ℕ (JobValue K V Q P)) (w g : ℕ) (r : Request K V Q) (e : Refusal) → IsStep kind s r shown (Err e) t → Whole s job_states w g
+        → IsAnswered kind (divided path Decides) (value_of s job_states w g) (of_client r) (refused_outcome e) (value_of t job_states w g) × Whole t job_states w g
+    refusal_whole shown s t job_states w g r NoHandle step is = refused_whole s t job_states w g r NoHandle step is
+    refusal_whole shown s t job_states w g r Taken step is = refused_whole s t job_states w g r Taken step is
+    refusal_whole shown s t job_states w g r Full step is = refused_whole s t job_states w g r Full step is
+    refusal_whole shown s t job_states w g r NoJob step is = refused_whole s t job_states w g r NoJob step is
+    refusal_whole shown s t job_states w g r Unfinished step is = refused_whole s t job_states w g r Unfinished step is
+    refusal_whole shown s t job_states w g r NoWorker step is = refused_whole s t job_states w g r NoWorker step is
+    refusal_whole shown s t job_states w g r TooManyJobs step is = refused_whole s t job_states w g r TooManyJobs step is
+    refusal_whole shown s t job_states w g r JournalFull step is = refused_whole s t job_states w g r JournalFull step is
+    refusal_whole shown s t job_states w g r BadNumber step is = refused_whole s t job_states w g r BadNumber step is
+    refusal_whole shown s t job_states w g r NoMemory step is = (ap (λ (x : State K V Q). value_of x job_states w g) step, subst (λ (x : State K V Q). Whole x job_states w g) (sym step) is)
 
-    call_step : (s t : State K V Q) (posts : Map ℕ (Posted K V Q P)) (w g : ℕ) (c : Call K V) (y : CallReply V)
-        → Step kind s (request_of c) (call_outcome y) t → CoreStep kind (divided path Decides) (core_of s posts w g) (of_client (request_of c)) (to_client (call_outcome y)) (core_of t posts w g)
-    call_step s t posts w g (Open h) replies.Unit step = (t, step, tt, refl)
-    call_step s t posts w g (Open h) (replies.Reply y) step = absurd step.1
-    call_step s t posts w g (Snapshot h to) replies.Unit step = (t, step, tt, refl)
-    call_step s t posts w g (Snapshot h to) (replies.Reply y) step = absurd step.1
-    call_step s t posts w g (Drop h) replies.Unit step = (t, step, tt, refl)
-    call_step s t posts w g (Drop h) (replies.Reply y) step = absurd step.1
-    call_step s t posts w g (On h c) replies.Unit step = absurd step.1
-    call_step s t posts w g (On h c) (replies.Reply y) step = (t, step, tt, refl)
+    call_step : (s t : State K V Q) (job_states : Map ℕ (JobValue K V Q P)) (w g : ℕ) (c : Call K V) (y : CallReply V)
+        → Step kind s (request_of c) (call_outcome y) t → CoreStep kind (divided path Decides) (core_of s job_states w g) (of_client (request_of c)) (to_client (call_outcome y)) (core_of t job_states w g)
+    call_step s t job_states w g (Open h) replies.Unit step = (t, step, tt, refl)
+    call_step s t job_states w g (Open h) (replies.Reply y) step = absurd step.1
+    call_step s t job_states w g (Snapshot h to) replies.Unit step = (t, step, tt, refl)
+    call_step s t job_states w g (Snapshot h to) (replies.Reply y) step = absurd step.1
+    call_step s t job_states w g (Drop h) replies.Unit step = (t, step, tt, refl)
+    call_step s t job_states w g (Drop h) (replies.Reply y) step = absurd step.1
+    call_step s t job_states w g (On h c) replies.Unit step = absurd step.1
+    call_step s t job_states w g (On h c) (replies.Reply y) step = (t, step, tt, refl)
 
     opens_none : (c : Call K V) → is_freeze {K = K} {V = V} {Q = Q} (request_of c) ≡ false
     opens_none (Open h) = refl
@@ -126,100 +126,100 @@ module _ {K V Q P A I : Type 0} (R : K → K → Ordering) (path : K → ℕ) (a
     call_parts ps (On h c) (replies.Reply y) = refl
 
     -- a call
-    pub call_whole : OthersKeepJobs kind → (s t : State K V Q) (posts : Map ℕ (Posted K V Q P)) (w g : ℕ) (c : Call K V) (answer : Result (CallReply V) Refusal)
-        → IsStep kind s (request_of c) call_outcome answer t → Whole s posts w g
-        → IsAnswered kind (divided path Decides) (value_of s posts w g) (of_client (request_of c)) (call_told answer) (value_of t posts w g) × Whole t posts w g
-    call_whole keep s t posts w g c (Ok y) step is =
-        let core = call_step s t posts w g c y step in (
-          record { told = to_client (call_outcome y); shown = refl; step = core; parts = call_parts (all_parts posts) c y },
-          quiet s t posts w g (request_of c) (call_outcome y) (keep s t (request_of c) (call_outcome y) (opens_none c) (closes_none c) step) core is,
+    pub call_whole : OthersKeepJobs kind → (s t : State K V Q) (job_states : Map ℕ (JobValue K V Q P)) (w g : ℕ) (c : Call K V) (answer : Result (CallReply V) Refusal)
+        → IsStep kind s (request_of c) call_outcome answer t → Whole s job_states w g
+        → IsAnswered kind (divided path Decides) (value_of s job_states w g) (of_client (request_of c)) (call_told answer) (value_of t job_states w g) × Whole t job_states w g
+    call_whole keep s t job_states w g c (Ok y) step is =
+        let core = call_step s t job_states w g c y step in (
+          record { told = to_client (call_outcome y); shown = refl; step = core; parts = call_parts (all_parts job_states) c y },
+          quiet s t job_states w g (request_of c) (call_outcome y) (keep s t (request_of c) (call_outcome y) (opens_none c) (closes_none c) step) core is,
         )
-    call_whole keep s t posts w g c (Err e) step is = refusal_whole call_outcome s t posts w g (request_of c) e step is
+    call_whole keep s t job_states w g c (Err e) step is = refusal_whole call_outcome s t job_states w g (request_of c) e step is
 
     -- a view
-    pub view_whole : OthersKeepJobs kind → (s t : State K V Q) (posts : Map ℕ (Posted K V Q P)) (w g h : ℕ) (answer : Result (Map K V) Refusal)
-        → IsStep kind s (view h) view_outcome answer t → Whole s posts w g
-        → IsAnswered kind (divided path Decides) (value_of s posts w g) (of_client (view h)) (view_told answer) (value_of t posts w g) × Whole t posts w g
-    view_whole keep s t posts w g h (Ok m) step is =
-        let core : CoreStep kind (divided path Decides) (core_of s posts w g) (of_client (view h)) (to_client (viewed m)) (core_of t posts w g) = (t, step, tt, refl) in (
+    pub view_whole : OthersKeepJobs kind → (s t : State K V Q) (job_states : Map ℕ (JobValue K V Q P)) (w g h : ℕ) (answer : Result (Map K V) Refusal)
+        → IsStep kind s (view h) view_outcome answer t → Whole s job_states w g
+        → IsAnswered kind (divided path Decides) (value_of s job_states w g) (of_client (view h)) (view_told answer) (value_of t job_states w g) × Whole t job_states w g
+    view_whole keep s t job_states w g h (Ok m) step is =
+        let core : CoreStep kind (divided path Decides) (core_of s job_states w g) (of_client (view h)) (to_client (viewed m)) (core_of t job_states w g) = (t, step, tt, refl) in (
           record { told = to_client (viewed m); shown = refl; step = core; parts = refl },
-          quiet s t posts w g (view h) (viewed m) (keep s t (view h) (viewed m) refl refl step) core is,
+          quiet s t job_states w g (view h) (viewed m) (keep s t (view h) (viewed m) refl refl step) core is,
         )
-    view_whole keep s t posts w g h (Err e) step is = refusal_whole view_outcome s t posts w g (view h) e step is
+    view_whole keep s t job_states w g h (Err e) step is = refusal_whole view_outcome s t job_states w g (view h) e step is
 
     -- 2. A job is opened.
-    pub frozen_whole : (s t : State K V Q) (posts : Map ℕ (Posted K V Q P)) (w g h j : ℕ) (q : Q) (m : Map K V) (post : Posted K V Q P)
-        → Step kind s (freeze h q) (frozen j m) t → post.query ≡ q → ready post.query → IsJobOn R path (answers post.query) m post.desks → board post.desks ≡ first_board w → Whole s posts w g
-        → StepsTo kind (divided path Decides) (value_of s posts w g) (of_client (freeze h q)) (outcomes.Frozen j) (value_of t (with_pair nat_cmp posts j post) w g) × Whole t (with_pair nat_cmp posts j post) w g
-    frozen_whole s t posts w g h j q m post step same can job first is =
-        let boards : boards_of (with_pair nat_cmp posts j post) ≡ with_pair nat_cmp (boards_of posts) j (first_board w) = shown_put posts j post ∙ ap (with_pair nat_cmp (boards_of posts) j) first in
-        let after : CoreState K V Q = core_of t (with_pair nat_cmp posts j post) w g in
-        let core : CoreStep kind (divided path Decides) (core_of s posts w g) (of_client (freeze h q)) (to_client (frozen j m)) after =
+    pub frozen_whole : (s t : State K V Q) (job_states : Map ℕ (JobValue K V Q P)) (w g h j : ℕ) (q : Q) (m : Map K V) (job_state : JobValue K V Q P)
+        → Step kind s (freeze h q) (frozen j m) t → job_state.query ≡ q → ready job_state.query → IsJobOn R path (answers job_state.query) m job_state.worker_states → board job_state.worker_states ≡ first_board w → Whole s job_states w g
+        → StepsTo kind (divided path Decides) (value_of s job_states w g) (of_client (freeze h q)) (outcomes.Frozen j) (value_of t (with_pair nat_cmp job_states j job_state) w g) × Whole t (with_pair nat_cmp job_states j job_state) w g
+    frozen_whole s t job_states w g h j q m job_state step same can job first is =
+        let boards : boards_of (with_pair nat_cmp job_states j job_state) ≡ with_pair nat_cmp (boards_of job_states) j (first_board w) = shown_put job_states j job_state ∙ ap (with_pair nat_cmp (boards_of job_states) j) first in
+        let after : CoreState K V Q = core_of t (with_pair nat_cmp job_states j job_state) w g in
+        let core : CoreStep kind (divided path Decides) (core_of s job_states w g) (of_client (freeze h q)) (to_client (frozen j m)) after =
         (t, step, tt, λ i. record { machine = t; boards = boards i; workers = w; grain = g }) in
         let opened : Job K V Q = record { query = q; frozen = m } in
         let jobs : (k : ℕ) → job_at t k ≡ cond (eq_by_cmp nat_cmp k j) (Some opened) (job_at s k) = λ k. ap (λ (x : State K V Q). job_at x k) step.1.2 ∙ at_put s.jobs j k opened in (
-          record { told = to_client (frozen j m); shown = (m, refl); step = core; parts = (desk_parts post.desks, parts_put posts j post) },
+          record { told = to_client (frozen j m); shown = (m, refl); step = core; parts = (state_parts job_state.worker_states, parts_put job_states j job_state) },
           record {
-            core = step_kept kind (divided path Decides) cuts (core_of s posts w g) (of_client (freeze h q)) (to_client (frozen j m)) after core is.core;
-            sorted = put_sorted posts j post is.sorted;
-            posted = λ k. subst (λ o. Fits R path answers ready o (value_at nat_cmp (with_pair nat_cmp posts j post) k)) (sym (jobs k))
-                (subst (Fits R path answers ready (cond (eq_by_cmp nat_cmp k j) (Some opened) (job_at s k))) (sym (at_put posts j k post))
-                (by_number (eq_by_cmp nat_cmp k j) opened post (job_at s k) (value_at nat_cmp posts k) (record { query = same; can = can; desks = job }) (is.posted k)));
+            core = step_kept kind (divided path Decides) cuts (core_of s job_states w g) (of_client (freeze h q)) (to_client (frozen j m)) after core is.core;
+            sorted = put_sorted job_states j job_state is.sorted;
+            fits = λ k. subst (λ o. Fits R path answers ready o (value_at nat_cmp (with_pair nat_cmp job_states j job_state) k)) (sym (jobs k))
+                (subst (Fits R path answers ready (cond (eq_by_cmp nat_cmp k j) (Some opened) (job_at s k))) (sym (at_put job_states j k job_state))
+                (by_number (eq_by_cmp nat_cmp k j) opened job_state (job_at s k) (value_at nat_cmp job_states k) (record { query = same; can = can; worker_states = job }) (is.fits k)));
           },
         )
       where
-        by_number : (b : Bool) (x : Job K V Q) (p : Posted K V Q P) (o : Option (Job K V Q)) (r : Option (Posted K V Q P)) → HasDesks R path answers ready x p → Fits R path answers ready o r → Fits R path answers ready (cond b (Some x) o) (cond b (Some p) r)
+        by_number : (b : Bool) (x : Job K V Q) (p : JobValue K V Q P) (o : Option (Job K V Q)) (r : Option (JobValue K V Q P)) → HasWorkerStates R path answers ready x p → Fits R path answers ready o r → Fits R path answers ready (cond b (Some x) o) (cond b (Some p) r)
         by_number true x p o r has fits = has
         by_number false x p o r has fits = fits
 
     -- 3. A job is closed.
-    closed_whole : (s t : State K V Q) (posts : Map ℕ (Posted K V Q P)) (w g j : ℕ) (r : Request K V Q) (o : Outcome K V (plain.Told K V I))
-        → t.jobs ≡ without nat_cmp s.jobs j → CoreStep kind (divided path Decides) (core_of s posts w g) (of_client r) (to_client o) (core_of t (without nat_cmp posts j) w g)
-        → Whole s posts w g → Whole t (without nat_cmp posts j) w g
-    closed_whole s t posts w g j r o jobs core is = record {
-      core = step_kept kind (divided path Decides) cuts (core_of s posts w g) (of_client r) (to_client o) (core_of t (without nat_cmp posts j) w g) core is.core;
-      sorted = less_sorted posts j is.sorted;
-      posted = λ k. subst (λ x. Fits R path answers ready x (value_at nat_cmp (without nat_cmp posts j) k)) (sym (ap (λ js. value_at nat_cmp js k) jobs ∙ at_without s.jobs j k))
-          (subst (Fits R path answers ready (cond (is_other nat_cmp j k) (job_at s k) None)) (sym (at_without posts j k))
-          (by_number (is_other nat_cmp j k) (job_at s k) (value_at nat_cmp posts k) (is.posted k)));
+    closed_whole : (s t : State K V Q) (job_states : Map ℕ (JobValue K V Q P)) (w g j : ℕ) (r : Request K V Q) (o : Outcome K V (plain.Told K V I))
+        → t.jobs ≡ without nat_cmp s.jobs j → CoreStep kind (divided path Decides) (core_of s job_states w g) (of_client r) (to_client o) (core_of t (without nat_cmp job_states j) w g)
+        → Whole s job_states w g → Whole t (without nat_cmp job_states j) w g
+    closed_whole s t job_states w g j r o jobs core is = record {
+      core = step_kept kind (divided path Decides) cuts (core_of s job_states w g) (of_client r) (to_client o) (core_of t (without nat_cmp job_states j) w g) core is.core;
+      sorted = less_sorted job_states j is.sorted;
+      fits = λ k. subst (λ x. Fits R path answers ready x (value_at nat_cmp (without nat_cmp job_states j) k)) (sym (ap (λ js. value_at nat_cmp js k) jobs ∙ at_without s.jobs j k))
+          (subst (Fits R path answers ready (cond (is_other nat_cmp j k) (job_at s k) None)) (sym (at_without job_states j k))
+          (by_number (is_other nat_cmp j k) (job_at s k) (value_at nat_cmp job_states k) (is.fits k)));
     }
       where
-        by_number : (b : Bool) (o : Option (Job K V Q)) (r : Option (Posted K V Q P)) → Fits R path answers ready o r → Fits R path answers ready (cond b o None) (cond b r None)
+        by_number : (b : Bool) (o : Option (Job K V Q)) (r : Option (JobValue K V Q P)) → Fits R path answers ready o r → Fits R path answers ready (cond b o None) (cond b r None)
         by_number true o r fits = fits
         by_number false o r fits = tt
 
-    pub abandoned_whole : (s t : State K V Q) (posts : Map ℕ (Posted K V Q P)) (w g j : ℕ) → Step kind s (abandon j) made t → Whole s posts w g
-        → StepsTo kind (divided path Decides) (value_of s posts w g) (of_client (abandon j)) outcomes.Abandoned (value_of t (without nat_cmp posts j) w g) × Whole t (without nat_cmp posts j) w g
-    abandoned_whole s t posts w g j step is =
-        let core : CoreStep kind (divided path Decides) (core_of s posts w g) (of_client (abandon j)) (to_client made) (core_of t (without nat_cmp posts j) w g) =
-        (t, step, tt, λ i. record { machine = t; boards = shown_without posts j i; workers = w; grain = g }) in (
-          record { told = to_client made; shown = refl; step = core; parts = parts_without posts j },
-          closed_whole s t posts w g j (abandon j) made (ap (λ (x : State K V Q). x.jobs) step.1) core is,
+    pub abandoned_whole : (s t : State K V Q) (job_states : Map ℕ (JobValue K V Q P)) (w g j : ℕ) → Step kind s (abandon j) made t → Whole s job_states w g
+        → StepsTo kind (divided path Decides) (value_of s job_states w g) (of_client (abandon j)) outcomes.Abandoned (value_of t (without nat_cmp job_states j) w g) × Whole t (without nat_cmp job_states j) w g
+    abandoned_whole s t job_states w g j step is =
+        let core : CoreStep kind (divided path Decides) (core_of s job_states w g) (of_client (abandon j)) (to_client made) (core_of t (without nat_cmp job_states j) w g) =
+        (t, step, tt, λ i. record { machine = t; boards = shown_without job_states j i; workers = w; grain = g }) in (
+          record { told = to_client made; shown = refl; step = core; parts = parts_without job_states j },
+          closed_whole s t job_states w g j (abandon j) made (ap (λ (x : State K V Q). x.jobs) step.1) core is,
         )
 
     -- 4. An open job.
-    -- what is true of an open job with its desks
-    pub record IsOpen (s : State K V Q) (posts : Map ℕ (Posted K V Q P)) (w g j : ℕ) (post : Posted K V Q P) : Type 0 where
+    -- what is true of an open job with its workers' states
+    pub record IsOpen (s : State K V Q) (job_states : Map ℕ (JobValue K V Q P)) (w g j : ℕ) (job_state : JobValue K V Q P) : Type 0 where
       pub job : Job K V Q
       pub named : job_at s j ≡ Some job
-      pub has : HasDesks R path answers ready job post
-      pub board_is : board_of (core_of s posts w g) j ≡ board post.desks
-      pub map_is : frozen_map (core_of s posts w g) j ≡ job.frozen
-      pub here : value_at nat_cmp posts j ≡ Some post
+      pub has : HasWorkerStates R path answers ready job job_state
+      pub board_is : board_of (core_of s job_states w g) j ≡ board job_state.worker_states
+      pub map_is : frozen_map (core_of s job_states w g) j ≡ job.frozen
+      pub here : value_at nat_cmp job_states j ≡ Some job_state
 
-    pub is_open : (s : State K V Q) (posts : Map ℕ (Posted K V Q P)) (w g j : ℕ) (post : Posted K V Q P) → value_at nat_cmp posts j ≡ Some post → Whole s posts w g → IsOpen s posts w g j post
-    is_open s posts w g j post here is =
-        let job = its_job (job_at s j) post (subst (Fits R path answers ready (job_at s j)) here (is.posted j)) in
+    pub is_open : (s : State K V Q) (job_states : Map ℕ (JobValue K V Q P)) (w g j : ℕ) (job_state : JobValue K V Q P) → value_at nat_cmp job_states j ≡ Some job_state → Whole s job_states w g → IsOpen s job_states w g j job_state
+    is_open s job_states w g j job_state here is =
+        let job = its_job (job_at s j) job_state (subst (Fits R path answers ready (job_at s j)) here (is.fits j)) in
         record {
           job = job.0;
           named = job.1;
           has = job.2;
-          board_is = ap (λ o. unwrap_or o []) (shown_at posts j ∙ ap (option_map (λ x. board x.desks)) here);
+          board_is = ap (λ o. unwrap_or o []) (shown_at job_states j ∙ ap (option_map (λ x. board x.worker_states)) here);
           map_is = ap (λ (o : Option (Job K V Q)). unwrap_or (option_map (λ x. x.frozen) o) []) job.1;
           here = here;
         }
       where
-        its_job : (o : Option (Job K V Q)) (p : Posted K V Q P) → Fits R path answers ready o (Some p) → (x : Job K V Q) × (o ≡ Some x) × HasDesks R path answers ready x p
+        its_job : (o : Option (Job K V Q)) (p : JobValue K V Q P) → Fits R path answers ready o (Some p) → (x : Job K V Q) × (o ≡ Some x) × HasWorkerStates R path answers ready x p
         its_job (Some x) p fits = (x, refl, fits)
         its_job None p fits = absurd fits
 
@@ -244,24 +244,24 @@ module _ {K V Q P A I : Type 0} (R : K → K → Ordering) (path : K → ℕ) (a
         (subst (λ (c : Board). Decides job.query (parts path n (worker c v).worked)) (sym same_board)
         (subst (λ r. Decides r (parts path n (worker d v).worked)) same_query is_so)))
 
-    pub long_desks : (s : State K V Q) (posts : Map ℕ (Posted K V Q P)) (w g j : ℕ) (post : Posted K V Q P) → IsOpen s posts w g j post → Whole s posts w g → length post.desks ≡ w
-    long_desks s posts w g j post stands is =
-        sym (length-map post.desks worker_of) ∙ ap length (sym stands.board_is)
-        ∙ (its_board (IsBoard w) (value_at nat_cmp (boards_of posts) j) (is.core.matches j ∙ ap is_some stands.named) (is.core.boards j)).long
+    pub long_states : (s : State K V Q) (job_states : Map ℕ (JobValue K V Q P)) (w g j : ℕ) (job_state : JobValue K V Q P) → IsOpen s job_states w g j job_state → Whole s job_states w g → length job_state.worker_states ≡ w
+    long_states s job_states w g j job_state stands is =
+        sym (length-map job_state.worker_states worker_of) ∙ ap length (sym stands.board_is)
+        ∙ (its_board (IsBoard w) (value_at nat_cmp (boards_of job_states) j) (is.core.matches j ∙ ap is_some stands.named) (is.core.boards j)).long
 
     -- an open job that can't be collected
-    pub unfinished_whole : (s : State K V Q) (posts : Map ℕ (Posted K V Q P)) (w g j : ℕ) (post : Posted K V Q P) (stands : IsOpen s posts w g j post)
-        → IsCollected path (answers post.query) (Decides post.query) stands.job.frozen post.desks None → Whole s posts w g
-        → StepsTo kind (divided path Decides) (value_of s posts w g) (of_client (finish j)) outcomes.Unfinished (value_of s posts w g)
-    unfinished_whole s posts w g j post stands left is = record {
+    pub unfinished_whole : (s : State K V Q) (job_states : Map ℕ (JobValue K V Q P)) (w g j : ℕ) (job_state : JobValue K V Q P) (stands : IsOpen s job_states w g j job_state)
+        → IsCollected path (answers job_state.query) (Decides job_state.query) stands.job.frozen job_state.worker_states None → Whole s job_states w g
+        → StepsTo kind (divided path Decides) (value_of s job_states w g) (of_client (finish j)) outcomes.Unfinished (value_of s job_states w g)
+    unfinished_whole s job_states w g j job_state stands left is = record {
       told = to_client unfinished;
       shown = refl;
       step = (
         s,
         (not_refused s j stands.job stands.named, refl),
         record {
-          untiled = λ tile. left.0 (ap waiting (sym stands.board_is) ∙ (job_tiles (core_of s posts w g) j is.core (ap is_some stands.named)).0 tile);
-          unsettled = λ v there settled. left.1 (v, omega (arith, there, long_desks s posts w g j post stands is), settled_to (job_at s j) (frozen_map (core_of s posts w g) j) stands.job.frozen (board_of (core_of s posts w g) j) (board post.desks) stands.job post.query v stands.named stands.map_is stands.board_is stands.has.query settled);
+          untiled = λ tile. left.0 (ap waiting (sym stands.board_is) ∙ (job_tiles (core_of s job_states w g) j is.core (ap is_some stands.named)).0 tile);
+          unsettled = λ v there settled. left.1 (v, omega (arith, there, long_states s job_states w g j job_state stands is), settled_to (job_at s j) (frozen_map (core_of s job_states w g) j) stands.job.frozen (board_of (core_of s job_states w g) j) (board job_state.worker_states) stands.job job_state.query v stands.named stands.map_is stands.board_is stands.has.query settled);
         },
         refl,
       );
@@ -269,40 +269,40 @@ module _ {K V Q P A I : Type 0} (R : K → K → Ordering) (path : K → ℕ) (a
     }
 
     -- where a part may be collected, the job is not unfinished
-    pub may_finish : (s : State K V Q) (posts : Map ℕ (Posted K V Q P)) (w g j : ℕ) (post : Posted K V Q P) (stands : IsOpen s posts w g j post)
-        → MayCollect path (answers post.query) (Decides post.query) stands.job.frozen post.desks → Whole s posts w g → IsUnfinished (divided path Decides) (core_of s posts w g) j → ⊥
-    may_finish s posts w g j post stands (inl none) is un =
-        un.untiled ((job_tiles (core_of s posts w g) j is.core (ap is_some stands.named)).1 (ap waiting stands.board_is ∙ none))
-    may_finish s posts w g j post stands (inr some) is un =
-        un.unsettled some.0 (omega (arith, some.1, long_desks s posts w g j post stands is)) (settled_from (job_at s j) (frozen_map (core_of s posts w g) j) stands.job.frozen (board_of (core_of s posts w g) j) (board post.desks) stands.job post.query some.0 stands.named stands.map_is stands.board_is stands.has.query some.2)
+    pub may_finish : (s : State K V Q) (job_states : Map ℕ (JobValue K V Q P)) (w g j : ℕ) (job_state : JobValue K V Q P) (stands : IsOpen s job_states w g j job_state)
+        → MayCollect path (answers job_state.query) (Decides job_state.query) stands.job.frozen job_state.worker_states → Whole s job_states w g → IsUnfinished (divided path Decides) (core_of s job_states w g) j → ⊥
+    may_finish s job_states w g j job_state stands (inl none) is un =
+        un.untiled ((job_tiles (core_of s job_states w g) j is.core (ap is_some stands.named)).1 (ap waiting stands.board_is ∙ none))
+    may_finish s job_states w g j job_state stands (inr some) is un =
+        un.unsettled some.0 (omega (arith, some.1, long_states s job_states w g j job_state stands is)) (settled_from (job_at s j) (frozen_map (core_of s job_states w g) j) stands.job.frozen (board_of (core_of s job_states w g) j) (board job_state.worker_states) stands.job job_state.query some.0 stands.named stands.map_is stands.board_is stands.has.query some.2)
 
     -- the part that was collected answers the job's whole map
-    pub collected_whole : ((m : Map K V) (is : List Interval) → Tile is whole → parts path m is ≡ m) → (s : State K V Q) (posts : Map ℕ (Posted K V Q P)) (w g j : ℕ) (post : Posted K V Q P) (stands : IsOpen s posts w g j post) (part : P)
-        → IsCollected path (answers post.query) (Decides post.query) stands.job.frozen post.desks (Some part) → Whole s posts w g
-        → answers stands.job.query stands.job.frozen part × (IsUnfinished (divided path Decides) (core_of s posts w g) j → ⊥)
-    collected_whole tiled s posts w g j post stands part (inl joined) is =
-        let tile = (job_tiles (core_of s posts w g) j is.core (ap is_some stands.named)).1 (ap waiting stands.board_is ∙ joined.0) in (
-          subst (λ q. answers q stands.job.frozen part) stands.has.query (subst (λ (m : Map K V). answers post.query m part) (tiled stands.job.frozen (all_worked (board post.desks)) (subst (λ (b : Board). Tile (all_worked b) whole) stands.board_is tile)) joined.1),
-          may_finish s posts w g j post stands (inl joined.0) is,
+    pub collected_whole : ((m : Map K V) (is : List Interval) → Tile is whole → parts path m is ≡ m) → (s : State K V Q) (job_states : Map ℕ (JobValue K V Q P)) (w g j : ℕ) (job_state : JobValue K V Q P) (stands : IsOpen s job_states w g j job_state) (part : P)
+        → IsCollected path (answers job_state.query) (Decides job_state.query) stands.job.frozen job_state.worker_states (Some part) → Whole s job_states w g
+        → answers stands.job.query stands.job.frozen part × (IsUnfinished (divided path Decides) (core_of s job_states w g) j → ⊥)
+    collected_whole tiled s job_states w g j job_state stands part (inl joined) is =
+        let tile = (job_tiles (core_of s job_states w g) j is.core (ap is_some stands.named)).1 (ap waiting stands.board_is ∙ joined.0) in (
+          subst (λ q. answers q stands.job.frozen part) stands.has.query (subst (λ (m : Map K V). answers job_state.query m part) (tiled stands.job.frozen (all_worked (board job_state.worker_states)) (subst (λ (b : Board). Tile (all_worked b) whole) stands.board_is tile)) joined.1),
+          may_finish s job_states w g j job_state stands (inl joined.0) is,
         )
-    collected_whole tiled s posts w g j post stands part (inr settled) is = (
+    collected_whole tiled s job_states w g j job_state stands part (inr settled) is = (
       subst (λ q. answers q stands.job.frozen part) stands.has.query settled.0,
-      may_finish s posts w g j post stands (inr settled.1) is,
+      may_finish s job_states w g j job_state stands (inr settled.1) is,
     )
 
     -- a job is closed by its answer
-    pub finished_whole : (s t : State K V Q) (posts : Map ℕ (Posted K V Q P)) (w g j : ℕ) (a : Answer K V I) → Step kind s (finish j) (finished (told_of a)) t
-        → (IsUnfinished (divided path Decides) (core_of s posts w g) j → ⊥) → Whole s posts w g
-        → StepsTo kind (divided path Decides) (value_of s posts w g) (of_client (finish j)) (outcomes.Answer a) (value_of t (without nat_cmp posts j) w g) × Whole t (without nat_cmp posts j) w g
-    finished_whole s t posts w g j a step exact is =
-        let core : CoreStep kind (divided path Decides) (core_of s posts w g) (of_client (finish j)) (to_client (finished (told_of a))) (core_of t (without nat_cmp posts j) w g) =
-        (t, step, exact, λ i. record { machine = t; boards = shown_without posts j i; workers = w; grain = g }) in (
-          record { told = to_client (finished (told_of a)); shown = refl; step = core; parts = parts_without posts j },
-          closed_whole s t posts w g j (finish j) (finished (told_of a)) (ap (λ (x : State K V Q). x.jobs) step.1.left) core is,
+    pub finished_whole : (s t : State K V Q) (job_states : Map ℕ (JobValue K V Q P)) (w g j : ℕ) (a : Answer K V I) → Step kind s (finish j) (finished (told_of a)) t
+        → (IsUnfinished (divided path Decides) (core_of s job_states w g) j → ⊥) → Whole s job_states w g
+        → StepsTo kind (divided path Decides) (value_of s job_states w g) (of_client (finish j)) (outcomes.Answer a) (value_of t (without nat_cmp job_states j) w g) × Whole t (without nat_cmp job_states j) w g
+    finished_whole s t job_states w g j a step exact is =
+        let core : CoreStep kind (divided path Decides) (core_of s job_states w g) (of_client (finish j)) (to_client (finished (told_of a))) (core_of t (without nat_cmp job_states j) w g) =
+        (t, step, exact, λ i. record { machine = t; boards = shown_without job_states j i; workers = w; grain = g }) in (
+          record { told = to_client (finished (told_of a)); shown = refl; step = core; parts = parts_without job_states j },
+          closed_whole s t job_states w g j (finish j) (finished (told_of a)) (ap (λ (x : State K V Q). x.jobs) step.1.left) core is,
         )
 
     -- 5. Workers.
-    tells_of : (y : Turn) (D E : Type 0) → (D → E) → (E → D) → TellsTruly y D → TellsTruly y E
+    tells_of : (y : MoveResult) (D E : Type 0) → (D → E) → (E → D) → TellsTruly y D → TellsTruly y E
     tells_of (took lo hi) D E to from is_so = tt
     tells_of (cut lo mid hi) D E to from is_so = tt
     tells_of uncut D E to from is_so = tt
@@ -310,80 +310,80 @@ module _ {K V Q P A I : Type 0} (R : K → K → Ordering) (path : K → ℕ) (a
     tells_of (done lo hi n true) D E to from is_so = to is_so
     tells_of (done lo hi n false) D E to from is_so = λ e. is_so (from e)
 
-    pub refusal_is : (s : State K V Q) (posts : Map ℕ (Posted K V Q P)) (w g j : ℕ) (x : Move) (post : Posted K V Q P) (b : Bool) → IsOpen s posts w g j post → list_any (λ v. nat_le w v) (named_by x) ≡ b
-        → refusal_of (core_of s posts w g) j x ≡ first_of ((b, NoWorker) ∷ [])
-    refusal_is s posts w g j x post b stands e =
+    pub refusal_is : (s : State K V Q) (job_states : Map ℕ (JobValue K V Q P)) (w g j : ℕ) (x : Move) (job_state : JobValue K V Q P) (b : Bool) → IsOpen s job_states w g j job_state → list_any (λ v. nat_le w v) (named_by x) ≡ b
+        → refusal_of (core_of s job_states w g) j x ≡ first_of ((b, NoWorker) ∷ [])
+    refusal_is s job_states w g j x job_state b stands e =
         ap (λ (o : Option (Job K V Q)). first_of ((not (is_some o), NoJob) ∷ (list_any (λ v. nat_le w v) (named_by x), NoWorker) ∷ [])) stands.named
         ∙ ap (λ (c : Bool). first_of ((c, NoWorker) ∷ [])) e
 
     -- a move that names no worker
-    pub no_worker : (s : State K V Q) (posts : Map ℕ (Posted K V Q P)) (w g j : ℕ) (x : Move) (post : Posted K V Q P) → IsOpen s posts w g j post → list_any (λ v. nat_le w v) (named_by x) ≡ true
-        → StepsTo kind (divided path Decides) (value_of s posts w g) (of_worker j x) (outcomes.Refused NoWorker) (value_of s posts w g)
-    no_worker s posts w g j x post stands e = record { told = no_turn NoWorker; shown = refl; step = (refusal_is s posts w g j x post true stands e, refl); parts = refl }
+    pub no_worker : (s : State K V Q) (job_states : Map ℕ (JobValue K V Q P)) (w g j : ℕ) (x : Move) (job_state : JobValue K V Q P) → IsOpen s job_states w g j job_state → list_any (λ v. nat_le w v) (named_by x) ≡ true
+        → StepsTo kind (divided path Decides) (value_of s job_states w g) (of_worker j x) (outcomes.Refused NoWorker) (value_of s job_states w g)
+    no_worker s job_states w g j x job_state stands e = record { told = no_move NoWorker; shown = refl; step = (refusal_is s job_states w g j x job_state true stands e, refl); parts = refl }
 
-    -- the workers that a move names have desks
-    pub names_desks : (s : State K V Q) (posts : Map ℕ (Posted K V Q P)) (w g j : ℕ) (x : Move) (post : Posted K V Q P) → IsOpen s posts w g j post → list_any (λ v. nat_le w v) (named_by x) ≡ false → Whole s posts w g
-        → All (λ v. v < length post.desks) (named_by x)
-    names_desks s posts w g j x post stands e is = subst (λ n. All (λ v. v < n) (named_by x)) (sym (long_desks s posts w g j post stands is)) (all_below w (named_by x) e)
+    -- the workers that a move names have states
+    pub names_states : (s : State K V Q) (job_states : Map ℕ (JobValue K V Q P)) (w g j : ℕ) (x : Move) (job_state : JobValue K V Q P) → IsOpen s job_states w g j job_state → list_any (λ v. nat_le w v) (named_by x) ≡ false → Whole s job_states w g
+        → All (λ v. v < length job_state.worker_states) (named_by x)
+    names_states s job_states w g j x job_state stands e is = subst (λ n. All (λ v. v < n) (named_by x)) (sym (long_states s job_states w g j job_state stands is)) (all_below w (named_by x) e)
 
     -- a move leaves the parts of all others
-    parts_turn : (posts : Map ℕ (Posted K V Q P)) (j : ℕ) (post : Posted K V Q P) (es : List (Station K V P)) (x : Move) (y : Turn) → value_at nat_cmp posts j ≡ Some post
-        → (desk_parts es ≡ desk_parts post.desks → all_parts (with_pair nat_cmp posts j (record post { desks = es })) ≡ all_parts posts)
-        → PartsMove (desk_parts post.desks) x y (desk_parts es) → PartsTurn (all_parts posts) j x y (all_parts (with_pair nat_cmp posts j (record post { desks = es })))
-    parts_turn posts j post es (taking w) y here quiet same = quiet same
-    parts_turn posts j post es (stealing w from) y here quiet same = quiet same
-    parts_turn posts j post es (splitting w) y here quiet same = quiet same
-    parts_turn posts j post es (working w) (took lo hi) here quiet same = quiet same
-    parts_turn posts j post es (working w) (cut lo mid hi) here quiet same = quiet same
-    parts_turn posts j post es (working w) uncut here quiet same = quiet same
-    parts_turn posts j post es (working w) idle here quiet same = quiet same
-    parts_turn posts j post es (working w) (done lo hi n settled) here quiet (p, is) = (
+    parts_moved : (job_states : Map ℕ (JobValue K V Q P)) (j : ℕ) (job_state : JobValue K V Q P) (es : List (WorkerValue K V P)) (x : Move) (y : MoveResult) → value_at nat_cmp job_states j ≡ Some job_state
+        → (state_parts es ≡ state_parts job_state.worker_states → all_parts (with_pair nat_cmp job_states j (record job_state { worker_states = es })) ≡ all_parts job_states)
+        → PartsMove (state_parts job_state.worker_states) x y (state_parts es) → PartsMoved (all_parts job_states) j x y (all_parts (with_pair nat_cmp job_states j (record job_state { worker_states = es })))
+    parts_moved job_states j job_state es (taking w) y here quiet same = quiet same
+    parts_moved job_states j job_state es (stealing w from) y here quiet same = quiet same
+    parts_moved job_states j job_state es (splitting w) y here quiet same = quiet same
+    parts_moved job_states j job_state es (working w) (took lo hi) here quiet same = quiet same
+    parts_moved job_states j job_state es (working w) (cut lo mid hi) here quiet same = quiet same
+    parts_moved job_states j job_state es (working w) uncut here quiet same = quiet same
+    parts_moved job_states j job_state es (working w) idle here quiet same = quiet same
+    parts_moved job_states j job_state es (working w) (done lo hi n settled) here quiet (p, is) = (
       p,
-      parts_put posts j (record post { desks = es }) ∙ ap (with_pair nat_cmp (all_parts posts) j) (is ∙ ap (λ (ps : List P). set ps w p) (sym (parts_here posts j post here))),
+      parts_put job_states j (record job_state { worker_states = es }) ∙ ap (with_pair nat_cmp (all_parts job_states) j) (is ∙ ap (λ (ps : List P). set ps w p) (sym (parts_here job_states j job_state here))),
     )
 
     -- a worker moves
-    pub moved_whole : (s : State K V Q) (posts : Map ℕ (Posted K V Q P)) (w g j : ℕ) (x : Move) (p : Progress) (post : Posted K V Q P) (es : List (Station K V P)) (stands : IsOpen s posts w g j post)
-        → list_any (λ v. nat_le w v) (named_by x) ≡ false → MovesTo R path (answers post.query) (Decides post.query) stands.job.frozen g post.desks x (turn_of p) es
-        → (desk_parts es ≡ desk_parts post.desks → all_parts (with_pair nat_cmp posts j (record post { desks = es })) ≡ all_parts posts) → Whole s posts w g
-        → StepsTo kind (divided path Decides) (value_of s posts w g) (of_worker j x) (outcomes.Turn p) (value_of s (with_pair nat_cmp posts j (record post { desks = es })) w g) × Whole s (with_pair nat_cmp posts j (record post { desks = es })) w g
-    moved_whole s posts w g j x p post es stands e moves quiet is =
-        let S : CoreState K V Q = core_of s posts w g in
-        let next : Posted K V Q P = record post { desks = es } in
-        let T : CoreState K V Q = core_of s (with_pair nat_cmp posts j next) w g in
-        let turn : turn_on path stands.job.frozen g post.desks x (turn_of p) ≡ cores.turn_of (divided path Decides) S j x (tells_settled (turn_of p)) =
-        λ i. moved (λ k. cut_point path (sym stands.map_is i) k g) (λ k. length (part path (sym stands.map_is i) k)) (tells_settled (turn_of p)) (sym stands.board_is i) x in
-        let boards : boards_of (with_pair nat_cmp posts j next) ≡ with_pair nat_cmp (boards_of posts) j (cores.turn_of (divided path Decides) S j x (tells_settled (turn_of p))).1 =
-        shown_put posts j next ∙ ap (with_pair nat_cmp (boards_of posts) j) (moves.left ∙ ap (λ (t : Turn × Board). t.1) turn) in
-        let here : value_at nat_cmp (with_pair nat_cmp posts j next) j ≡ Some next =
-        at_put posts j j next ∙ ap (λ (b : Bool). cond b (Some next) (value_at nat_cmp posts j)) (same_ties j j refl) in
-        let board_now : board_of T j ≡ board es = ap (λ o. unwrap_or o []) (shown_at (with_pair nat_cmp posts j next) j ∙ ap (option_map (λ y. board y.desks)) here) in
-        let decided : Decides post.query (parts path stands.job.frozen (worker (board es) (mover x)).worked) → IsSettled (divided path Decides) T j (mover x) =
-        settled_from (job_at s j) (frozen_map T j) stands.job.frozen (board_of T j) (board es) stands.job post.query (mover x) stands.named stands.map_is board_now stands.has.query in
-        let undecided : IsSettled (divided path Decides) T j (mover x) → Decides post.query (parts path stands.job.frozen (worker (board es) (mover x)).worked) =
-        settled_to (job_at s j) (frozen_map T j) stands.job.frozen (board_of T j) (board es) stands.job post.query (mover x) stands.named stands.map_is board_now stands.has.query in
-        let core : CoreStep kind (divided path Decides) S (of_worker j x) (to_worker (turn_of p)) T = (
-          refusal_is s posts w g j x post false stands e,
+    pub moved_whole : (s : State K V Q) (job_states : Map ℕ (JobValue K V Q P)) (w g j : ℕ) (x : Move) (p : Progress) (job_state : JobValue K V Q P) (es : List (WorkerValue K V P)) (stands : IsOpen s job_states w g j job_state)
+        → list_any (λ v. nat_le w v) (named_by x) ≡ false → MovesTo R path (answers job_state.query) (Decides job_state.query) stands.job.frozen g job_state.worker_states x (progress_of p) es
+        → (state_parts es ≡ state_parts job_state.worker_states → all_parts (with_pair nat_cmp job_states j (record job_state { worker_states = es })) ≡ all_parts job_states) → Whole s job_states w g
+        → StepsTo kind (divided path Decides) (value_of s job_states w g) (of_worker j x) (outcomes.Moved p) (value_of s (with_pair nat_cmp job_states j (record job_state { worker_states = es })) w g) × Whole s (with_pair nat_cmp job_states j (record job_state { worker_states = es })) w g
+    moved_whole s job_states w g j x p job_state es stands e moves quiet is =
+        let S : CoreState K V Q = core_of s job_states w g in
+        let next : JobValue K V Q P = record job_state { worker_states = es } in
+        let T : CoreState K V Q = core_of s (with_pair nat_cmp job_states j next) w g in
+        let move : move_on path stands.job.frozen g job_state.worker_states x (progress_of p) ≡ cores.progress_of (divided path Decides) S j x (tells_settled (progress_of p)) =
+        λ i. moved (λ k. cut_point path (sym stands.map_is i) k g) (λ k. length (part path (sym stands.map_is i) k)) (tells_settled (progress_of p)) (sym stands.board_is i) x in
+        let boards : boards_of (with_pair nat_cmp job_states j next) ≡ with_pair nat_cmp (boards_of job_states) j (cores.progress_of (divided path Decides) S j x (tells_settled (progress_of p))).1 =
+        shown_put job_states j next ∙ ap (with_pair nat_cmp (boards_of job_states) j) (moves.left ∙ ap (λ (t : MoveResult × Board). t.1) move) in
+        let here : value_at nat_cmp (with_pair nat_cmp job_states j next) j ≡ Some next =
+        at_put job_states j j next ∙ ap (λ (b : Bool). cond b (Some next) (value_at nat_cmp job_states j)) (same_ties j j refl) in
+        let board_now : board_of T j ≡ board es = ap (λ o. unwrap_or o []) (shown_at (with_pair nat_cmp job_states j next) j ∙ ap (option_map (λ y. board y.worker_states)) here) in
+        let decided : Decides job_state.query (parts path stands.job.frozen (worker (board es) (mover x)).worked) → IsSettled (divided path Decides) T j (mover x) =
+        settled_from (job_at s j) (frozen_map T j) stands.job.frozen (board_of T j) (board es) stands.job job_state.query (mover x) stands.named stands.map_is board_now stands.has.query in
+        let undecided : IsSettled (divided path Decides) T j (mover x) → Decides job_state.query (parts path stands.job.frozen (worker (board es) (mover x)).worked) =
+        settled_to (job_at s j) (frozen_map T j) stands.job.frozen (board_of T j) (board es) stands.job job_state.query (mover x) stands.named stands.map_is board_now stands.has.query in
+        let core : CoreStep kind (divided path Decides) S (of_worker j x) (to_worker (progress_of p)) T = (
+          refusal_is s job_states w g j x job_state false stands e,
           record {
-            told = moves.told ∙ ap (λ (t : Turn × Board). t.0) turn;
+            told = moves.told ∙ ap (λ (t : MoveResult × Board). t.0) move;
             left = λ i. record { machine = s; boards = boards i; workers = w; grain = g };
-            truly = tells_of (turn_of p) _ _ decided undecided moves.truly;
+            truly = tells_of (progress_of p) _ _ decided undecided moves.truly;
           },
         ) in (
-          record { told = to_worker (turn_of p); shown = refl; step = core; parts = parts_turn posts j post es x (turn_of p) stands.here quiet moves.parts },
+          record { told = to_worker (progress_of p); shown = refl; step = core; parts = parts_moved job_states j job_state es x (progress_of p) stands.here quiet moves.parts },
           record {
-            core = step_kept kind (divided path Decides) cuts S (of_worker j x) (to_worker (turn_of p)) T core is.core;
-            sorted = put_sorted posts j next is.sorted;
-            posted = λ k. subst (Fits R path answers ready (job_at s k)) (sym (at_put posts j k next))
-                (by_number k (eq_by_cmp nat_cmp k j) refl (value_at nat_cmp posts k) (is.posted k));
+            core = step_kept kind (divided path Decides) cuts S (of_worker j x) (to_worker (progress_of p)) T core is.core;
+            sorted = put_sorted job_states j next is.sorted;
+            fits = λ k. subst (Fits R path answers ready (job_at s k)) (sym (at_put job_states j k next))
+                (by_number k (eq_by_cmp nat_cmp k j) refl (value_at nat_cmp job_states k) (is.fits k));
           },
         )
       where
         same : (q r : ℕ) → eq_by_cmp nat_cmp q r ≡ true → q ≡ r
         same q r h = grind (arith, nat_tests, h)
 
-        by_number : (k : ℕ) (b : Bool) → eq_by_cmp nat_cmp k j ≡ b → (o : Option (Posted K V Q P)) → Fits R path answers ready (job_at s k) o → Fits R path answers ready (job_at s k) (cond b (Some (record post { desks = es })) o)
+        by_number : (k : ℕ) (b : Bool) → eq_by_cmp nat_cmp k j ≡ b → (o : Option (JobValue K V Q P)) → Fits R path answers ready (job_at s k) o → Fits R path answers ready (job_at s k) (cond b (Some (record job_state { worker_states = es })) o)
         by_number k false h o fits = fits
         by_number k true h o fits =
-            subst (λ (y : Option (Job K V Q)). Fits R path answers ready y (Some (record post { desks = es }))) (sym (ap (job_at s) (same k j h) ∙ stands.named))
-            (record { query = stands.has.query; can = stands.has.can; desks = moves.job })
+            subst (λ (y : Option (Job K V Q)). Fits R path answers ready y (Some (record job_state { worker_states = es }))) (sym (ap (job_at s) (same k j h) ∙ stands.named))
+            (record { query = stands.has.query; can = stands.has.can; worker_states = moves.job })

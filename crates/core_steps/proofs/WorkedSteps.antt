@@ -12,7 +12,7 @@ use Rattle.iter.specs.declared.interval.Interval.{Interval}
 use Rattle.iter.specs.Intervals.{whole, Tile}
 use Rattle.core_steps.proofs.Covers.{cut_tiles, cuts_tile}
 use Rattle.core_steps.specs.Boards.{taking, stealing, splitting, working, took, cut, uncut, done, idle}
-use Rattle.core_steps.specs.Cores.{CoreState, new_core, Asked, of_client, of_worker, Told, to_client, to_worker, no_turn, Division}
+use Rattle.core_steps.specs.Cores.{CoreState, new_core, Asked, of_client, of_worker, Told, to_client, to_worker, no_move, Division}
 use Rattle.core_steps.specs.Traces.{CoreRun}
 
 -- count all pairs, or tell whether some pair has a value
@@ -79,7 +79,7 @@ started ys =
 -- other answers of workers
 other_answers : IsWorkedRun by_words
     (start count_all (of_worker 0 (taking 1) ∷ of_worker 0 (stealing 1 2) ∷ of_worker 0 (splitting 0) ∷ []))
-    (started (to_worker idle ∷ no_turn NoWorker ∷ to_worker uncut ∷ []))
+    (started (to_worker idle ∷ no_move NoWorker ∷ to_worker uncut ∷ []))
 unfolding position
 other_answers = (
   _,
@@ -129,7 +129,7 @@ other_answers = (
 -- two pairs, two workers: the second steals the upper side; a finish before all is worked is refused
 stolen_and_counted : IsWorkedRun by_words
     (start count_all (of_worker 0 (stealing 1 0) ∷ of_worker 0 (working 1) ∷ of_client (finish 0) ∷ of_worker 0 (working 0) ∷ of_client (finish 0) ∷ of_worker 0 (taking 0) ∷ of_client (on 1 size) ∷ []))
-    (started (to_worker (took 12 18446744073709551616) ∷ to_worker (done 12 18446744073709551616 1 false) ∷ to_client unfinished ∷ to_worker (done 0 12 1 false) ∷ to_client (finished (counted 2)) ∷ no_turn NoJob ∷ to_client (replied (count 3)) ∷ []))
+    (started (to_worker (took 12 18446744073709551616) ∷ to_worker (done 12 18446744073709551616 1 false) ∷ to_client unfinished ∷ to_worker (done 0 12 1 false) ∷ to_client (finished (counted 2)) ∷ no_move NoJob ∷ to_client (replied (count 3)) ∷ []))
 unfolding position
 stolen_and_counted = (
   _,

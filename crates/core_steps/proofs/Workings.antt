@@ -1,4 +1,4 @@
--- What working leaves of a desk and of a board.
+-- What working leaves of a worker's state and of a board.
 use Rattle.std.proofs.Common.{◌≡◌, ℕ, zero, suc, ◌+◌, ◌<◌, ◌≤◌, Bool, true, false, ◌||◌, cond, List, [], ◌∷◌, ◌++◌, length, map, get_or, set, Option, Some, None, refl, sym, ap, ◌∙◌, subst, arith}
 use Rattle.std.specs.Prelude.{All, IfSome, MatchBool, ◌↔◌, option_map, option_to_list}
 use Rattle.std.specs.List.{list_any}
@@ -14,11 +14,11 @@ use Rattle.iter.specs.Intervals.{AreApart, lies_in, cover, part, parts}
 use Rattle.splitter.specs.Portion.{Portion}
 use Rattle.combiner.specs.Unions as unions
 use Rattle.combiner.specs.Bulks.{Apart, IsJoined}
-use Rattle.core_steps.specs.Boards.{Worker, Board, worker, with_worked, with_held, intervals, intervals_of, work, working, Turn, done, idle, tells_settled, TellsTruly}
-use Rattle.core_steps.specs.Desks.{Station, interval_of, worker_of, board, result_of, results, desk_parts, HasPieces, HasPart, IsJobOn, CanWork, HasWorked, WorksHeld, Works, working_turn}
+use Rattle.core_steps.specs.Boards.{Worker, Board, worker, with_worked, with_held, intervals, intervals_of, work, working, MoveResult, done, idle, tells_settled, TellsTruly}
+use Rattle.core_steps.specs.WorkerValues.{WorkerValue, interval_of, worker_of, board, result_of, results, state_parts, HasPieces, HasPart, IsJobOn, CanWork, HasWorked, WorksHeld, Works, working_move}
 use Rattle.core_steps.specs.Parts.{PartsMove}
 use Rattle.core_steps.proofs.Covers.{once}
-use Rattle.core_steps.proofs.Stations.{worker_is, read_same, still_there, with_held_is}
+use Rattle.core_steps.proofs.WorkerLemmas.{worker_is, read_same, still_there, with_held_is}
 
 -- a flag that is true exactly where something is so tells the truth
 pub truly_told : (b : Bool) (D : Type 0) → (b ≡ true) ↔ D → MatchBool b D (D → ⊥)
@@ -71,22 +71,22 @@ module _ {K V : Type 0} (R : K → K → Ordering) (path : K → ℕ)
         subst (λ (n : Map K V). answers n c) (sym both) (joined (parts path m is) (part path m i) first second (maps_apart m is i sorted few apart))
 
 module _ {K V P : Type 0} where
-  pub result_at : (ds : List (Station K V P)) (w : ℕ) (d : Station K V P) → get_or (results ds) w (result_of d) ≡ result_of (get_or ds w d)
+  pub result_at : (ds : List (WorkerValue K V P)) (w : ℕ) (d : WorkerValue K V P) → get_or (results ds) w (result_of d) ≡ result_of (get_or ds w d)
   result_at [] w d = refl
   result_at (x ∷ ds) zero d = refl
   result_at (x ∷ ds) (suc w) d = result_at ds w d
 
   -- what a worker has covers no more than all
-  cover_at : (ds : List (Station K V P)) (w : ℕ) (d : Station K V P) (p : ℕ) → w < length ds → cover (intervals_of (worker_of (get_or ds w d))) p ≤ cover (intervals (board ds)) p
+  cover_at : (ds : List (WorkerValue K V P)) (w : ℕ) (d : WorkerValue K V P) (p : ℕ) → w < length ds → cover (intervals_of (worker_of (get_or ds w d))) p ≤ cover (intervals (board ds)) p
   cover_at [] w d p there = absurd (omega (arith, there))
   cover_at (x ∷ ds) zero d p there = omega (arith, sum_by-append (λ i. once i p) (intervals_of (worker_of x)) (intervals (board ds)))
   cover_at (x ∷ ds) (suc w) d p there = omega (arith, sum_by-append (λ i. once i p) (intervals_of (worker_of x)) (intervals (board ds)), cover_at ds w d p (omega (arith, there)))
 
   -- boards that differ in what no board shows
-  same_board : (ds : List (Station K V P)) (w : ℕ) (d e : Station K V P) → worker_of d ≡ worker_of e → board (set ds w d) ≡ board (set ds w e)
+  same_board : (ds : List (WorkerValue K V P)) (w : ℕ) (d e : WorkerValue K V P) → worker_of d ≡ worker_of e → board (set ds w d) ≡ board (set ds w e)
   same_board ds w d e same = map-set worker_of ds w d ∙ ap (set (board ds) w) same ∙ sym (map-set worker_of ds w e)
 
-  with_worked_is : (ds : List (Station K V P)) (w : ℕ) (d : Station K V P) (is : List Interval) → w < length ds → d ≡ get_or ds w d
+  with_worked_is : (ds : List (WorkerValue K V P)) (w : ℕ) (d : WorkerValue K V P) (is : List Interval) → w < length ds → d ≡ get_or ds w d
       → with_worked (board ds) w is ≡ board (set ds w (record d { worked = is }))
   with_worked_is ds w d is there read =
       ap (λ (x : Worker). set (board ds) w (record x { worked = is })) (worker_is ds w d there read)
@@ -94,20 +94,20 @@ module _ {K V P : Type 0} where
 
 module _ {K V P : Type 0} (R : K → K → Ordering) (path : K → ℕ) (answers : Map K V → P → Type 0) (m : Map K V) where
   -- each worker of a job may work what it holds
-  pub can_work : (ds : List (Station K V P)) (w : ℕ) (d : Station K V P) → w < length ds → d ≡ get_or ds w d → IsJobOn R path answers m ds → CanWork R path answers m d
+  pub can_work : (ds : List (WorkerValue K V P)) (w : ℕ) (d : WorkerValue K V P) → w < length ds → d ≡ get_or ds w d → IsJobOn R path answers m ds → CanWork R path answers m d
   can_work ds w d there read job = record {
     sorted = job.sorted;
     few = job.few;
     pieces = subst (HasPieces m) (sym read) (All-get_or (HasPieces m) ds w d there job.pieces);
     answered = subst (HasPart R path answers m) (result_at ds w d ∙ ap result_of (sym read)) (All-get_or (HasPart R path answers m) (results ds) w (result_of d) (omega (arith, length_results ds, there)) job.answered);
-    apart = λ p. subst (λ (x : Station K V P). cover (x.worked ++ option_to_list (option_map interval_of x.held)) p ≤ 1) (sym read) (omega (arith, cover_at ds w d p there, job.apart p, fewer (get_or ds w d) p));
+    apart = λ p. subst (λ (x : WorkerValue K V P). cover (x.worked ++ option_to_list (option_map interval_of x.held)) p ≤ 1) (sym read) (omega (arith, cover_at ds w d p there, job.apart p, fewer (get_or ds w d) p));
   }
     where
-      length_results : (ds : List (Station K V P)) → length (results ds) ≡ length ds
+      length_results : (ds : List (WorkerValue K V P)) → length (results ds) ≡ length ds
       length_results [] = refl
       length_results (x ∷ ds) = ap suc (length_results ds)
 
-      fewer : (x : Station K V P) (p : ℕ) → cover (x.worked ++ option_to_list (option_map interval_of x.held)) p ≤ cover (intervals_of (worker_of x)) p
+      fewer : (x : WorkerValue K V P) (p : ℕ) → cover (x.worked ++ option_to_list (option_map interval_of x.held)) p ≤ cover (intervals_of (worker_of x)) p
       fewer x p =
           let queue = map interval_of x.queue in
           let held = option_to_list (option_map interval_of x.held) in
@@ -116,23 +116,23 @@ module _ {K V P : Type 0} (R : K → K → Ordering) (path : K → ℕ) (answers
   abbrev size : Interval → ℕ
   size i = length (part path m i)
 
-  works_by : (D : Map K V → Type 0) (ds : List (Station K V P)) (w : ℕ) (d e : Station K V P) (y : Turn) (o : Option (Portion K V)) → w < length ds → d ≡ get_or ds w d
+  works_by : (D : Map K V → Type 0) (ds : List (WorkerValue K V P)) (w : ℕ) (d e : WorkerValue K V P) (y : MoveResult) (o : Option (Portion K V)) → w < length ds → d ≡ get_or ds w d
       → IsJobOn R path answers m ds → d.held ≡ o → WorksHeld R path answers m D d o y e → Works R path answers m D ds w y (set ds w e)
   works_by D ds w d e y None there read job held works =
       let same : set ds w e ≡ ds = ap (set ds w) (works.1 ∙ read) ∙ set-get_or ds w d in
-      let turn : working_turn size (tells_settled y) ds w ≡ (idle, board ds) =
+      let move : working_move size (tells_settled y) ds w ≡ (idle, board ds) =
       ap (λ (x : Worker). work size (tells_settled y) (board ds) w x.held) (worker_is ds w d there read) ∙ ap (λ (q : Option (Portion K V)). work size (tells_settled y) (board ds) w (option_map interval_of q)) held in
       subst (λ es. Works R path answers m D ds w y es) (sym same) (record {
-        told_is = works.0 ∙ ap (λ (t : Turn × Board). t.0) (sym turn);
-        board_is = sym (ap (λ (t : Turn × Board). t.1) turn);
+        told_is = works.0 ∙ ap (λ (t : MoveResult × Board). t.0) (sym move);
+        board_is = sym (ap (λ (t : MoveResult × Board). t.1) move);
         pieces = job.pieces;
         answered = job.answered;
-        truly = subst (λ (t : Turn). TellsTruly t (D (parts path m (worker (board ds) w).worked))) (sym works.0) tt;
+        truly = subst (λ (t : MoveResult). TellsTruly t (D (parts path m (worker (board ds) w).worked))) (sym works.0) tt;
       })
   works_by D ds w d e y (Some p) there read job held works =
-      let f : Station K V P = record d { worked = d.worked ++ p.interval ∷ [] } in
+      let f : WorkerValue K V P = record d { worked = d.worked ++ p.interval ∷ [] } in
       let b : Board = board ds in
-      let turn : working_turn size (tells_settled y) ds w ≡ work size (tells_settled y) b w (Some p.interval) =
+      let move : working_move size (tells_settled y) ds w ≡ work size (tells_settled y) b w (Some p.interval) =
       ap (λ (x : Worker). work size (tells_settled y) b w x.held) (worker_is ds w d there read) ∙ ap (λ (q : Option (Portion K V)). work size (tells_settled y) b w (option_map interval_of q)) held in
       let first : with_worked b w ((worker b w).worked ++ p.interval ∷ []) ≡ board (set ds w f) =
       ap (λ (x : Worker). with_worked b w (x.worked ++ p.interval ∷ [])) (worker_is ds w d there read) ∙ with_worked_is ds w d (d.worked ++ p.interval ∷ []) there read in
@@ -142,28 +142,28 @@ module _ {K V P : Type 0} (R : K → K → Ordering) (path : K → ℕ) (answers
       ∙ ap board (set-set ds w f (record f { held = None }))
       ∙ same_board ds w (record f { held = None }) e (sym (ap worker_of works.left)) in
       record {
-        told_is = works.told_is ∙ ap (λ (t : Turn × Board). t.0) (sym turn);
-        board_is = sym (ap (λ (t : Turn × Board). t.1) turn ∙ after);
+        told_is = works.told_is ∙ ap (λ (t : MoveResult × Board). t.0) (sym move);
+        board_is = sym (ap (λ (t : MoveResult × Board). t.1) move ∙ after);
         pieces = All-set (HasPieces m) ds w e (subst (HasPieces m) (sym works.left) (record { queue = (subst (HasPieces m) (sym read) (All-get_or (HasPieces m) ds w d there job.pieces)).queue; held = tt })) job.pieces;
         answered = subst (All (HasPart R path answers m)) (sym (map-set result_of ds w e)) (All-set (HasPart R path answers m) (results ds) w (result_of e) works.answered job.answered);
         truly = subst (λ (x : Worker). TellsTruly y (D (parts path m x.worked))) (sym (worker_is (set ds w e) w e (still_there ds w w e there) (read_same ds w e there))) works.truly;
       }
 
   -- a worker of a job works
-  pub works_on : (D : Map K V → Type 0) (ds : List (Station K V P)) (w : ℕ) (d e : Station K V P) (y : Turn) → w < length ds → d ≡ get_or ds w d
+  pub works_on : (D : Map K V → Type 0) (ds : List (WorkerValue K V P)) (w : ℕ) (d e : WorkerValue K V P) (y : MoveResult) → w < length ds → d ≡ get_or ds w d
       → IsJobOn R path answers m ds → WorksHeld R path answers m D d d.held y e → Works R path answers m D ds w y (set ds w e)
   works_on D ds w d e y there read job works = works_by D ds w d e y d.held there read job refl works
 
   -- and the others keep their parts
-  works_parts_by : (D : Map K V → Type 0) (ds : List (Station K V P)) (w : ℕ) (d e : Station K V P) (y : Turn) (o : Option (Portion K V)) → d ≡ get_or ds w d
-      → WorksHeld R path answers m D d o y e → PartsMove (desk_parts ds) (working w) y (desk_parts (set ds w e))
+  works_parts_by : (D : Map K V → Type 0) (ds : List (WorkerValue K V P)) (w : ℕ) (d e : WorkerValue K V P) (y : MoveResult) (o : Option (Portion K V)) → d ≡ get_or ds w d
+      → WorksHeld R path answers m D d o y e → PartsMove (state_parts ds) (working w) y (state_parts (set ds w e))
   works_parts_by D ds w d e y None read works =
-      subst (λ (t : Turn). PartsMove (desk_parts ds) (working w) t (desk_parts (set ds w e))) (sym works.0) (ap desk_parts (ap (set ds w) (works.1 ∙ read) ∙ set-get_or ds w d))
+      subst (λ (t : MoveResult). PartsMove (state_parts ds) (working w) t (state_parts (set ds w e))) (sym works.0) (ap state_parts (ap (set ds w) (works.1 ∙ read) ∙ set-get_or ds w d))
   works_parts_by D ds w d e y (Some p) read works =
-      subst (λ (t : Turn). PartsMove (desk_parts ds) (working w) t (desk_parts (set ds w e))) (sym works.told_is) (e.part, map-set (λ (x : Station K V P). x.part) ds w e)
+      subst (λ (t : MoveResult). PartsMove (state_parts ds) (working w) t (state_parts (set ds w e))) (sym works.told_is) (e.part, map-set (λ (x : WorkerValue K V P). x.part) ds w e)
 
-  pub works_parts : (D : Map K V → Type 0) (ds : List (Station K V P)) (w : ℕ) (d e : Station K V P) (y : Turn) → d ≡ get_or ds w d
-      → WorksHeld R path answers m D d d.held y e → PartsMove (desk_parts ds) (working w) y (desk_parts (set ds w e))
+  pub works_parts : (D : Map K V → Type 0) (ds : List (WorkerValue K V P)) (w : ℕ) (d e : WorkerValue K V P) (y : MoveResult) → d ≡ get_or ds w d
+      → WorksHeld R path answers m D d d.held y e → PartsMove (state_parts ds) (working w) y (state_parts (set ds w e))
   works_parts D ds w d e y read works = works_parts_by D ds w d e y d.held read works
 
 module _ {K V P : Type 0} (R : K → K → Ordering) (path : K → ℕ)
@@ -171,7 +171,7 @@ module _ {K V P : Type 0} (R : K → K → Ordering) (path : K → ℕ)
     (law_map : (m : Map K V) (is : List Interval) → IsMap R m → IsMap R (parts path m is))
     (law_apart : (m : Map K V) (is js : List Interval) → AreApart (is ++ js) → ShareNoKey R (parts path m is) (parts path m js))
     (law_union : (m : Map K V) (is js : List Interval) → IsMap R m → parts path m (is ++ js) ≡ union R (parts path m is) (parts path m js))
-    (answers : Map K V → P → Type 0) (m : Map K V) (d : Station K V P) (p : Portion K V) (made : P)
+    (answers : Map K V → P → Type 0) (m : Map K V) (d : WorkerValue K V P) (p : Portion K V) (made : P)
     (can : CanWork R path answers m d) (held : d.held ≡ Some p) (has : answers (part path p.map p.interval) made)
   where
     of_map : p.map ≡ m

@@ -21,12 +21,12 @@ pub data Move : Type 0 where
   working : ℕ → Move
 
 -- what a move is answered; a worked interval tells its number of pairs, and whether the worker's part is settled
-pub data Turn : Type 0 where
-  took : ℕ → ℕ → Turn
-  cut : ℕ → ℕ → ℕ → Turn
-  uncut : Turn
-  done : ℕ → ℕ → ℕ → Bool → Turn
-  idle : Turn
+pub data MoveResult : Type 0 where
+  took : ℕ → ℕ → MoveResult
+  cut : ℕ → ℕ → ℕ → MoveResult
+  uncut : MoveResult
+  done : ℕ → ℕ → ℕ → Bool → MoveResult
+  idle : MoveResult
 
 -- 1. Boards.
 -- a worker with nothing
@@ -84,32 +84,32 @@ module _ {X : Type 0} where
 
 -- 2. Moves: what each is answered, and the board afterwards.
 -- a worker that holds none gets the newest interval of its queue
-abbrev pub taken : Board → ℕ → Option Interval → Option Interval → Turn × Board
+abbrev pub taken : Board → ℕ → Option Interval → Option Interval → MoveResult × Board
 taken b w None (Some i) = (took i.lo i.hi, with_held (with_queue b w (without_newest (worker b w).queue)) w (Some i))
 taken b w held newest = (idle, b)
 
 -- a worker that holds none gets the oldest interval of another's queue
-abbrev pub stolen : Board → ℕ → ℕ → Option Interval → Option Interval → Turn × Board
+abbrev pub stolen : Board → ℕ → ℕ → Option Interval → Option Interval → MoveResult × Board
 stolen b w from None (Some i) = (took i.lo i.hi, with_held (with_queue b from (without_oldest (worker b from).queue)) w (Some i))
 stolen b w from held oldest = (idle, b)
 
 -- where there is a cut point, the lower side stays held and the upper one is put last in the queue
-abbrev pub split_at : Board → ℕ → Interval → Option ℕ → Turn × Board
+abbrev pub split_at : Board → ℕ → Interval → Option ℕ → MoveResult × Board
 split_at b w i (Some mid) = (cut i.lo mid i.hi, with_held (with_queue b w ((worker b w).queue ++ record { lo = mid; hi = i.hi } ∷ [])) w (Some (record { lo = i.lo; hi = mid })))
 split_at b w i None = (uncut, b)
 
 -- a worker splits what it holds, by the cut point that an interval has
-abbrev pub split : (Interval → Option ℕ) → Board → ℕ → Option Interval → Turn × Board
+abbrev pub split : (Interval → Option ℕ) → Board → ℕ → Option Interval → MoveResult × Board
 split point b w (Some i) = split_at b w i (point i)
 split point b w None = (idle, b)
 
 -- a worker works what it holds, by the number of pairs that an interval has; it is told whether its part is settled then
-abbrev pub work : (Interval → ℕ) → Bool → Board → ℕ → Option Interval → Turn × Board
+abbrev pub work : (Interval → ℕ) → Bool → Board → ℕ → Option Interval → MoveResult × Board
 work size settled b w (Some i) = (done i.lo i.hi (size i) settled, with_held (with_worked b w ((worker b w).worked ++ i ∷ [])) w None)
 work size settled b w None = (idle, b)
 
 -- what a move is answered, and the board afterwards
-abbrev pub moved : (Interval → Option ℕ) → (Interval → ℕ) → Bool → Board → Move → Turn × Board
+abbrev pub moved : (Interval → Option ℕ) → (Interval → ℕ) → Bool → Board → Move → MoveResult × Board
 moved point size settled b (taking w) = taken b w (worker b w).held (newest (worker b w).queue)
 moved point size settled b (stealing w from) = stolen b w from (worker b w).held (oldest (worker b from).queue)
 moved point size settled b (splitting w) = split point b w (worker b w).held
@@ -130,11 +130,11 @@ named_by (splitting w) = w ∷ []
 named_by (working w) = w ∷ []
 
 -- whether an answer tells that the worker's part is settled
-abbrev pub tells_settled : Turn → Bool
+abbrev pub tells_settled : MoveResult → Bool
 tells_settled (done lo hi n settled) = settled
 tells_settled _ = false
 
 -- an answer that tells of settling tells the truth
-abbrev pub TellsTruly : Turn → Type 0 → Type 0
+abbrev pub TellsTruly : MoveResult → Type 0 → Type 0
 TellsTruly (done lo hi n settled) Decided = MatchBool settled Decided (Decided → ⊥)
 TellsTruly _ Decided = Unit {0}

@@ -10,7 +10,7 @@ use Rattle.handles.specs.Machine.{Kind, State, Request, finish, abandon, Outcome
 use Rattle.iter.specs.declared.interval.Interval.{Interval}
 use Rattle.iter.specs.Intervals.{whole, Tile, part, parts}
 use Rattle.splitter.specs.Cuts.{cut_point}
-use Rattle.core_steps.specs.Boards.{Board, worker, first_board, all_worked, Move, mover, named_by, Turn, moved, tells_settled, TellsTruly}
+use Rattle.core_steps.specs.Boards.{Board, worker, first_board, all_worked, Move, mover, named_by, MoveResult, moved, tells_settled, TellsTruly}
 
 -- what a core keeps: the machine, the board of each open job, the number of workers, and the grain
 pub record CoreState (K V Q : Type 0) : Type 0 where
@@ -24,11 +24,11 @@ pub data Asked (K V Q : Type 0) : Type 0 where
   of_client : Request K V Q → Asked K V Q
   of_worker : ℕ → Move → Asked K V Q
 
--- what a core answers: a client's outcome; a worker's turn, or why its move is refused
+-- what a core answers: a client's outcome; what a worker's move is answered, or why it is refused
 pub data Told (K V B : Type 0) : Type 0 where
   to_client : Outcome K V B → Told K V B
-  to_worker : Turn → Told K V B
-  no_turn : Refusal → Told K V B
+  to_worker : MoveResult → Told K V B
+  no_move : Refusal → Told K V B
 
 -- what it takes to divide a map among workers: the path words of its keys, and when the pairs of a part decide a query
 pub record Division (K V Q : Type 0) : Type 1 where
@@ -76,14 +76,14 @@ module _ {K V Q : Type 0} (division : Division K V Q) where
   abbrev pub IsSettled : CoreState K V Q → ℕ → ℕ → Type 0
   IsSettled s j w = IsSomeAnd (job_at s.machine j) (λ job. division.Decides job.query (worked_part s j w))
 
-  -- a worker's turn on an open job, by the cut points and the sizes of the parts of the frozen map
-  abbrev pub turn_of : CoreState K V Q → ℕ → Move → Bool → Turn × Board
-  turn_of s j x settled = moved (λ i. cut_point division.path (frozen_map s j) i s.grain) (λ i. length (frozen_part s j i)) settled (board_of s j) x
+  -- a worker's move on an open job, by the cut points and the sizes of the parts of the frozen map
+  abbrev pub progress_of : CoreState K V Q → ℕ → Move → Bool → MoveResult × Board
+  progress_of s j x settled = moved (λ i. cut_point division.path (frozen_map s j) i s.grain) (λ i. length (frozen_part s j i)) settled (board_of s j) x
 
   -- a worker's step: the board's, and what it tells of settling is true
-  pub record Turns (s : CoreState K V Q) (j : ℕ) (x : Move) (y : Turn) (t : CoreState K V Q) : Type 0 where
-    pub told : y ≡ (turn_of s j x (tells_settled y)).0
-    pub left : t ≡ record s { boards = with_pair nat_cmp s.boards j (turn_of s j x (tells_settled y)).1 }
+  pub record WorkerMoves (s : CoreState K V Q) (j : ℕ) (x : Move) (y : MoveResult) (t : CoreState K V Q) : Type 0 where
+    pub told : y ≡ (progress_of s j x (tells_settled y)).0
+    pub left : t ≡ record s { boards = with_pair nat_cmp s.boards j (progress_of s j x (tells_settled y)).1 }
     pub truly : TellsTruly y (IsSettled t j (mover x))
 
   -- a job is unfinished: the worked intervals do not tile, and for no worker do the pairs that it has worked decide the query
@@ -101,6 +101,6 @@ module _ {K V Q A B : Type 0} (kind : Kind K V Q A B) (division : Division K V Q
   -- one step: a client's is a step of the machine, and a worker's leaves the machine as it is
   abbrev pub CoreStep : CoreState K V Q → Asked K V Q → Told K V B → CoreState K V Q → Type 0
   CoreStep s (of_client r) (to_client o) t = (m : State K V Q) × Step kind s.machine r o m × IsExact division s r o × (t ≡ record s { machine = m; boards = boards_after s r o })
-  CoreStep s (of_worker j x) (to_worker y) t = (refusal_of s j x ≡ None) × Turns division s j x y t
-  CoreStep s (of_worker j x) (no_turn e) t = (refusal_of s j x ≡ Some e) × (t ≡ s)
+  CoreStep s (of_worker j x) (to_worker y) t = (refusal_of s j x ≡ None) × WorkerMoves division s j x y t
+  CoreStep s (of_worker j x) (no_move e) t = (refusal_of s j x ≡ Some e) × (t ≡ s)
   CoreStep s _ _ t = ⊥

@@ -6,10 +6,10 @@ use Rattle.handles.specs.Machine.{Kind, Run, job_at}
 use Rattle.iter.specs.declared.interval.Interval.{Interval}
 use Rattle.splitter.specs.Cuts.{cut_point}
 use Rattle.iter.specs.Intervals.{whole, AreApart, Tile, parts}
-use Rattle.core_steps.specs.Boards.{Board, Move, Turn, all_worked, moved, named_by}
+use Rattle.core_steps.specs.Boards.{Board, Move, MoveResult, all_worked, moved, named_by}
 use Rattle.core_steps.specs.Cores.{CoreState, Asked, Told, Division, CoreStep, board_of, frozen_map}
 use Rattle.core_steps.specs.Traces.{client_requests, client_outcomes, covered, CoreRun}
-use Rattle.core_steps.specs.Desks.{Station, IsJobOn, Leaves, Works, splitting_turn, stealing_turn, taking_turn}
+use Rattle.core_steps.specs.WorkerValues.{WorkerValue, IsJobOn, Leaves, Works, splitting_move, stealing_move, taking_move}
 use Rattle.core_steps.specs.Invariants.{IsBoard, IsCore, waiting}
 
 module _ {K V Q A B : Type 0} (kind : Kind K V Q A B) (division : Division K V Q) where
@@ -50,9 +50,9 @@ MovesKeepBoards {K} V path =
     → All (λ w. w < length b) (named_by x) → IsBoard workers b → IsBoard workers (moved (λ i. cut_point path m i grain) size settled b x).1
 
 module _ {K V P : Type 0} (R : K → K → Ordering) (path : K → ℕ) (answers : Map K V → P → Type 0) (Decides : Map K V → Type 0) where
-  -- each worker's turn keeps what is true of a job's desks
-  pub record TurnsKeepJobs : Type 0 where
-    pub takes : (m : Map K V) (ds es : List (Station K V P)) (y : Turn) (w : ℕ) → w < length ds → Leaves ds es y (taking_turn ds w) → IsJobOn R path answers m ds → IsJobOn R path answers m es
-    pub steals : (m : Map K V) (ds es : List (Station K V P)) (y : Turn) (w from : ℕ) → w < length ds → from < length ds → Leaves ds es y (stealing_turn ds w from) → IsJobOn R path answers m ds → IsJobOn R path answers m es
-    pub splits : (m : Map K V) (grain : ℕ) (ds es : List (Station K V P)) (y : Turn) (w : ℕ) → w < length ds → Leaves ds es y (splitting_turn (λ i. cut_point path m i grain) ds w) → IsJobOn R path answers m ds → IsJobOn R path answers m es
-    pub works : (m : Map K V) (ds es : List (Station K V P)) (y : Turn) (w : ℕ) → w < length ds → Works R path answers m Decides ds w y es → IsJobOn R path answers m ds → IsJobOn R path answers m es
+  -- each worker's move keeps what is true of the states of a job's workers
+  pub record MovesKeepJobs : Type 0 where
+    pub takes : (m : Map K V) (ds es : List (WorkerValue K V P)) (y : MoveResult) (w : ℕ) → w < length ds → Leaves ds es y (taking_move ds w) → IsJobOn R path answers m ds → IsJobOn R path answers m es
+    pub steals : (m : Map K V) (ds es : List (WorkerValue K V P)) (y : MoveResult) (w from : ℕ) → w < length ds → from < length ds → Leaves ds es y (stealing_move ds w from) → IsJobOn R path answers m ds → IsJobOn R path answers m es
+    pub splits : (m : Map K V) (grain : ℕ) (ds es : List (WorkerValue K V P)) (y : MoveResult) (w : ℕ) → w < length ds → Leaves ds es y (splitting_move (λ i. cut_point path m i grain) ds w) → IsJobOn R path answers m ds → IsJobOn R path answers m es
+    pub works : (m : Map K V) (ds es : List (WorkerValue K V P)) (y : MoveResult) (w : ℕ) → w < length ds → Works R path answers m Decides ds w y es → IsJobOn R path answers m ds → IsJobOn R path answers m es

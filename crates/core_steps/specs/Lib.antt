@@ -5,9 +5,9 @@ pub mod Invariants
 pub mod Traces
 pub mod Laws
 pub mod Queries
-pub mod Desks
+pub mod WorkerValues
 pub mod Views
-pub mod Posts
+pub mod JobStates
 pub mod Collected
 pub mod Moves
 pub mod Steps

@@ -1,12 +1,12 @@
--- What a worker's move comes to on the desks of one job.
+-- What a worker's move comes to on the workers' states of one job.
 use Rattle.std.specs.Prelude.{◌≡◌, ℕ, Bool, List, length, true, false}
 use Rattle.std.specs.declared.cmp.Ordering.{Ordering}
 use Rattle.trie_shape.specs.Map.{Map}
 use Rattle.iter.specs.Intervals.{part, parts}
 use Rattle.splitter.specs.Cuts.{cut_point}
 use Rattle.core_steps.specs.Boards as boards
-use Rattle.core_steps.specs.Boards.{Board, worker, mover, moved, Turn, tells_settled, TellsTruly}
-use Rattle.core_steps.specs.Desks.{Station, board, desk_parts, IsJobOn}
+use Rattle.core_steps.specs.Boards.{Board, worker, mover, moved, MoveResult, tells_settled, TellsTruly}
+use Rattle.core_steps.specs.WorkerValues.{WorkerValue, board, state_parts, IsJobOn}
 use Rattle.core_steps.specs.Parts.{PartsMove}
 use Rattle.core_steps.specs.declared.moves.Move.{Move}
 use Rattle.core_steps.specs.declared.moves.Move.TheVariants.{Take, Steal, Split, Work}
@@ -25,15 +25,15 @@ moves_without_memory (boards.stealing w from) = true
 moves_without_memory _ = false
 
 module _ {K V P : Type 0} (path : K → ℕ) (m : Map K V) where
-  -- the turn of a worker that moves, on the board of some desks of the map
-  abbrev pub turn_on : ℕ → List (Station K V P) → boards.Move → Turn → Turn × Board
-  turn_on grain ds x y = moved (λ i. cut_point path m i grain) (λ i. length (part path m i)) (tells_settled y) (board ds) x
+  -- the move of a worker, on the board of some workers' states of the map
+  abbrev pub move_on : ℕ → List (WorkerValue K V P) → boards.Move → MoveResult → MoveResult × Board
+  move_on grain ds x y = moved (λ i. cut_point path m i grain) (λ i. length (part path m i)) (tells_settled y) (board ds) x
 
 module _ {K V P : Type 0} (R : K → K → Ordering) (path : K → ℕ) (answers : Map K V → P → Type 0) (Decides : Map K V → Type 0) (m : Map K V) where
-  -- a worker's move on the desks of a job: the board's, what it tells of settling is true, and the others keep their parts
-  pub record MovesTo (grain : ℕ) (old : List (Station K V P)) (x : boards.Move) (y : Turn) (new : List (Station K V P)) : Type 0 where
-    pub told : y ≡ (turn_on path m grain old x y).0
-    pub left : board new ≡ (turn_on path m grain old x y).1
+  -- a worker's move on the workers' states of a job: the board's, what it tells of settling is true, and the others keep their parts
+  pub record MovesTo (grain : ℕ) (old : List (WorkerValue K V P)) (x : boards.Move) (y : MoveResult) (new : List (WorkerValue K V P)) : Type 0 where
+    pub told : y ≡ (move_on path m grain old x y).0
+    pub left : board new ≡ (move_on path m grain old x y).1
     pub truly : TellsTruly y (Decides (parts path m (worker (board new) (mover x)).worked))
-    pub parts : PartsMove (desk_parts old) x y (desk_parts new)
+    pub parts : PartsMove (state_parts old) x y (state_parts new)
     pub job : IsJobOn R path answers m new

@@ -4,7 +4,7 @@ use Rattle.std.specs.Ordering.{nat_cmp}
 use Rattle.versions.specs.Map.{Map, value_at, with_pair, without}
 use Rattle.handles.specs.declared.limits.Limits.{Limits}
 use Rattle.handles.specs.Machine.{freeze, finish, abandon, made, frozen, finished}
-use Rattle.core_steps.specs.Boards.{Move, working, Turn, done}
+use Rattle.core_steps.specs.Boards.{Move, working, MoveResult, done}
 use Rattle.core_steps.specs.Cores.{CoreState, Asked, of_client, of_worker, Told, to_client, to_worker, new_core}
 
 -- what contracts see of a core: its state, and for each open job the parts of its workers, in order of their numbers
@@ -26,21 +26,21 @@ module _ {P : Type 0} where
   part_at ps j w = slice_get (parts_of_job ps j) w
 
   -- the parts of a job's workers after a move: one that has worked a piece has another part, and the others have theirs
-  abbrev pub PartsMove : List P → Move → Turn → List P → Type 0
+  abbrev pub PartsMove : List P → Move → MoveResult → List P → Type 0
   PartsMove ps (working w) (done lo hi n settled) qs = (p : P) × (qs ≡ slice_set ps w p)
   PartsMove ps x y qs = qs ≡ ps
 
   -- the same of the parts of all jobs
-  abbrev pub PartsTurn : Map ℕ (List P) → ℕ → Move → Turn → Map ℕ (List P) → Type 0
-  PartsTurn ps j (working w) (done lo hi n settled) qs = (p : P) × (qs ≡ with_pair nat_cmp ps j (slice_set (parts_of_job ps j) w p))
-  PartsTurn ps j x y qs = qs ≡ ps
+  abbrev pub PartsMoved : Map ℕ (List P) → ℕ → Move → MoveResult → Map ℕ (List P) → Type 0
+  PartsMoved ps j (working w) (done lo hi n settled) qs = (p : P) × (qs ≡ with_pair nat_cmp ps j (slice_set (parts_of_job ps j) w p))
+  PartsMoved ps j x y qs = qs ≡ ps
 
   -- the parts after a step: a freeze adds those of its job, the end of a job takes its parts away, and a worker that has worked a piece has another part; all others stay
   abbrev pub PartsStep : {K V Q B : Type 0} → Map ℕ (List P) → Told K V B → Asked K V Q → Map ℕ (List P) → Type 0
   PartsStep ps (to_client (frozen j m)) x qs = (news : List P) × (qs ≡ with_pair nat_cmp ps j news)
   PartsStep ps (to_client (finished b)) (of_client (finish j)) qs = qs ≡ without nat_cmp ps j
   PartsStep ps (to_client made) (of_client (abandon j)) qs = qs ≡ without nat_cmp ps j
-  PartsStep ps (to_worker y) (of_worker j x) qs = PartsTurn ps j x y qs
+  PartsStep ps (to_worker y) (of_worker j x) qs = PartsMoved ps j x y qs
   PartsStep ps y x qs = qs ≡ ps
 
   -- the parts after steps that were answered so, one after another

@@ -13,11 +13,11 @@ use Rattle.handles.specs.Machine as machine
 use Rattle.handles.specs.Views.{request_of, call_outcome}
 use Rattle.iter.specs.Intervals.{AreApart}
 use Rattle.core_steps.specs.Boards.{taking, stealing, splitting, working}
-use Rattle.core_steps.specs.Cores.{CoreState, Asked, of_client, of_worker, Told, to_client, to_worker, no_turn, Division, IsUnfinished, CoreStep, refusal_of}
+use Rattle.core_steps.specs.Cores.{CoreState, Asked, of_client, of_worker, Told, to_client, to_worker, no_move, Division, IsUnfinished, CoreStep, refusal_of}
 use Rattle.core_steps.specs.Parts.{CoreValue, PartsStep, PartsRun}
 use Rattle.core_steps.specs.Moves.{moves_without_memory}
 use Rattle.core_steps.specs.Traces.{client_requests, client_outcomes, covered, CoreRun}
-use Rattle.core_steps.specs.Views.{turn_of}
+use Rattle.core_steps.specs.Views.{progress_of}
 use Rattle.core_steps.specs.declared.step.Step.{Step}
 use Rattle.core_steps.specs.declared.step.Step.TheVariants.{Call, View, Freeze, Finish, Abandon, Take, Steal, Split, Work}
 use Rattle.core_steps.specs.declared.outcome.Outcome.{Outcome}
@@ -43,7 +43,7 @@ CanAsk ready x = Unit {0}
 -- what is told of a refusal
 abbrev pub refusal_told : {K V Q B : Type 0} → Asked K V Q → Refusal → Told K V B
 refusal_told (of_client r) e = to_client (machine.refused e)
-refusal_told (of_worker j x) e = no_turn e
+refusal_told (of_worker j x) e = no_move e
 
 module _ {K V Q I : Type 0} where
   -- an outcome shows what is told: of a freeze it shows the number of the job, whose map the core keeps
@@ -54,7 +54,7 @@ module _ {K V Q I : Type 0} where
   Shows x (outcomes.Answer a) t = t ≡ to_client (finished (told_of a))
   Shows x outcomes.Unfinished t = t ≡ to_client unfinished
   Shows x outcomes.Abandoned t = t ≡ to_client made
-  Shows x (outcomes.Turn p) t = t ≡ to_worker (turn_of p)
+  Shows x (outcomes.Moved p) t = t ≡ to_worker (progress_of p)
   Shows x (outcomes.Refused e) t = t ≡ refusal_told x e
 
 -- what is answered where a step is refused: want of memory is no outcome

@@ -1,16 +1,16 @@
-//! The board of one job: the desks of its workers.
+//! The board of one job: its workers' states.
 
 ghost use Rattle.std.specs.Prelude.{All, ◌≡◌, ◌<◌, ◌≤◌, [], IfOk, OnErr, length, option_map, slice_get, slice_index_or, slice_set};
 ghost use Rattle.core_steps.specs.Boards.{first_board, working};
 ghost use Rattle.versions.specs.Map.{Map};
 ghost use Rattle.splitter.specs.Cuts.{cut_point};
 ghost use Rattle.std.specs.VecDeque.{deque_capacity, deque_len};
-ghost use Rattle.core_steps.specs.Desks.{HasPieces, IsJobOn, IsVacant, Leaves, Station, Works, board, desk_parts, splitting_turn, stealing_turn, taking_turn};
+ghost use Rattle.core_steps.specs.WorkerValues.{HasPieces, IsJobOn, IsVacant, Leaves, WorkerValue, Works, board, splitting_move, state_parts, stealing_move, taking_move};
 ghost use Rattle.core_steps.specs.Parts.{PartsMove};
-ghost use Rattle.core_steps.specs.Views.{turn_of};
+ghost use Rattle.core_steps.specs.Views.{progress_of};
 
-use crate::desk::Desk;
 use crate::progress::Progress;
+use crate::worker_state::WorkerState;
 use crate::working::work_held;
 use combiner::Bulk;
 use hash_path::PathKey;
@@ -21,50 +21,50 @@ use std::marker::Model;
 use trie_node::NoMemory;
 use versions::View;
 
-/// The desks of a job's workers, in order of the workers' numbers.
+/// The states of a job's workers, in order of the workers' numbers.
 #[derive(Drop)]
 pub struct Board<K: PathKey, V, P> {
-    desks: Vec<Desk<K, V, P>>,
+    worker_states: Vec<WorkerState<K, V, P>>,
 }
 
 impl<K: PathKey, V, P> Model for Board<K, V, P> {
     ghost use Rattle.std.specs.Prelude.{List};
-    ghost use Rattle.core_steps.specs.Desks.{Station};
+    ghost use Rattle.core_steps.specs.WorkerValues.{WorkerValue};
 
-    ghost Value = { List (Station K V P) };
+    ghost Value = { List (WorkerValue K V P) };
 
-    ghost view = { λ b. b.desks.items };
+    ghost view = { λ b. b.worker_states.items };
 }
 
 impl<K: PathKey + Drop, V: Drop, P> Board<K, V, P> {
-    /// The desks, in order of the workers' numbers.
-    pub(crate) fn desks(&self) -> &[Desk<K, V, P>]
+    /// The workers' states, in order of the workers' numbers.
+    pub(crate) fn worker_states(&self) -> &[WorkerState<K, V, P>]
         ensures { result.now ≡ self.now }
     {
-        &self.desks
+        &self.worker_states
     }
 
     /// These pieces wait for worker 0 now. It takes no memory.
     pub(crate) fn begin(&mut self, queue: VecDeque<Piece<K, V>>)
         requires { 0 < length self.old }
-        ensures { (d : Station K V P) → self.new ≡ slice_set self.old 0 (record (slice_index_or self.old 0 d) { queue = queue.items }) }
+        ensures { (d : WorkerValue K V P) → self.new ≡ slice_set self.old 0 (record (slice_index_or self.old 0 d) { queue = queue.items }) }
     {
-        self.desks[0].queue = queue;
+        self.worker_states[0].queue = queue;
     }
 
     /// How many workers there are.
     pub fn workers(&self) -> usize
         ensures { result ≡ length self.now }
     {
-        self.desks.len()
+        self.worker_states.len()
     }
 
     /// The part of what the worker has worked, if there is such a worker.
     pub fn part(&self, worker: u32) -> Option<&P>
-        ensures { option_map (λ part. part.now) result ≡ option_map (λ desk. desk.part) (slice_get self.now worker) }
+        ensures { option_map (λ part. part.now) result ≡ option_map (λ worker_state. worker_state.part) (slice_get self.now worker) }
     {
-        match self.desks.get(worker as usize) {
-            Some(desk) => Some(&desk.part),
+        match self.worker_states.get(worker as usize) {
+            Some(worker_state) => Some(&worker_state.part),
             None => None,
         }
     }
@@ -72,22 +72,22 @@ impl<K: PathKey + Drop, V: Drop, P> Board<K, V, P> {
     /// A worker that holds no piece takes the newest one of its queue.
     pub fn take(&mut self, worker: u32) -> Progress
         requires { worker < length self.old }
-        ensures { Leaves self.old self.new (turn_of result) (taking_turn self.old worker) }
+        ensures { Leaves self.old self.new (progress_of result) (taking_move self.old worker) }
     {
-        self.desks[worker as usize].take()
+        self.worker_states[worker as usize].take()
     }
 
     /// A worker that holds no piece takes the oldest one of another's queue.
     pub fn steal(&mut self, worker: u32, from: u32) -> Progress
         requires thief { worker < length self.old }
         requires owner { from < length self.old }
-        ensures { Leaves self.old self.new (turn_of result) (stealing_turn self.old worker from) }
+        ensures { Leaves self.old self.new (progress_of result) (stealing_move self.old worker from) }
     {
-        if !self.desks[worker as usize].is_free() {
+        if !self.worker_states[worker as usize].is_free() {
             return Progress::Idle;
         }
-        match self.desks[from as usize].oldest() {
-            Some(piece) => self.desks[worker as usize].hold(piece),
+        match self.worker_states[from as usize].oldest() {
+            Some(piece) => self.worker_states[worker as usize].hold(piece),
             None => Progress::Idle,
         }
     }
@@ -96,10 +96,10 @@ impl<K: PathKey + Drop, V: Drop, P> Board<K, V, P> {
     /// then. After `NoMemory` all is as before.
     pub fn split(&mut self, worker: u32, grain: u64) -> Result<Progress, NoMemory>
         requires { worker < length self.old }
-        ensures ok { IfOk result (λ progress. (m : Map K V) → All (HasPieces m) self.old → Leaves self.old self.new (turn_of progress) (splitting_turn (λ i. cut_point K.path_of m i grain) self.old worker)) }
+        ensures ok { IfOk result (λ progress. (m : Map K V) → All (HasPieces m) self.old → Leaves self.old self.new (progress_of progress) (splitting_move (λ i. cut_point K.path_of m i grain) self.old worker)) }
         ensures err { OnErr result (self.new ≡ self.old) }
     {
-        self.desks[worker as usize].split(grain)
+        self.worker_states[worker as usize].split(grain)
     }
 }
 
@@ -112,8 +112,8 @@ pub fn first_board<K: PathKey + Drop, V: Drop, B: Bulk<K, V>>(
     view: View<K, V>,
 ) -> Result<Board<K, V, B::Part>, NoMemory>
     requires { 1 ≤ workers }
-    ensures first { IfOk result (λ desks. board desks ≡ first_board workers) }
-    ensures job { IfOk result (λ desks. IsJobOn K.cmp K.path_of (B.answers bulk.now) view desks) }
+    ensures first { IfOk result (λ worker_states. board worker_states ≡ first_board workers) }
+    ensures job { IfOk result (λ worker_states. IsJobOn K.cmp K.path_of (B.answers bulk.now) view worker_states) }
 {
     let mut board = vacant(alloc, bulk, workers)?;
     let queue = VecDeque::with_capacity(alloc, 1)?;
@@ -131,7 +131,7 @@ pub(crate) fn begin_whole<K: PathKey + Drop, V: Drop, B: Bulk<K, V>>(
     view: View<K, V>,
 )
     requires workers { 1 ≤ length vacant.old }
-    requires desks { All (IsVacant (B.answers bulk.now)) vacant.old }
+    requires worker_states { All (IsVacant (B.answers bulk.now)) vacant.old }
     requires empty { queue.items ≡ [] }
     requires place { deque_len queue < deque_capacity queue }
     ensures first { board vacant.new ≡ first_board (length vacant.old) }
@@ -149,14 +149,14 @@ pub(crate) fn vacant<K: PathKey + Drop, V: Drop, B: Bulk<K, V>>(
     bulk: &B,
     workers: u32,
 ) -> Result<Board<K, V, B::Part>, NoMemory>
-    ensures count { IfOk result (λ desks. length desks ≡ workers) }
-    ensures vacant { IfOk result (λ desks. All (IsVacant (B.answers bulk.now)) desks) }
+    ensures count { IfOk result (λ worker_states. length worker_states ≡ workers) }
+    ensures vacant { IfOk result (λ worker_states. All (IsVacant (B.answers bulk.now)) worker_states) }
 {
-    let mut desks = Vec::with_capacity(alloc, workers as usize)?;
-    'desks: while desks.len() < workers as usize {
-        desks.push(Desk::new(alloc, bulk.unit(alloc)?))?;
+    let mut worker_states = Vec::with_capacity(alloc, workers as usize)?;
+    'worker_states: while worker_states.len() < workers as usize {
+        worker_states.push(WorkerState::new(alloc, bulk.unit(alloc)?))?;
     }
-    Ok(Board { desks })
+    Ok(Board { worker_states })
 }
 
 /// A worker works the piece that it holds: it joins the piece's part to its own, and lets the piece go. After
@@ -170,9 +170,9 @@ pub fn work_on<K: PathKey + Drop, V: Drop, B: Bulk<K, V>>(
     requires ready { B.ready bulk.now }
     requires worker { worker < length board.old }
     requires job { (m : Map K V) × IsJobOn K.cmp K.path_of (B.answers bulk.now) m board.old }
-    ensures ok { IfOk result (λ progress. (m : Map K V) → IsJobOn K.cmp K.path_of (B.answers bulk.now) m board.old → Works K.cmp K.path_of (B.answers bulk.now) m (B.decides bulk.now) board.old worker (turn_of progress) board.new) }
-    ensures parts { IfOk result (λ progress. PartsMove (desk_parts board.old) (working worker) (turn_of progress) (desk_parts board.new)) }
+    ensures ok { IfOk result (λ progress. (m : Map K V) → IsJobOn K.cmp K.path_of (B.answers bulk.now) m board.old → Works K.cmp K.path_of (B.answers bulk.now) m (B.decides bulk.now) board.old worker (progress_of progress) board.new) }
+    ensures parts { IfOk result (λ progress. PartsMove (state_parts board.old) (working worker) (progress_of progress) (state_parts board.new)) }
     ensures err { OnErr result (board.new ≡ board.old) }
 {
-    work_held(alloc, bulk, &mut board.desks[worker as usize])
+    work_held(alloc, bulk, &mut board.worker_states[worker as usize])
 }

@@ -3,12 +3,12 @@ ghost use Rattle.std.specs.Prelude.{◌≡◌, ◌↔◌, [], IfOk, OnErr, true}
 ghost use Rattle.versions.specs.Map.{Map};
 ghost use Rattle.iter.specs.Intervals.{parts};
 ghost use Rattle.core_steps.specs.Boards.{all_worked};
-ghost use Rattle.core_steps.specs.Desks.{IsJobOn, board};
+ghost use Rattle.core_steps.specs.WorkerValues.{IsJobOn, board};
 ghost use Rattle.core_steps.specs.Invariants.{waiting};
 ghost use Rattle.core_steps.specs.Collected.{IsCollected, IsSettledPart, MayCollect, SomeDecided};
 
 use crate::board::Board;
-use crate::desk::Desk;
+use crate::worker_state::WorkerState;
 use combiner::Bulk;
 use hash_path::PathKey;
 use iter::parts_follow_intervals;
@@ -26,23 +26,23 @@ pub fn collected<K: PathKey + Drop, V: Drop, B: Bulk<K, V>>(
     ensures part { IfOk result (λ part. (m : Map K V) → IsJobOn K.cmp K.path_of (B.answers bulk.now) m board.now → IsCollected K.path_of (B.answers bulk.now) (B.decides bulk.now) m board.now part) }
     ensures wanting { OnErr result ((m : Map K V) → IsJobOn K.cmp K.path_of (B.answers bulk.now) m board.now → MayCollect K.path_of (B.answers bulk.now) (B.decides bulk.now) m board.now) }
 {
-    let desks = board.desks();
-    if is_done(desks) {
-        return Ok(Some(joined(alloc, bulk, desks)?));
+    let worker_states = board.worker_states();
+    if is_done(worker_states) {
+        return Ok(Some(joined(alloc, bulk, worker_states)?));
     }
-    settled_part(alloc, bulk, desks)
+    settled_part(alloc, bulk, worker_states)
 }
 
 // Whether nothing waits and nothing is held.
-fn is_done<K: PathKey + Drop, V: Drop, P>(desks: &[Desk<K, V, P>]) -> bool
-    ensures { result ≡ true ↔ (waiting (board desks.now) ≡ []) }
+fn is_done<K: PathKey + Drop, V: Drop, P>(worker_states: &[WorkerState<K, V, P>]) -> bool
+    ensures { result ≡ true ↔ (waiting (board worker_states.now) ≡ []) }
 {
-    for desk in desks {
-        let free = desk.is_free();
+    for worker_state in worker_states {
+        let free = worker_state.is_free();
         if !free {
             return false;
         }
-        let count = desk.waiting();
+        let count = worker_state.waiting();
         if count > 0 {
             return false;
         }
@@ -54,15 +54,15 @@ fn is_done<K: PathKey + Drop, V: Drop, P>(desks: &[Desk<K, V, P>]) -> bool
 fn joined<K: PathKey + Drop, V: Drop, B: Bulk<K, V>>(
     alloc: Global,
     bulk: &B,
-    desks: &[Desk<K, V, B::Part>],
+    worker_states: &[WorkerState<K, V, B::Part>],
 ) -> Result<B::Part, NoMemory>
-    requires { (m : Map K V) × IsJobOn K.cmp K.path_of (B.answers bulk.now) m desks.now }
-    ensures { IfOk result (λ part. (m : Map K V) → IsJobOn K.cmp K.path_of (B.answers bulk.now) m desks.now → B.answers bulk.now (parts K.path_of m (all_worked (board desks.now))) part) }
+    requires { (m : Map K V) × IsJobOn K.cmp K.path_of (B.answers bulk.now) m worker_states.now }
+    ensures { IfOk result (λ part. (m : Map K V) → IsJobOn K.cmp K.path_of (B.answers bulk.now) m worker_states.now → B.answers bulk.now (parts K.path_of m (all_worked (board worker_states.now))) part) }
 {
     parts_follow_intervals::<K, V>();
     let mut all = bulk.unit(alloc)?;
-    for desk in desks {
-        let next = bulk.join(alloc, &all, desk.part())?;
+    for worker_state in worker_states {
+        let next = bulk.join(alloc, &all, worker_state.part())?;
         all = next;
     }
     Ok(all)
@@ -72,15 +72,15 @@ fn joined<K: PathKey + Drop, V: Drop, B: Bulk<K, V>>(
 fn settled_part<K: PathKey + Drop, V: Drop, B: Bulk<K, V>>(
     alloc: Global,
     bulk: &B,
-    desks: &[Desk<K, V, B::Part>],
+    worker_states: &[WorkerState<K, V, B::Part>],
 ) -> Result<Option<B::Part>, NoMemory>
-    requires { (m : Map K V) × IsJobOn K.cmp K.path_of (B.answers bulk.now) m desks.now }
-    ensures part { IfOk result (λ part. (m : Map K V) → IsJobOn K.cmp K.path_of (B.answers bulk.now) m desks.now → IsSettledPart K.path_of (B.answers bulk.now) (B.decides bulk.now) m desks.now part) }
-    ensures wanting { OnErr result ((m : Map K V) → IsJobOn K.cmp K.path_of (B.answers bulk.now) m desks.now → SomeDecided K.path_of (B.answers bulk.now) (B.decides bulk.now) m desks.now) }
+    requires { (m : Map K V) × IsJobOn K.cmp K.path_of (B.answers bulk.now) m worker_states.now }
+    ensures part { IfOk result (λ part. (m : Map K V) → IsJobOn K.cmp K.path_of (B.answers bulk.now) m worker_states.now → IsSettledPart K.path_of (B.answers bulk.now) (B.decides bulk.now) m worker_states.now part) }
+    ensures wanting { OnErr result ((m : Map K V) → IsJobOn K.cmp K.path_of (B.answers bulk.now) m worker_states.now → SomeDecided K.path_of (B.answers bulk.now) (B.decides bulk.now) m worker_states.now) }
 {
     parts_follow_intervals::<K, V>();
-    for desk in desks {
-        let part = desk.part();
+    for worker_state in worker_states {
+        let part = worker_state.part();
         let decided = bulk.settled(part);
         if decided {
             let unit = bulk.unit(alloc)?;

@@ -12,10 +12,10 @@ ghost use Rattle.core_steps.specs.declared.outcome.Outcome.{Outcome};
 
 use crate::board::{begin_whole, vacant};
 use crate::collecting::collected;
+use crate::job_state::{JobState, close, place_of};
 use crate::laws::law_of_coverings;
 use crate::moves::{Move, make_move};
 use crate::outcome::{Outcome, Trace, call_outcome, refused, view_outcome};
-use crate::post::{Post, close, place_of};
 use crate::step::Step;
 use bulk_ops::Asks;
 use handles::{Call, Limits, MOST_ENTRIES, Table, law_of_freezes, law_of_open_jobs};
@@ -37,20 +37,20 @@ use versions::{MOST_PAIRS, Refusal};
 #[derive(Drop)]
 pub struct Core<K: PathKey, V, Q: Asks<K, V>> {
     table: Table<K, V, Q>,
-    posts: Vec<Post<K, V, Q, Q::Part>>,
+    job_states: Vec<JobState<K, V, Q, Q::Part>>,
     workers: u32,
     grain: u64,
 }
 
 impl<K: PathKey, V, Q: Asks<K, V>> Model for Core<K, V, Q> {
     ghost use Rattle.core_steps.specs.Parts.{CoreValue};
-    ghost use Rattle.core_steps.specs.Posts.{IsWhole, posts_of, value_of};
+    ghost use Rattle.core_steps.specs.JobStates.{IsWhole, job_states_of, value_of};
 
     ghost Value = { CoreValue K V Q Q.Part };
 
-    ghost view = { λ c. value_of c.table (posts_of c.posts.items) c.workers c.grain };
+    ghost view = { λ c. value_of c.table (job_states_of c.job_states.items) c.workers c.grain };
 
-    ghost invariant = { λ c. IsWhole K.cmp K.path_of Q.answers Q.ready c.table (posts_of c.posts.items) c.workers c.grain };
+    ghost invariant = { λ c. IsWhole K.cmp K.path_of Q.answers Q.ready c.table (job_states_of c.job_states.items) c.workers c.grain };
 }
 
 impl<K: PathKey + Drop, V: Eq + Drop, Q: Asks<K, V> + Drop> Core<K, V, Q> {
@@ -75,7 +75,7 @@ impl<K: PathKey + Drop, V: Eq + Drop, Q: Asks<K, V> + Drop> Core<K, V, Q> {
         let table = Table::new(alloc, limits)?;
         Ok(Core {
             table,
-            posts: Vec::new(alloc),
+            job_states: Vec::new(alloc),
             workers,
             grain,
         })
@@ -88,8 +88,8 @@ impl<K: PathKey + Drop, V: Eq + Drop, Q: Asks<K, V> + Drop> Core<K, V, Q> {
         ensures some { IfSome result (λ part. (asking : Job K V Q) → job_at self.now.state.machine job ≡ Some asking → Q.answers asking.query (worked_part (divided K.path_of Q.decides) self.now.state job worker) part.now) }
     {
         law_of_cuts::<K, V>();
-        match place_of(&self.posts, job) {
-            Some(place) => self.posts[place].board.part(worker),
+        match place_of(&self.job_states, job) {
+            Some(place) => self.job_states[place].board.part(worker),
             None => None,
         }
     }
@@ -97,8 +97,9 @@ impl<K: PathKey + Drop, V: Eq + Drop, Q: Asks<K, V> + Drop> Core<K, V, Q> {
     /// Makes one step of a client or of a worker.
     ///
     /// A query that is frozen may be called on every pair. A refusal that is due is told whatever the memory, and so is
-    /// that a job is unfinished. After `NoMemory` all is as before, and each step leaves all parts as they were, but for
-    /// that of a worker that works a piece, and those of a job that it opens or closes. A drop of a handle, an abandon, a size, a take and a steal are never answered so.
+    /// that a job is unfinished. After `NoMemory` all is as before, and each step leaves all parts as they were, but
+    /// for that of a worker that works a piece, and those of a job that it opens or closes. A drop of a handle, an
+    /// abandon, a size, a take and a steal are never answered so.
     pub fn step(
         &mut self,
         alloc: Global,
@@ -190,10 +191,10 @@ impl<K: PathKey + Drop, V: Eq + Drop, Q: Asks<K, V> + Drop> Core<K, V, Q> {
             Step::Freeze(handle, query) => self.freeze(alloc, handle, query),
             Step::Finish(job) => self.finish(alloc, job),
             Step::Abandon(job) => self.abandon(job),
-            Step::Take(job, worker) => self.turn(alloc, job, Move::Take(worker)),
-            Step::Steal(job, worker, from) => self.turn(alloc, job, Move::Steal(worker, from)),
-            Step::Split(job, worker) => self.turn(alloc, job, Move::Split(worker)),
-            Step::Work(job, worker) => self.turn(alloc, job, Move::Work(worker)),
+            Step::Take(job, worker) => self.make_move(alloc, job, Move::Take(worker)),
+            Step::Steal(job, worker, from) => self.make_move(alloc, job, Move::Steal(worker, from)),
+            Step::Split(job, worker) => self.make_move(alloc, job, Move::Split(worker)),
+            Step::Work(job, worker) => self.make_move(alloc, job, Move::Work(worker)),
         }
     }
 
@@ -239,14 +240,14 @@ impl<K: PathKey + Drop, V: Eq + Drop, Q: Asks<K, V> + Drop> Core<K, V, Q> {
         let kept = Arc::try_clone(&query)?;
         let mut board = vacant(alloc, &*kept, self.workers)?;
         let queue = VecDeque::with_capacity(alloc, 1)?;
-        self.posts.reserve(1)?;
+        self.job_states.reserve(1)?;
         let opened = match self.table.freeze(handle, query) {
             Ok(opened) => opened,
             Err(refusal) => return refused(refusal),
         };
         let (number, view) = opened;
         begin_whole(alloc, &*kept, &mut board, queue, view);
-        self.posts.push_reserved(Post {
+        self.job_states.push_reserved(JobState {
             number,
             query: kept,
             board,
@@ -279,18 +280,18 @@ impl<K: PathKey + Drop, V: Eq + Drop, Q: Asks<K, V> + Drop> Core<K, V, Q> {
     {
         law_of_cuts::<K, V>();
         parts_follow_intervals::<K, V>();
-        let Some(place) = place_of(&self.posts, job) else {
+        let Some(place) = place_of(&self.job_states, job) else {
             return Ok(Outcome::Refused(Refusal::NoJob));
         };
-        let post = &self.posts[place];
-        let Some(part) = collected(alloc, &*post.query, &post.board)? else {
+        let job_state = &self.job_states[place];
+        let Some(part) = collected(alloc, &*job_state.query, &job_state.board)? else {
             return Ok(Outcome::Unfinished);
         };
         let answer = match self.table.finish(job, part) {
             Ok(answer) => answer,
             Err(refusal) => return refused(refusal),
         };
-        close(&mut self.posts, job);
+        close(&mut self.job_states, job);
         Ok(Outcome::Answer(answer))
     }
 
@@ -305,12 +306,12 @@ impl<K: PathKey + Drop, V: Eq + Drop, Q: Asks<K, V> + Drop> Core<K, V, Q> {
             Ok(()) => (),
             Err(refusal) => return refused(refusal),
         }
-        close(&mut self.posts, job);
+        close(&mut self.job_states, job);
         Ok(Outcome::Abandoned)
     }
 
     // A worker moves.
-    fn turn(
+    fn make_move(
         &mut self,
         alloc: Global,
         job: u64,
@@ -321,15 +322,21 @@ impl<K: PathKey + Drop, V: Eq + Drop, Q: Asks<K, V> + Drop> Core<K, V, Q> {
         ensures memory { OnErr result (moves_without_memory (move_of chosen) ≡ false) }
     {
         law_of_cuts::<K, V>();
-        let Some(place) = place_of(&self.posts, job) else {
+        let Some(place) = place_of(&self.job_states, job) else {
             return Ok(Outcome::Refused(Refusal::NoJob));
         };
         if chosen.names_other(self.workers) {
             return Ok(Outcome::Refused(Refusal::NoWorker));
         }
-        let post = &mut self.posts[place];
-        let progress = make_move(alloc, &*post.query, &mut post.board, self.grain, chosen)?;
-        Ok(Outcome::Turn(progress))
+        let job_state = &mut self.job_states[place];
+        let progress = make_move(
+            alloc,
+            &*job_state.query,
+            &mut job_state.board,
+            self.grain,
+            chosen,
+        )?;
+        Ok(Outcome::Moved(progress))
     }
 }
 

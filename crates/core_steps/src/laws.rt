@@ -4,7 +4,7 @@ ghost use Rattle.handles.specs.declared.limits.Limits.{Limits};
 ghost use Rattle.core_steps.specs.Boards.{first_board};
 ghost use Rattle.core_steps.specs.Cores.{new_core};
 ghost use Rattle.core_steps.specs.Invariants.{IsBoard, IsCore};
-ghost use Rattle.core_steps.specs.Laws.{MovesKeepBoards, NoneWorkedTwice, RunsAreMachineRuns, StepsKeepCores, TileWhereNoneWaits, TiledIsWhole, TurnsKeepJobs};
+ghost use Rattle.core_steps.specs.Laws.{MovesKeepBoards, MovesKeepJobs, NoneWorkedTwice, RunsAreMachineRuns, StepsKeepCores, TileWhereNoneWaits, TiledIsWhole};
 ghost use Rattle.core_steps.specs.Queries.{asked, divided};
 
 use bulk_ops::Asks;
@@ -51,10 +51,10 @@ pub fn law_of_boards<K: PathKey, V>()
     law_of_cuts::<K, V>();
 }
 
-/// Each worker's turn keeps what is true of the desks of a job on a map: the pieces are of the map, each part answers
-/// what its worker has worked, and no two intervals share a position.
+/// Each worker's move keeps what is true of the states of a job's workers on a map: the pieces are of the map, each
+/// part answers what its worker has worked, and no two intervals share a position.
 pub fn law_of_jobs<K: PathKey, V, B: Bulk<K, V>>(bulk: &B)
-    ensures { TurnsKeepJobs K.cmp K.path_of (B.answers bulk.now) (B.decides bulk.now) }
+    ensures { MovesKeepJobs K.cmp K.path_of (B.answers bulk.now) (B.decides bulk.now) }
 {
     let _ = bulk;
     law_of_cuts::<K, V>();

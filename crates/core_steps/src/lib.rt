@@ -9,13 +9,13 @@
 mod board;
 mod collecting;
 mod cores;
-mod desk;
+mod job_state;
 mod laws;
 mod moves;
 mod outcome;
-mod post;
 mod progress;
 mod step;
+mod worker_state;
 mod working;
 
 pub use board::{Board, first_board, work_on};

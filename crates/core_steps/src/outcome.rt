@@ -25,7 +25,7 @@ pub enum Outcome<K: PathKey, V, I> {
     /// The job was closed without an answer.
     Abandoned,
     /// What the worker's move was answered.
-    Turn(Progress),
+    Moved(Progress),
     /// The step is refused.
     Refused(Refusal),
 }

@@ -2,11 +2,11 @@
 
 ghost use Rattle.std.specs.Prelude.{◌≡◌, IfOk, OnErr};
 ghost use Rattle.versions.specs.Map.{Map};
-ghost use Rattle.core_steps.specs.Desks.{CanWork, WorksHeld};
-ghost use Rattle.core_steps.specs.Views.{turn_of};
+ghost use Rattle.core_steps.specs.WorkerValues.{CanWork, WorksHeld};
+ghost use Rattle.core_steps.specs.Views.{progress_of};
 
-use crate::desk::Desk;
 use crate::progress::Progress;
+use crate::worker_state::WorkerState;
 use bulk_ops::work;
 use combiner::Bulk;
 use hash_path::PathKey;
@@ -19,28 +19,28 @@ use trie_node::NoMemory;
 pub(crate) fn work_held<K: PathKey + Drop, V: Drop, B: Bulk<K, V>>(
     alloc: Global,
     bulk: &B,
-    desk: &mut Desk<K, V, B::Part>,
+    worker_state: &mut WorkerState<K, V, B::Part>,
 ) -> Result<Progress, NoMemory>
     requires ready { B.ready bulk.now }
-    requires map { (m : Map K V) × CanWork K.cmp K.path_of (B.answers bulk.now) m desk.old }
-    ensures ok { IfOk result (λ progress. (m : Map K V) → CanWork K.cmp K.path_of (B.answers bulk.now) m desk.old → WorksHeld K.cmp K.path_of (B.answers bulk.now) m (B.decides bulk.now) desk.old desk.old.held (turn_of progress) desk.new) }
-    ensures err { OnErr result (desk.new ≡ desk.old) }
+    requires map { (m : Map K V) × CanWork K.cmp K.path_of (B.answers bulk.now) m worker_state.old }
+    ensures ok { IfOk result (λ progress. (m : Map K V) → CanWork K.cmp K.path_of (B.answers bulk.now) m worker_state.old → WorksHeld K.cmp K.path_of (B.answers bulk.now) m (B.decides bulk.now) worker_state.old worker_state.old.held (progress_of progress) worker_state.new) }
+    ensures err { OnErr result (worker_state.new ≡ worker_state.old) }
 {
     parts_follow_intervals::<K, V>();
-    let piece = match &desk.held {
+    let piece = match &worker_state.held {
         Some(piece) => piece,
         None => return Ok(Progress::Idle),
     };
     let made = work(alloc, piece, bulk)?;
-    let joined = bulk.join(alloc, &desk.part, &made)?;
+    let joined = bulk.join(alloc, &worker_state.part, &made)?;
     let interval = Interval {
         lo: piece.lo(),
         hi: piece.hi(),
     };
     let settled = bulk.settled(&joined);
     let progress = Progress::Worked(interval.lo, interval.hi, piece.len(), settled);
-    desk.worked.push(interval)?;
-    desk.part = joined;
-    desk.held = None;
+    worker_state.worked.push(interval)?;
+    worker_state.part = joined;
+    worker_state.held = None;
     Ok(progress)
 }

@@ -1,9 +1,9 @@
 //! Random steps, most of which have something to do.
 
 use crate::asks::{Ask, Within};
-use crate::desks::Job;
 use crate::machine::Machine;
 use crate::plans::{Do, Plan};
+use crate::worker_states::Job;
 use core_steps::Move;
 use handles::Limits;
 use std::alloc::Global;
@@ -109,7 +109,7 @@ impl Chooser {
             3 => Plan::Freeze(self.frozen(), self.ask()),
             4 => Plan::Finish(self.job(machine)),
             5 => Plan::Abandon(self.job(machine)),
-            6 => Plan::Turn(self.job(machine), self.any_move(machine.workers)),
+            6 => Plan::Move(self.job(machine), self.any_move(machine.workers)),
             _ => self.lively(machine),
         }
     }
@@ -262,7 +262,7 @@ impl Chooser {
     // A worker that holds a span cuts or works it. One that holds none takes one of its own, or steals one. Where
     // nothing is left, the job is finished.
     fn lively_move(&mut self, job: &Job) -> Plan {
-        let worker = self.random.next(size_of(job.desks.len()));
+        let worker = self.random.next(size_of(job.worker_states.len()));
         let owner = self.owner(job);
         let chosen = match (job.held(worker), owner) {
             (Some(_), _) => self.use_of_held(worker),
@@ -273,7 +273,7 @@ impl Chooser {
                 None => return Plan::Finish(job.number),
             },
         };
-        Plan::Turn(job.number, chosen)
+        Plan::Move(job.number, chosen)
     }
 
     // A worker that holds a span cuts it, or now and then works it.
@@ -288,8 +288,8 @@ impl Chooser {
     fn owner(&mut self, job: &Job) -> Option<u32> {
         let mut owner = None;
         let mut number = 0u32;
-        for desk in &job.desks {
-            if !desk.queue.is_empty() && (owner.is_none() || self.random.next(2) == 0) {
+        for worker_state in &job.worker_states {
+            if !worker_state.queue.is_empty() && (owner.is_none() || self.random.next(2) == 0) {
                 owner = Some(number);
             }
             number = number.saturating_add(1);
@@ -301,8 +301,8 @@ impl Chooser {
 // The first worker that holds something.
 fn holder(job: &Job) -> Option<u32> {
     let mut number = 0u32;
-    for desk in &job.desks {
-        if desk.held.is_some() {
+    for worker_state in &job.worker_states {
+        if worker_state.held.is_some() {
             return Some(number);
         }
         number = number.saturating_add(1);

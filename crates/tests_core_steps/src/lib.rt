@@ -10,8 +10,6 @@ mod choices;
 #[cfg(test)]
 mod client;
 #[cfg(test)]
-mod desks;
-#[cfg(test)]
 mod machine;
 #[cfg(test)]
 mod maps;
@@ -21,3 +19,5 @@ mod plans;
 mod tests;
 #[cfg(test)]
 mod told;
+#[cfg(test)]
+mod worker_states;

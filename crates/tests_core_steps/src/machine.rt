@@ -1,10 +1,10 @@
 //! The machine of handles with its boards, as a plain program over lists.
 
 use crate::asks::Ask;
-use crate::desks::Job;
 use crate::maps::{Place, Row, position_of, value_at, with_value, without};
 use crate::plans::{Do, Plan};
 use crate::told::Told;
+use crate::worker_states::Job;
 use core_steps::Move;
 use handles::Limits;
 use std::alloc::Global;
@@ -72,8 +72,8 @@ impl Machine {
 
     /// Makes a step.
     pub fn step(&mut self, rt: &impl Abort, alloc: Global, plan: Plan) -> Expected {
-        if let Plan::Turn(job, chosen) = plan {
-            return telling(alloc, self.turn(rt, alloc, job, chosen));
+        if let Plan::Move(job, chosen) = plan {
+            return telling(alloc, self.make_move(rt, alloc, job, chosen));
         }
         let answer = match self.refusal_of(plan) {
             Some(refusal) => telling(alloc, Told::Refused(refusal)),
@@ -86,7 +86,7 @@ impl Machine {
     }
 
     // A worker's move.
-    fn turn(&mut self, rt: &impl Abort, alloc: Global, number: u64, chosen: Move) -> Told {
+    fn make_move(&mut self, rt: &impl Abort, alloc: Global, number: u64, chosen: Move) -> Told {
         let (grain, workers) = (self.grain, self.workers);
         let Some(job) = self.job_mut(number) else {
             return Told::Refused(Refusal::NoJob);
@@ -98,7 +98,7 @@ impl Machine {
         if worker >= workers || other >= workers {
             return Told::Refused(Refusal::NoWorker);
         }
-        Told::Turn(job.turn(rt, alloc, chosen, grain))
+        Told::Moved(job.make_move(rt, alloc, chosen, grain))
     }
 
     /// The rows of a handle that is live.
@@ -232,7 +232,7 @@ impl Machine {
                 self.close(job);
                 Told::Abandoned
             }
-            Plan::View(_) | Plan::Finish(_) | Plan::Turn(_, _) => Told::Unit,
+            Plan::View(_) | Plan::Finish(_) | Plan::Move(_, _) => Told::Unit,
         }
     }
 

@@ -44,7 +44,7 @@ pub enum Plan {
     Freeze(u32, Ask),
     Finish(u64),
     Abandon(u64),
-    Turn(u64, Move),
+    Move(u64, Move),
 }
 
 /// The step of a plan.
@@ -60,12 +60,12 @@ pub fn step_of(rt: &impl Abort, alloc: Global, plan: Plan) -> TestStep
         Plan::Freeze(handle, ask) => Step::Freeze(handle, shared_query(rt, alloc, ask)),
         Plan::Finish(job) => Step::Finish(job),
         Plan::Abandon(job) => Step::Abandon(job),
-        Plan::Turn(job, chosen) => turn_of(job, chosen),
+        Plan::Move(job, chosen) => step_of_move(job, chosen),
     }
 }
 
 // The step of a worker's move.
-fn turn_of(job: u64, chosen: Move) -> TestStep
+fn step_of_move(job: u64, chosen: Move) -> TestStep
     ensures { CanAsk IsReady (asked_by result) }
 {
     match chosen {

@@ -34,7 +34,7 @@ pub enum Told {
     Total(i128),
     Unfinished,
     Abandoned,
-    Turn(Progress),
+    Moved(Progress),
     Refused(Refusal),
 }
 
@@ -47,7 +47,7 @@ pub fn told_of(outcome: &TestOutcome) -> Told {
         Outcome::Answer(answer) => answer_told(answer),
         Outcome::Unfinished => Told::Unfinished,
         Outcome::Abandoned => Told::Abandoned,
-        Outcome::Turn(progress) => Told::Turn(*progress),
+        Outcome::Moved(progress) => Told::Moved(*progress),
         Outcome::Refused(refusal) => Told::Refused(*refusal),
     }
 }

@@ -35,14 +35,17 @@ const STEPS: [Row; 21] = [
     (Plan::View(2), Told::Viewed),
     (Plan::Drop(2), Told::Unit),
     (
-        Plan::Turn(0, Move::Take(0)),
-        Told::Turn(Progress::Took(0, END)),
+        Plan::Move(0, Move::Take(0)),
+        Told::Moved(Progress::Took(0, END)),
     ),
-    (Plan::Turn(0, Move::Split(0)), Told::Turn(Progress::Whole)),
-    (Plan::Turn(0, Move::Steal(1, 0)), Told::Turn(Progress::Idle)),
+    (Plan::Move(0, Move::Split(0)), Told::Moved(Progress::Whole)),
     (
-        Plan::Turn(0, Move::Work(0)),
-        Told::Turn(Progress::Worked(0, END, 1, false)),
+        Plan::Move(0, Move::Steal(1, 0)),
+        Told::Moved(Progress::Idle),
+    ),
+    (
+        Plan::Move(0, Move::Work(0)),
+        Told::Moved(Progress::Worked(0, END, 1, false)),
     ),
     (Plan::Finish(0), Told::Total(4)),
     (Plan::Freeze(1, Ask::Zeros(3)), Told::Job(1)),

@@ -28,12 +28,12 @@ pub fn kind_of(told: Told) -> usize {
         Told::Total(_) => 15,
         Told::Unfinished => 16,
         Told::Abandoned => 17,
-        Told::Turn(progress) => kind_of_turn(progress),
+        Told::Moved(progress) => kind_of_progress(progress),
         Told::Refused(refusal) => kind_of_refusal(refusal),
     }
 }
 
-fn kind_of_turn(progress: Progress) -> usize {
+fn kind_of_progress(progress: Progress) -> usize {
     match progress {
         Progress::Took(_, _) => 18,
         Progress::Cut(_, _, _) => 19,

@@ -102,8 +102,8 @@ fn assert_goes_on(rt: &impl Abort, alloc: Global, twins: &mut Twins, rows: &[Row
     assert_alike(rt, alloc, twins);
 }
 
-// The twins' next step has so many bytes of memory: what the core tells of it, if those are enough. Else it is made with
-// ample memory then.
+// The twins' next step has so many bytes of memory: what the core tells of it, if those are enough. Else it is made
+// with ample memory then.
 fn told_next(
     rt: &impl Abort,
     alloc: Global,
@@ -156,7 +156,7 @@ fn asks_for_memory(row: Row, number: usize) -> bool {
     match row.0 {
         Plan::Open(_) | Plan::Freeze(_, _) => true,
         Plan::On(_, Do::Put(_, _)) => number != FIRST_PUT,
-        Plan::Turn(_, Move::Work(_)) => true,
+        Plan::Move(_, Move::Work(_)) => true,
         _ => matches!(row.1, Told::Made(_)),
     }
 }

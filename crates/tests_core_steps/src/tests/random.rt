@@ -22,14 +22,18 @@ const ENDED: usize = 3;
 
 // What a worker has to do until it has nothing of the job.
 fn left(twins: &Twins, number: u64, worker: u32) -> Option<Plan> {
-    let desk = twins.machine.job(number)?.desks.get(worker as usize)?;
-    if desk.held.is_some() {
-        return Some(Plan::Turn(number, Move::Work(worker)));
+    let worker_state = twins
+        .machine
+        .job(number)?
+        .worker_states
+        .get(worker as usize)?;
+    if worker_state.held.is_some() {
+        return Some(Plan::Move(number, Move::Work(worker)));
     }
-    if desk.queue.is_empty() {
+    if worker_state.queue.is_empty() {
         return None;
     }
-    Some(Plan::Turn(number, Move::Take(worker)))
+    Some(Plan::Move(number, Move::Take(worker)))
 }
 
 // The worker works all that it has of a job.

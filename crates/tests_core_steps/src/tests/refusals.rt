@@ -1,4 +1,5 @@
-//! Refusals that are due while requests for memory are refused: all, then those that a few bytes do not serve, and so on.
+//! Refusals that are due while requests for memory are refused: all, then those that a few bytes do not serve, and so
+//! on.
 ghost use Rattle.bulk_ops.specs.Queries.{IsReady};
 ghost use Rattle.core_steps.specs.Steps.{CanAsk, asked_by};
 
@@ -149,31 +150,31 @@ fn a_freeze_without_an_entry_is_refused_whatever_the_memory(rt: HostRuntime) {
 }
 
 const REFUSED_MOVES: [Row; 11] = [
-    (Plan::Turn(1, Move::Take(0)), Told::Refused(Refusal::NoJob)),
+    (Plan::Move(1, Move::Take(0)), Told::Refused(Refusal::NoJob)),
     (
-        Plan::Turn(1, Move::Steal(1, 0)),
+        Plan::Move(1, Move::Steal(1, 0)),
         Told::Refused(Refusal::NoJob),
     ),
-    (Plan::Turn(1, Move::Split(0)), Told::Refused(Refusal::NoJob)),
-    (Plan::Turn(1, Move::Work(2)), Told::Refused(Refusal::NoJob)),
+    (Plan::Move(1, Move::Split(0)), Told::Refused(Refusal::NoJob)),
+    (Plan::Move(1, Move::Work(2)), Told::Refused(Refusal::NoJob)),
     (
-        Plan::Turn(0, Move::Take(2)),
+        Plan::Move(0, Move::Take(2)),
         Told::Refused(Refusal::NoWorker),
     ),
     (
-        Plan::Turn(0, Move::Steal(2, 0)),
+        Plan::Move(0, Move::Steal(2, 0)),
         Told::Refused(Refusal::NoWorker),
     ),
     (
-        Plan::Turn(0, Move::Steal(0, 2)),
+        Plan::Move(0, Move::Steal(0, 2)),
         Told::Refused(Refusal::NoWorker),
     ),
     (
-        Plan::Turn(0, Move::Split(2)),
+        Plan::Move(0, Move::Split(2)),
         Told::Refused(Refusal::NoWorker),
     ),
     (
-        Plan::Turn(0, Move::Work(2)),
+        Plan::Move(0, Move::Work(2)),
         Told::Refused(Refusal::NoWorker),
     ),
     (Plan::Finish(1), Told::Refused(Refusal::NoJob)),

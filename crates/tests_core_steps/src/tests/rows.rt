@@ -1,6 +1,6 @@
 //! Worked lists of steps, by hand: each step by step, and once more as one list. The keys P, Q and R have the path
-//! words 0, 0xc000000000000000 and 1, so that P has position 0 and Q position 12; the keys a, b and c have the words of those
-//! texts.
+//! words 0, 0xc000000000000000 and 1, so that P has position 0 and Q position 12; the keys a, b and c have the words of
+//! those texts.
 
 use super::{Row, assert_is, assert_run, assert_steps, core_of_two, plans_of, tolds_of};
 use crate::asks::{Ask, Within};
@@ -53,29 +53,29 @@ const PUT: [Row; 3] = [
 const CUT: [Row; 4] = [
     (Plan::On(1, Do::Put(R, 3)), Told::Old(None)),
     (
-        Plan::Turn(0, Move::Take(0)),
-        Told::Turn(Progress::Took(0, END)),
+        Plan::Move(0, Move::Take(0)),
+        Told::Moved(Progress::Took(0, END)),
     ),
     (
-        Plan::Turn(0, Move::Split(0)),
-        Told::Turn(Progress::Cut(0, 12, END)),
+        Plan::Move(0, Move::Split(0)),
+        Told::Moved(Progress::Cut(0, 12, END)),
     ),
     (
-        Plan::Turn(0, Move::Steal(1, 0)),
-        Told::Turn(Progress::Took(12, END)),
+        Plan::Move(0, Move::Steal(1, 0)),
+        Told::Moved(Progress::Took(12, END)),
     ),
 ];
 
 // Then worker 1 works, worker 0 works, and the job is not finished before.
 const WORKED: [Row; 3] = [
     (
-        Plan::Turn(0, Move::Work(1)),
-        Told::Turn(Progress::Worked(12, END, 1, false)),
+        Plan::Move(0, Move::Work(1)),
+        Told::Moved(Progress::Worked(12, END, 1, false)),
     ),
     (Plan::Finish(0), Told::Unfinished),
     (
-        Plan::Turn(0, Move::Work(0)),
-        Told::Turn(Progress::Worked(0, 12, 1, false)),
+        Plan::Move(0, Move::Work(0)),
+        Told::Moved(Progress::Worked(0, 12, 1, false)),
     ),
 ];
 
@@ -141,20 +141,20 @@ fn assert_found(rt: &impl Abort, core: &TestCore, worker: u32, position: u128, v
 }
 
 const FOUND: [Row; 1] = [(
-    Plan::Turn(0, Move::Work(1)),
-    Told::Turn(Progress::Worked(12, END, 1, true)),
+    Plan::Move(0, Move::Work(1)),
+    Told::Moved(Progress::Worked(12, END, 1, true)),
 )];
 
 const FOUND_TOO: [Row; 4] = [
-    (Plan::Turn(0, Move::Take(1)), Told::Turn(Progress::Idle)),
+    (Plan::Move(0, Move::Take(1)), Told::Moved(Progress::Idle)),
     (
-        Plan::Turn(0, Move::Take(2)),
+        Plan::Move(0, Move::Take(2)),
         Told::Refused(Refusal::NoWorker),
     ),
-    (Plan::Turn(1, Move::Take(1)), Told::Refused(Refusal::NoJob)),
+    (Plan::Move(1, Move::Take(1)), Told::Refused(Refusal::NoJob)),
     (
-        Plan::Turn(0, Move::Work(0)),
-        Told::Turn(Progress::Worked(0, 12, 1, true)),
+        Plan::Move(0, Move::Work(0)),
+        Told::Moved(Progress::Worked(0, 12, 1, true)),
     ),
 ];
 
@@ -177,7 +177,7 @@ fn assert_part(rt: &impl Abort, core: &TestCore, job: u64, worker: u32, want: Op
 // What is told when both pieces are worked and counted.
 const COUNTED: [Row; 3] = [
     (Plan::Finish(0), Told::Count(2)),
-    (Plan::Turn(0, Move::Take(0)), Told::Refused(Refusal::NoJob)),
+    (Plan::Move(0, Move::Take(0)), Told::Refused(Refusal::NoJob)),
     (Plan::On(1, Do::Size), Told::Size(3)),
 ];
 
@@ -200,8 +200,8 @@ fn a_stolen_piece_is_counted_once_in_one_list(rt: HostRuntime) {
 
 const SETTLED: [Row; 2] = [
     (
-        Plan::Turn(0, Move::Work(1)),
-        Told::Turn(Progress::Worked(12, END, 1, true)),
+        Plan::Move(0, Move::Work(1)),
+        Told::Moved(Progress::Worked(12, END, 1, true)),
     ),
     (Plan::Finish(0), Told::Truth(true)),
 ];
@@ -213,21 +213,21 @@ fn a_settled_part_answers_for_all(rt: HostRuntime) {
 }
 
 const IDLE: [Row; 8] = [
-    (Plan::Turn(0, Move::Take(1)), Told::Turn(Progress::Idle)),
+    (Plan::Move(0, Move::Take(1)), Told::Moved(Progress::Idle)),
     (
-        Plan::Turn(0, Move::Steal(1, 2)),
+        Plan::Move(0, Move::Steal(1, 2)),
         Told::Refused(Refusal::NoWorker),
     ),
     (
-        Plan::Turn(1, Move::Steal(1, 2)),
+        Plan::Move(1, Move::Steal(1, 2)),
         Told::Refused(Refusal::NoJob),
     ),
-    (Plan::Turn(0, Move::Split(0)), Told::Turn(Progress::Whole)),
+    (Plan::Move(0, Move::Split(0)), Told::Moved(Progress::Whole)),
     (
-        Plan::Turn(0, Move::Work(1)),
-        Told::Turn(Progress::Worked(12, END, 1, false)),
+        Plan::Move(0, Move::Work(1)),
+        Told::Moved(Progress::Worked(12, END, 1, false)),
     ),
-    (Plan::Turn(0, Move::Take(1)), Told::Turn(Progress::Idle)),
+    (Plan::Move(0, Move::Take(1)), Told::Moved(Progress::Idle)),
     (Plan::Abandon(0), Told::Abandoned),
     (Plan::Finish(0), Told::Refused(Refusal::NoJob)),
 ];
@@ -249,38 +249,38 @@ const THREE_KEYS: [Row; 16] = [
     (Plan::On(1, Do::Put(C, 3)), Told::Old(None)),
     (Plan::Freeze(1, COUNT), Told::Job(0)),
     (
-        Plan::Turn(0, Move::Take(0)),
-        Told::Turn(Progress::Took(0, END)),
+        Plan::Move(0, Move::Take(0)),
+        Told::Moved(Progress::Took(0, END)),
     ),
     (
-        Plan::Turn(0, Move::Split(0)),
-        Told::Turn(Progress::Cut(0, FIRST, END)),
+        Plan::Move(0, Move::Split(0)),
+        Told::Moved(Progress::Cut(0, FIRST, END)),
     ),
-    (Plan::Turn(0, Move::Split(0)), Told::Turn(Progress::Whole)),
+    (Plan::Move(0, Move::Split(0)), Told::Moved(Progress::Whole)),
     (
-        Plan::Turn(0, Move::Work(0)),
-        Told::Turn(Progress::Worked(0, FIRST, 1, false)),
-    ),
-    (
-        Plan::Turn(0, Move::Take(0)),
-        Told::Turn(Progress::Took(FIRST, END)),
+        Plan::Move(0, Move::Work(0)),
+        Told::Moved(Progress::Worked(0, FIRST, 1, false)),
     ),
     (
-        Plan::Turn(0, Move::Split(0)),
-        Told::Turn(Progress::Cut(FIRST, SECOND, END)),
+        Plan::Move(0, Move::Take(0)),
+        Told::Moved(Progress::Took(FIRST, END)),
     ),
     (
-        Plan::Turn(0, Move::Steal(1, 0)),
-        Told::Turn(Progress::Took(SECOND, END)),
+        Plan::Move(0, Move::Split(0)),
+        Told::Moved(Progress::Cut(FIRST, SECOND, END)),
+    ),
+    (
+        Plan::Move(0, Move::Steal(1, 0)),
+        Told::Moved(Progress::Took(SECOND, END)),
     ),
     (Plan::Finish(0), Told::Unfinished),
     (
-        Plan::Turn(0, Move::Work(1)),
-        Told::Turn(Progress::Worked(SECOND, END, 1, false)),
+        Plan::Move(0, Move::Work(1)),
+        Told::Moved(Progress::Worked(SECOND, END, 1, false)),
     ),
     (
-        Plan::Turn(0, Move::Work(0)),
-        Told::Turn(Progress::Worked(FIRST, SECOND, 1, false)),
+        Plan::Move(0, Move::Work(0)),
+        Told::Moved(Progress::Worked(FIRST, SECOND, 1, false)),
     ),
     (Plan::Finish(0), Told::Count(3)),
 ];

@@ -2,13 +2,13 @@
 //! worker's part tells.
 
 use super::{answer_to, assert_is, assert_run, assert_told, assert_true};
-use crate::desks::Job;
 use crate::machine::{Expected, Machine, answer};
 use crate::maps::Row;
 use crate::plans::{Plan, TestCore, step_of};
 use crate::told::{
     TestOutcome, TestPart, Told, found_row, part_told, rows_of_map, rows_of_view, told_of,
 };
+use crate::worker_states::Job;
 use bulk_ops::{Answer, Part};
 use core_steps::Outcome;
 use handles::MOST_ENTRIES;

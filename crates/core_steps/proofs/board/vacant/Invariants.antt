@@ -1,13 +1,13 @@
 use Rattle.std.proofs.Common.{◌≤◌, ◌-◌, length}
 use Rattle.std.specs.Prelude.{All}
-use Rattle.core_steps.specs.Desks.{IsVacant}
+use Rattle.core_steps.specs.WorkerValues.{IsVacant}
 use Rattle.core_steps.proofs.board.vacant.Given as goal
 
-abbrev pub invariant-desks : goal.invariant-desks
-invariant-desks g l = record {
-  count : length l.desks.items ≤ l.workers;
-  vacant : All (IsVacant (g.B.Bulk.answers l.bulk)) l.desks.items;
+abbrev pub invariant-worker_states : goal.invariant-worker_states
+invariant-worker_states g l = record {
+  count : length l.worker_states.items ≤ l.workers;
+  vacant : All (IsVacant (g.B.Bulk.answers l.bulk)) l.worker_states.items;
 }
 
-abbrev pub decreases-desks : goal.decreases-desks
-decreases-desks g l = l.workers - length l.desks.items
+abbrev pub decreases-worker_states : goal.decreases-worker_states
+decreases-worker_states g l = l.workers - length l.worker_states.items

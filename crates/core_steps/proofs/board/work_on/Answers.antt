@@ -1,8 +1,8 @@
 use Rattle.std.proofs.Common.{◌<◌, length, set, sym, subst}
-use Rattle.core_steps.specs.Desks.{IsJobOn, Works, desk_parts}
+use Rattle.core_steps.specs.WorkerValues.{IsJobOn, Works, state_parts}
 use Rattle.core_steps.specs.Boards.{working}
 use Rattle.core_steps.specs.Parts.{PartsMove}
-use Rattle.core_steps.specs.Views.{turn_of}
+use Rattle.core_steps.specs.Views.{progress_of}
 use Rattle.core_steps.proofs.Takings.{if_ok}
 use Rattle.core_steps.proofs.Workings.{can_work, works_on, works_parts}
 use Rattle.core_steps.proofs.board.work_on.Goals as goal
@@ -12,11 +12,11 @@ work_held-requires-clause-map g c =
     let R = g.K.Ord.cmp in
     let path = g.K.PathKey.path_of in
     let answers = g.B.Bulk.answers c.args.bulk.now in
-    let desks = c.board.inside.desks.items in
+    let worker_states = c.board.inside.worker_states.items in
     let m = c.requires.job.0 in
     let there = subst (λ ds. c.args.worker < length ds) (sym c.board.view_is) c.requires.worker in
     let job = subst (IsJobOn R path answers m) (sym c.board.view_is) c.requires.job.1 in
-    (m, can_work R path answers m desks c.args.worker c.index_mut.result.now there c.index_mut.ensures.value job)
+    (m, can_work R path answers m worker_states c.args.worker c.index_mut.result.now there c.index_mut.ensures.value job)
 
 pub returns-clause-parts : goal.returns-clause-parts
 returns-clause-parts g c =
@@ -24,17 +24,17 @@ returns-clause-parts g c =
     let path = g.K.PathKey.path_of in
     let answers = g.B.Bulk.answers c.args.bulk.now in
     let decides = g.B.Bulk.decides c.args.bulk.now in
-    let desks = c.board.inside.desks.items in
-    let desk = c.index_mut.result.now in
+    let worker_states = c.board.inside.worker_states.items in
+    let worker_state = c.index_mut.result.now in
     let m = c.requires.job.0 in
     let there = subst (λ ds. c.args.worker < length ds) (sym c.board.view_is) c.requires.worker in
     let job = subst (IsJobOn R path answers m) (sym c.board.view_is) c.requires.job.1 in
-    let after = set desks c.args.worker c.work_held.new.desk in
+    let after = set worker_states c.args.worker c.work_held.new.worker_state in
     if_ok _ _ c.work_held.result
     (λ progress works.
-    subst (λ ds. PartsMove (desk_parts ds) (working c.args.worker) (turn_of progress) (desk_parts after)) c.board.view_is
-    (works_parts R path answers m decides desks c.args.worker desk c.work_held.new.desk (turn_of progress) c.index_mut.ensures.value
-    (works m (can_work R path answers m desks c.args.worker desk there c.index_mut.ensures.value job))))
+    subst (λ ds. PartsMove (state_parts ds) (working c.args.worker) (progress_of progress) (state_parts after)) c.board.view_is
+    (works_parts R path answers m decides worker_states c.args.worker worker_state c.work_held.new.worker_state (progress_of progress) c.index_mut.ensures.value
+    (works m (can_work R path answers m worker_states c.args.worker worker_state there c.index_mut.ensures.value job))))
     c.work_held.ensures.ok
 
 pub returns-clause-ok : goal.returns-clause-ok
@@ -43,14 +43,14 @@ returns-clause-ok g c =
     let path = g.K.PathKey.path_of in
     let answers = g.B.Bulk.answers c.args.bulk.now in
     let decides = g.B.Bulk.decides c.args.bulk.now in
-    let desks = c.board.inside.desks.items in
-    let desk = c.index_mut.result.now in
+    let worker_states = c.board.inside.worker_states.items in
+    let worker_state = c.index_mut.result.now in
     let there = subst (λ ds. c.args.worker < length ds) (sym c.board.view_is) c.requires.worker in
-    let after = set desks c.args.worker c.work_held.new.desk in
+    let after = set worker_states c.args.worker c.work_held.new.worker_state in
     if_ok _ _ c.work_held.result
     (λ progress works m given.
     let job = subst (IsJobOn R path answers m) (sym c.board.view_is) given in
-    subst (λ ds. Works R path answers m decides ds c.args.worker (turn_of progress) after) c.board.view_is
-    (works_on R path answers m decides desks c.args.worker desk c.work_held.new.desk (turn_of progress) there c.index_mut.ensures.value job
-    (works m (can_work R path answers m desks c.args.worker desk there c.index_mut.ensures.value job))))
+    subst (λ ds. Works R path answers m decides ds c.args.worker (progress_of progress) after) c.board.view_is
+    (works_on R path answers m decides worker_states c.args.worker worker_state c.work_held.new.worker_state (progress_of progress) there c.index_mut.ensures.value job
+    (works m (can_work R path answers m worker_states c.args.worker worker_state there c.index_mut.ensures.value job))))
     c.work_held.ensures.ok

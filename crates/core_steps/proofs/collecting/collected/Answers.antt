@@ -1,7 +1,7 @@
 use Rattle.std.proofs.Common.{rules, ◌≡◌, false, true, sym, inl, inr, subst, ◌∙◌}
 use Rattle.std.proofs.lemmas.Bool.{false≢true}
 use Rattle.core_steps.specs.Collected.{IsCollected, MayCollect}
-use Rattle.core_steps.specs.Desks.{IsJobOn}
+use Rattle.core_steps.specs.WorkerValues.{IsJobOn}
 use Rattle.core_steps.proofs.Collections.{settled_collects}
 use Rattle.core_steps.proofs.Takings.{if_ok}
 use Rattle.core_steps.proofs.DueSteps.{at_err, if_err}
@@ -16,8 +16,8 @@ returns-clause-part g c =
     let no : c.is_done.result ≡ false = search rules in
     if_ok _ _ c.settled_part.result
     (λ part settles m job.
-    subst (λ ds. IsCollected path answers decides m ds part) c.desks-desks.ensures
-    (settled_collects path answers decides m c.desks-desks.result.now part (λ none. false≢true (sym no ∙ c.is_done.ensures.1 none)) (settles m (subst (IsJobOn R path answers m) (sym c.desks-desks.ensures) job))))
+    subst (λ ds. IsCollected path answers decides m ds part) c.worker_states-worker_states.ensures
+    (settled_collects path answers decides m c.worker_states-worker_states.result.now part (λ none. false≢true (sym no ∙ c.is_done.ensures.1 none)) (settles m (subst (IsJobOn R path answers m) (sym c.worker_states-worker_states.ensures) job))))
     c.settled_part.ensures.part
 
 pub returns-in_err-joined-clause-wanting : goal.returns-in_err-joined-clause-wanting
@@ -27,7 +27,7 @@ returns-in_err-joined-clause-wanting g c =
     let decides = g.B.Bulk.decides c.args.bulk.now in
     let yes : c.is_done.result ≡ true = search rules in
     at_err c.from_residual.result
-    (λ m job. subst (MayCollect path answers decides m) c.desks-desks.ensures (inl (c.is_done.ensures.0 yes)))
+    (λ m job. subst (MayCollect path answers decides m) c.worker_states-worker_states.ensures (inl (c.is_done.ensures.0 yes)))
 
 pub returns-clause-wanting : goal.returns-clause-wanting
 returns-clause-wanting g c =
@@ -36,5 +36,5 @@ returns-clause-wanting g c =
     let answers = g.B.Bulk.answers c.args.bulk.now in
     let decides = g.B.Bulk.decides c.args.bulk.now in
     if_err _ _ c.settled_part.result
-    (λ decided m job. subst (MayCollect path answers decides m) c.desks-desks.ensures (inr (decided m (subst (IsJobOn R path answers m) (sym c.desks-desks.ensures) job))))
+    (λ decided m job. subst (MayCollect path answers decides m) c.worker_states-worker_states.ensures (inr (decided m (subst (IsJobOn R path answers m) (sym c.worker_states-worker_states.ensures) job))))
     c.settled_part.ensures.wanting

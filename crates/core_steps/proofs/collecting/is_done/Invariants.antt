@@ -1,8 +1,8 @@
 use Rattle.std.proofs.Common.{◌≡◌, drop}
-use Rattle.core_steps.specs.Desks.{board}
+use Rattle.core_steps.specs.WorkerValues.{board}
 use Rattle.core_steps.specs.Invariants.{waiting}
 use Rattle.core_steps.proofs.collecting.is_done.Given as goal
 
--- what waits is with the desks that are left
-abbrev pub invariant-loop-desk : goal.invariant-loop-desk
-invariant-loop-desk g l = waiting (board (drop l.desk-index l.desks)) ≡ waiting (board l.desks)
+-- what waits is with the workers that are left
+abbrev pub invariant-loop-worker_state : goal.invariant-loop-worker_state
+invariant-loop-worker_state g l = waiting (board (drop l.worker_state-index l.worker_states)) ≡ waiting (board l.worker_states)

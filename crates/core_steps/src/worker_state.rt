@@ -1,9 +1,9 @@
-//! What one worker of a job has before it.
+//! The state of one worker of a job.
 
 ghost use Rattle.std.specs.Prelude.{◌≡◌, [], IfOk, None, Some, OnErr, is_none, length};
 ghost use Rattle.core_steps.specs.Boards.{oldest, without_oldest};
-ghost use Rattle.core_steps.specs.Desks.{station_split, station_take};
-ghost use Rattle.core_steps.specs.Views.{turn_of};
+ghost use Rattle.core_steps.specs.WorkerValues.{state_split, state_take};
+ghost use Rattle.core_steps.specs.Views.{progress_of};
 
 use crate::progress::Progress;
 use hash_path::PathKey;
@@ -17,27 +17,27 @@ use trie_node::NoMemory;
 /// The pieces that wait for a worker, oldest first; the piece that it holds, if any; the intervals that it has worked,
 /// and the part of their pairs.
 #[derive(Drop)]
-pub(crate) struct Desk<K: PathKey, V, P> {
+pub(crate) struct WorkerState<K: PathKey, V, P> {
     pub(crate) queue: VecDeque<Piece<K, V>>,
     pub(crate) held: Option<Piece<K, V>>,
     pub(crate) part: P,
     pub(crate) worked: Vec<Interval>,
 }
 
-impl<K: PathKey, V, P> Model for Desk<K, V, P> {
-    ghost use Rattle.core_steps.specs.Desks.{Station};
+impl<K: PathKey, V, P> Model for WorkerState<K, V, P> {
+    ghost use Rattle.core_steps.specs.WorkerValues.{WorkerValue};
 
-    ghost Value = { Station K V P };
+    ghost Value = { WorkerValue K V P };
 
     ghost view = { λ d. record { queue = d.queue.items; held = d.held; part = d.part; worked = d.worked.items } };
 }
 
-impl<K: PathKey + Drop, V: Drop, P> Desk<K, V, P> {
-    /// An empty desk, with the part of no pairs. It makes no request for memory.
-    pub(crate) fn new(alloc: Global, part: P) -> Desk<K, V, P>
+impl<K: PathKey + Drop, V: Drop, P> WorkerState<K, V, P> {
+    /// The state of a worker that has nothing yet, with the part of no pairs. It makes no request for memory.
+    pub(crate) fn new(alloc: Global, part: P) -> WorkerState<K, V, P>
         ensures { result ≡ record { queue = []; held = None; part = part; worked = [] } }
     {
-        Desk {
+        WorkerState {
             queue: VecDeque::new(alloc),
             held: None,
             part,
@@ -68,7 +68,7 @@ impl<K: PathKey + Drop, V: Drop, P> Desk<K, V, P> {
 
     /// A worker that holds no piece gets the newest one of its queue.
     pub(crate) fn take(&mut self) -> Progress
-        ensures { (turn_of result, self.new) ≡ station_take self.old }
+        ensures { (progress_of result, self.new) ≡ state_take self.old }
     {
         if self.held.is_some() {
             return Progress::Idle;
@@ -100,7 +100,7 @@ impl<K: PathKey + Drop, V: Drop, P> Desk<K, V, P> {
     /// Cuts the held piece at its cut point, where it has one: the upper piece is put last in the queue. The place in
     /// the queue is made first, and after `NoMemory` all is as before.
     pub(crate) fn split(&mut self, grain: u64) -> Result<Progress, NoMemory>
-        ensures ok { IfOk result (λ progress. (turn_of progress, self.new) ≡ station_split K.path_of grain self.old) }
+        ensures ok { IfOk result (λ progress. (progress_of progress, self.new) ≡ state_split K.path_of grain self.old) }
         ensures err { OnErr result (self.new ≡ self.old) }
     {
         self.queue.reserve(1)?;

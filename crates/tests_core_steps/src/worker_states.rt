@@ -10,7 +10,7 @@ use std::process::Abort;
 
 /// What a worker has of a job. The oldest span stands first in the queue.
 #[derive(Drop)]
-pub struct Desk {
+pub struct WorkerState {
     pub queue: Vec<Span>,
     pub held: Option<Span>,
     pub worked: Vec<Span>,
@@ -22,16 +22,16 @@ pub struct Job {
     pub number: u64,
     pub ask: Ask,
     pub rows: Vec<Row>,
-    pub desks: Vec<Desk>,
+    pub worker_states: Vec<WorkerState>,
 }
 
 // What each worker has at first: the whole map waits for worker 0.
-fn desk_of(rt: &impl Abort, alloc: Global, worker: u32) -> Desk {
+fn worker_state_of(rt: &impl Abort, alloc: Global, worker: u32) -> WorkerState {
     let mut queue = Vec::new(alloc);
     if worker == 0 {
         push_span(rt, &mut queue, (0, END));
     }
-    Desk {
+    WorkerState {
         queue,
         held: None,
         worked: Vec::new(alloc),
@@ -53,20 +53,28 @@ impl Job {
         rows: Vec<Row>,
         workers: u32,
     ) -> Job {
-        let mut desks = Vec::new(alloc);
+        let mut worker_states = Vec::new(alloc);
         for worker in 0..workers {
-            desks.push(desk_of(rt, alloc, worker)).expect(rt, "no room");
+            worker_states
+                .push(worker_state_of(rt, alloc, worker))
+                .expect(rt, "no room");
         }
         Job {
             number,
             ask,
             rows,
-            desks,
+            worker_states,
         }
     }
 
     /// Makes a move, of a worker that there is, where a piece of at most `grain` pairs is not cut.
-    pub fn turn(&mut self, rt: &impl Abort, alloc: Global, chosen: Move, grain: u64) -> Progress {
+    pub fn make_move(
+        &mut self,
+        rt: &impl Abort,
+        alloc: Global,
+        chosen: Move,
+        grain: u64,
+    ) -> Progress {
         match chosen {
             Move::Take(worker) => self.take(worker),
             Move::Steal(worker, from) => self.steal(worker, from),
@@ -77,18 +85,18 @@ impl Job {
 
     /// What the worker holds.
     pub fn held(&self, worker: u32) -> Option<Span> {
-        match self.desks.get(worker as usize) {
-            Some(desk) => desk.held,
+        match self.worker_states.get(worker as usize) {
+            Some(worker_state) => worker_state.held,
             None => None,
         }
     }
 
     // The newest span of the worker's own queue goes to its hands, where they are empty.
     fn take(&mut self, worker: u32) -> Progress {
-        match self.desks.get_mut(worker as usize) {
-            Some(desk) if desk.held.is_none() => {
-                let newest = desk.queue.pop();
-                desk.held = newest;
+        match self.worker_states.get_mut(worker as usize) {
+            Some(worker_state) if worker_state.held.is_none() => {
+                let newest = worker_state.queue.pop();
+                worker_state.held = newest;
                 took(newest)
             }
             _ => Progress::Idle,
@@ -100,12 +108,14 @@ impl Job {
         if self.held(worker).is_some() {
             return Progress::Idle;
         }
-        let oldest = match self.desks.get_mut(from as usize) {
-            Some(desk) if !desk.queue.is_empty() => Some(desk.queue.remove(0)),
+        let oldest = match self.worker_states.get_mut(from as usize) {
+            Some(worker_state) if !worker_state.queue.is_empty() => Some(
+                worker_state.queue.remove(0),
+            ),
             _ => None,
         };
-        if let Some(desk) = self.desks.get_mut(worker as usize) {
-            desk.held = oldest;
+        if let Some(worker_state) = self.worker_states.get_mut(worker as usize) {
+            worker_state.held = oldest;
         }
         took(oldest)
     }
@@ -119,9 +129,9 @@ impl Job {
         let Some(mid) = cut_point(rt, alloc, &rows, grain) else {
             return Progress::Whole;
         };
-        if let Some(desk) = self.desks.get_mut(worker as usize) {
-            desk.held = Some((lo, mid));
-            push_span(rt, &mut desk.queue, (mid, hi));
+        if let Some(worker_state) = self.worker_states.get_mut(worker as usize) {
+            worker_state.held = Some((lo, mid));
+            push_span(rt, &mut worker_state.queue, (mid, hi));
         }
         Progress::Cut(lo, mid, hi)
     }
@@ -131,9 +141,9 @@ impl Job {
         let Some((lo, hi)) = self.held(worker) else {
             return Progress::Idle;
         };
-        if let Some(desk) = self.desks.get_mut(worker as usize) {
-            desk.held = None;
-            push_span(rt, &mut desk.worked, (lo, hi));
+        if let Some(worker_state) = self.worker_states.get_mut(worker as usize) {
+            worker_state.held = None;
+            push_span(rt, &mut worker_state.worked, (lo, hi));
         }
         let pairs = rows_within(rt, alloc, &self.rows, &[(lo, hi)]).len() as u64;
         Progress::Worked(lo, hi, pairs, self.is_settled(rt, alloc, worker))
@@ -141,8 +151,8 @@ impl Job {
 
     /// The rows that the worker has worked.
     pub fn worked_rows(&self, rt: &impl Abort, alloc: Global, worker: u32) -> Vec<Row> {
-        match self.desks.get(worker as usize) {
-            Some(desk) => rows_within(rt, alloc, &self.rows, &desk.worked),
+        match self.worker_states.get(worker as usize) {
+            Some(worker_state) => rows_within(rt, alloc, &self.rows, &worker_state.worked),
             None => Vec::new(alloc),
         }
     }
@@ -156,8 +166,8 @@ impl Job {
 
     // Whether nothing waits and nothing is held.
     fn is_done(&self) -> bool {
-        for desk in &self.desks {
-            if desk.held.is_some() || !desk.queue.is_empty() {
+        for worker_state in &self.worker_states {
+            if worker_state.held.is_some() || !worker_state.queue.is_empty() {
                 return false;
             }
         }
@@ -169,7 +179,7 @@ impl Job {
         if self.is_done() {
             return true;
         }
-        for worker in 0..self.desks.len().min(16) as u32 {
+        for worker in 0..self.worker_states.len().min(16) as u32 {
             if self.is_settled(rt, alloc, worker) {
                 return true;
             }
