@@ -17,7 +17,7 @@ use Rattle.handles.specs.Machine.{Kind, State, Job, Request, open_handle, snapsh
 use Rattle.iter.specs.Intervals.{part}
 use Rattle.splitter.specs.Cuts.{cut_point}
 use Rattle.core_steps.specs.Boards.{Board, Move, named_by, first_board, MoveResult, tells_settled}
-use Rattle.core_steps.specs.Cores.{CoreState, Asked, of_client, of_worker, Told, to_client, to_worker, no_move, Division, WorkerMoves, progress_of, board_of, frozen_map, refusal_of, boards_after, CoreStep, new_core}
+use Rattle.core_steps.specs.Cores.{CoreState, Asked, of_client, of_worker, Told, to_client, to_worker, no_move, Division, WorkerMoves, moved_job, board_of, frozen_map, refusal_of, boards_after, CoreStep, new_core}
 use Rattle.core_steps.specs.Invariants.{IsBoard, IsCore}
 use Rattle.core_steps.proofs.KeptBoards.{CutsWithin, board_kept, first_is_board}
 
@@ -136,7 +136,7 @@ module _ {K V Q : Type 0} (division : Division K V Q) (cuts : (m : Map K V) (gra
       let here = is.matches j ∙ job_there in
       let board : IsBoard s.workers (board_of s j) = its_board (IsBoard s.workers) (value_at nat_cmp s.boards j) here (is.boards j) in
       let named : All (λ w. w < length (board_of s j)) (named_by x) = subst (λ n. All (λ w. w < n) (named_by x)) (sym board.long) (all_below s.workers (named_by x) both.1) in
-      let after : Board = (progress_of division s j x (tells_settled y)).1 in
+      let after : Board = (moved_job division s j x (tells_settled y)).1 in
       let kept : IsBoard s.workers after =
       board_kept (λ i. cut_point division.path (frozen_map s j) i s.grain) (cuts (frozen_map s j) s.grain) s.workers (λ i. length (part division.path (frozen_map s j) i)) (tells_settled y) (board_of s j) x named board in
       subst IsCore (sym move.left) (record {

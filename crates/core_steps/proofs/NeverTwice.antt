@@ -15,7 +15,7 @@ use Rattle.iter.specs.Intervals.{whole, lies_in, cover, AreApart, part}
 use Rattle.core_steps.proofs.Covers.{once}
 use Rattle.splitter.specs.Cuts.{cut_point}
 use Rattle.core_steps.specs.Boards.{Board, Move, taking, stealing, splitting, working, named_by, first_board, all_worked, MoveResult, took, cut, uncut, done, idle, tells_settled}
-use Rattle.core_steps.specs.Cores.{CoreState, Asked, of_client, of_worker, Told, to_client, to_worker, no_move, Division, WorkerMoves, progress_of, board_of, frozen_map, refusal_of, boards_after}
+use Rattle.core_steps.specs.Cores.{CoreState, Asked, of_client, of_worker, Told, to_client, to_worker, no_move, Division, WorkerMoves, moved_job, board_of, frozen_map, refusal_of, boards_after}
 use Rattle.core_steps.specs.Traces.{covered, CoreRun}
 use Rattle.core_steps.specs.Invariants.{IsBoard, IsCore}
 use Rattle.core_steps.proofs.KeptBoards.{CutsWithin}
@@ -119,9 +119,9 @@ module _ {K V Q : Type 0} (division : Division K V Q) (cuts : (m : Map K V) (gra
       let there = not_false (is_some (job_at s.machine j)) both.0 in
       let board : IsBoard s.workers (board_of s j) = its_board (IsBoard s.workers) (value_at nat_cmp s.boards j) (is.matches j ∙ there) (is.boards j) in
       let named : All (λ w. w < length (board_of s j)) (named_by x) = subst (λ n. All (λ w. w < n) (named_by x)) (sym board.long) (all_below s.workers (named_by x) both.1) in
-      let after : Board = (progress_of division s j x (tells_settled y)).1 in
+      let after : Board = (moved_job division s j x (tells_settled y)).1 in
       let more = moved_done (λ i. once i p) (λ i. cut_point division.path (frozen_map s j) i s.grain) (λ i. length (part division.path (frozen_map s j) i)) (tells_settled y) (board_of s j) x named in
-      let told : cover (worked_by (progress_of division s j x (tells_settled y)).0) p ≡ cover (worked_by y) p = ap (λ z. cover (worked_by z) p) (sym move.told) in
+      let told : cover (worked_by (moved_job division s j x (tells_settled y)).0) p ≡ cover (worked_by y) p = ap (λ z. cover (worked_by z) p) (sym move.told) in
       let left : spent t q p ≡ by_parts (is_some (job_at s.machine q)) (cond (eq_by_cmp nat_cmp q j) (Some after) (value_at nat_cmp s.boards q)) s.machine.next q p =
       ap (λ (c : CoreState K V Q). spent c q p) move.left ∙ ap (λ b. by_parts (is_some (job_at s.machine q)) b s.machine.next q p) (at_put s.boards j q after) in
       elim (cases_Bool (j == q)) [

@@ -18,7 +18,7 @@ use Rattle.iter.specs.declared.interval.Interval.{Interval}
 use Rattle.iter.specs.Intervals.{whole, Tile, parts}
 use Rattle.splitter.specs.Cuts.{cut_point}
 use Rattle.core_steps.specs.Boards.{Worker, worker, first_board, Move, named_by}
-use Rattle.core_steps.specs.Views.{progress_of}
+use Rattle.core_steps.specs.Views.{move_result}
 use Rattle.core_steps.specs.declared.progress.Progress.{Progress}
 use Rattle.core_steps.specs.declared.job_state.JobState.{JobState}
 use Rattle.core_steps.specs.Cores.{of_client, of_worker, IsUnfinished, worked_part, refusal_of}
@@ -189,13 +189,13 @@ module _ {K V Q P A I : Type 0} (R : K → K → Ordering) (path : K → ℕ) (a
           no_worker R path answers ready kind Decides cuts s (job_states_of ps) w g j x (job_state_of found.0).1 (open_here found.0 found.1) e
 
       pub moved_here : (d : JobState K V Q P) (x : Move) (p : Progress) (q : Q) (es : List (WorkerValue K V P)) → d ≡ get_or ps place d → q ≡ arc_value d.query → list_any (λ v. nat_le w v) (named_by x) ≡ false
-          → ((m : Map K V) → IsJobOn R path (answers q) m d.board → MovesTo R path (answers q) (Decides q) m g d.board x (progress_of p) es)
+          → ((m : Map K V) → IsJobOn R path (answers q) m d.board → MovesTo R path (answers q) (Decides q) m g d.board x (move_result p) es)
           → StepsTo kind (divided path Decides) (value_of s (job_states_of ps) w g) (of_worker j x) (outcomes.Moved p) (value_of s (job_states_of (set ps place (record d { board = es }))) w g)
           × IsWhole R path answers ready s (job_states_of (set ps place (record d { board = es }))) w g
       moved_here d x p q es read same e moves =
           let stands = open_here d read in
           let number = number_here ps j place d lies read in
-          let goes = subst (λ (r : Q). MovesTo R path (answers r) (Decides r) stands.job.frozen g d.board x (progress_of p) es) same (moves stands.job.frozen (subst (λ (r : Q). IsJobOn R path (answers r) stands.job.frozen d.board) (sym same) stands.has.worker_states)) in
+          let goes = subst (λ (r : Q). MovesTo R path (answers r) (Decides r) stands.job.frozen g d.board x (move_result p) es) same (moves stands.job.frozen (subst (λ (r : Q). IsJobOn R path (answers r) stands.job.frozen d.board) (sym same) stands.has.worker_states)) in
           let put = set_is_put ps place j d (record d { board = es }) is.sorted lies.inside read number number in
           let quiet : state_parts es ≡ state_parts d.board → all_parts (with_pair nat_cmp (job_states_of ps) j (job_state_of (record d { board = es })).1) ≡ all_parts (job_states_of ps) =
           λ parts. ap all_parts (sym put) ∙ same_parts ps place d (record d { board = es }) read (ap (λ (qs : List P). (d.number, qs)) parts) in

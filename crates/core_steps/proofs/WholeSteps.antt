@@ -24,7 +24,7 @@ use Rattle.iter.specs.Intervals.{whole, Tile, part, parts}
 use Rattle.splitter.specs.Cuts.{cut_point}
 use Rattle.core_steps.specs.Boards.{Board, worker, first_board, all_worked, Move, taking, stealing, splitting, working, mover, named_by, moved, MoveResult, took, cut, uncut, done, idle, tells_settled, TellsTruly}
 use Rattle.core_steps.specs.Cores as cores
-use Rattle.core_steps.specs.Views.{progress_of}
+use Rattle.core_steps.specs.Views.{move_result}
 use Rattle.core_steps.specs.declared.progress.Progress.{Progress}
 use Rattle.core_steps.specs.Cores.{CoreState, Asked, of_client, of_worker, Told, to_client, to_worker, no_move, CoreStep, board_of, frozen_map, refusal_of, IsUnfinished, IsSettled}
 use Rattle.core_steps.specs.WorkerValues.{WorkerValue, worker_of, board, state_parts, IsJobOn}
@@ -344,16 +344,16 @@ module _ {K V Q P A I : Type 0} (R : K → K → Ordering) (path : K → ℕ) (a
 
     -- a worker moves
     pub moved_whole : (s : State K V Q) (job_states : Map ℕ (JobValue K V Q P)) (w g j : ℕ) (x : Move) (p : Progress) (job_state : JobValue K V Q P) (es : List (WorkerValue K V P)) (stands : IsOpen s job_states w g j job_state)
-        → list_any (λ v. nat_le w v) (named_by x) ≡ false → MovesTo R path (answers job_state.query) (Decides job_state.query) stands.job.frozen g job_state.worker_states x (progress_of p) es
+        → list_any (λ v. nat_le w v) (named_by x) ≡ false → MovesTo R path (answers job_state.query) (Decides job_state.query) stands.job.frozen g job_state.worker_states x (move_result p) es
         → (state_parts es ≡ state_parts job_state.worker_states → all_parts (with_pair nat_cmp job_states j (record job_state { worker_states = es })) ≡ all_parts job_states) → Whole s job_states w g
         → StepsTo kind (divided path Decides) (value_of s job_states w g) (of_worker j x) (outcomes.Moved p) (value_of s (with_pair nat_cmp job_states j (record job_state { worker_states = es })) w g) × Whole s (with_pair nat_cmp job_states j (record job_state { worker_states = es })) w g
     moved_whole s job_states w g j x p job_state es stands e moves quiet is =
         let S : CoreState K V Q = core_of s job_states w g in
         let next : JobValue K V Q P = record job_state { worker_states = es } in
         let T : CoreState K V Q = core_of s (with_pair nat_cmp job_states j next) w g in
-        let move : move_on path stands.job.frozen g job_state.worker_states x (progress_of p) ≡ cores.progress_of (divided path Decides) S j x (tells_settled (progress_of p)) =
-        λ i. moved (λ k. cut_point path (sym stands.map_is i) k g) (λ k. length (part path (sym stands.map_is i) k)) (tells_settled (progress_of p)) (sym stands.board_is i) x in
-        let boards : boards_of (with_pair nat_cmp job_states j next) ≡ with_pair nat_cmp (boards_of job_states) j (cores.progress_of (divided path Decides) S j x (tells_settled (progress_of p))).1 =
+        let move : move_on path stands.job.frozen g job_state.worker_states x (move_result p) ≡ cores.moved_job (divided path Decides) S j x (tells_settled (move_result p)) =
+        λ i. moved (λ k. cut_point path (sym stands.map_is i) k g) (λ k. length (part path (sym stands.map_is i) k)) (tells_settled (move_result p)) (sym stands.board_is i) x in
+        let boards : boards_of (with_pair nat_cmp job_states j next) ≡ with_pair nat_cmp (boards_of job_states) j (cores.moved_job (divided path Decides) S j x (tells_settled (move_result p))).1 =
         shown_put job_states j next ∙ ap (with_pair nat_cmp (boards_of job_states) j) (moves.left ∙ ap (λ (t : MoveResult × Board). t.1) move) in
         let here : value_at nat_cmp (with_pair nat_cmp job_states j next) j ≡ Some next =
         at_put job_states j j next ∙ ap (λ (b : Bool). cond b (Some next) (value_at nat_cmp job_states j)) (same_ties j j refl) in
@@ -362,17 +362,17 @@ module _ {K V Q P A I : Type 0} (R : K → K → Ordering) (path : K → ℕ) (a
         settled_from (job_at s j) (frozen_map T j) stands.job.frozen (board_of T j) (board es) stands.job job_state.query (mover x) stands.named stands.map_is board_now stands.has.query in
         let undecided : IsSettled (divided path Decides) T j (mover x) → Decides job_state.query (parts path stands.job.frozen (worker (board es) (mover x)).worked) =
         settled_to (job_at s j) (frozen_map T j) stands.job.frozen (board_of T j) (board es) stands.job job_state.query (mover x) stands.named stands.map_is board_now stands.has.query in
-        let core : CoreStep kind (divided path Decides) S (of_worker j x) (to_worker (progress_of p)) T = (
+        let core : CoreStep kind (divided path Decides) S (of_worker j x) (to_worker (move_result p)) T = (
           refusal_is s job_states w g j x job_state false stands e,
           record {
             told = moves.told ∙ ap (λ (t : MoveResult × Board). t.0) move;
             left = λ i. record { machine = s; boards = boards i; workers = w; grain = g };
-            truly = tells_of (progress_of p) _ _ decided undecided moves.truly;
+            truly = tells_of (move_result p) _ _ decided undecided moves.truly;
           },
         ) in (
-          record { told = to_worker (progress_of p); shown = refl; step = core; parts = parts_moved job_states j job_state es x (progress_of p) stands.here quiet moves.parts },
+          record { told = to_worker (move_result p); shown = refl; step = core; parts = parts_moved job_states j job_state es x (move_result p) stands.here quiet moves.parts },
           record {
-            core = step_kept kind (divided path Decides) cuts S (of_worker j x) (to_worker (progress_of p)) T core is.core;
+            core = step_kept kind (divided path Decides) cuts S (of_worker j x) (to_worker (move_result p)) T core is.core;
             sorted = put_sorted job_states j next is.sorted;
             fits = λ k. subst (Fits R path answers ready (job_at s k)) (sym (at_put job_states j k next))
                 (by_number k (eq_by_cmp nat_cmp k j) refl (value_at nat_cmp job_states k) (is.fits k));

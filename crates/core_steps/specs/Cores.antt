@@ -77,13 +77,13 @@ module _ {K V Q : Type 0} (division : Division K V Q) where
   IsSettled s j w = IsSomeAnd (job_at s.machine j) (λ job. division.Decides job.query (worked_part s j w))
 
   -- a worker's move on an open job, by the cut points and the sizes of the parts of the frozen map
-  abbrev pub progress_of : CoreState K V Q → ℕ → Move → Bool → MoveResult × Board
-  progress_of s j x settled = moved (λ i. cut_point division.path (frozen_map s j) i s.grain) (λ i. length (frozen_part s j i)) settled (board_of s j) x
+  abbrev pub moved_job : CoreState K V Q → ℕ → Move → Bool → MoveResult × Board
+  moved_job s j x settled = moved (λ i. cut_point division.path (frozen_map s j) i s.grain) (λ i. length (frozen_part s j i)) settled (board_of s j) x
 
   -- a worker's step: the board's, and what it tells of settling is true
   pub record WorkerMoves (s : CoreState K V Q) (j : ℕ) (x : Move) (y : MoveResult) (t : CoreState K V Q) : Type 0 where
-    pub told : y ≡ (progress_of s j x (tells_settled y)).0
-    pub left : t ≡ record s { boards = with_pair nat_cmp s.boards j (progress_of s j x (tells_settled y)).1 }
+    pub told : y ≡ (moved_job s j x (tells_settled y)).0
+    pub left : t ≡ record s { boards = with_pair nat_cmp s.boards j (moved_job s j x (tells_settled y)).1 }
     pub truly : TellsTruly y (IsSettled t j (mover x))
 
   -- a job is unfinished: the worked intervals do not tile, and for no worker do the pairs that it has worked decide the query

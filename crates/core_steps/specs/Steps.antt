@@ -17,7 +17,7 @@ use Rattle.core_steps.specs.Cores.{CoreState, Asked, of_client, of_worker, Told,
 use Rattle.core_steps.specs.Parts.{CoreValue, PartsStep, PartsRun}
 use Rattle.core_steps.specs.Moves.{moves_without_memory}
 use Rattle.core_steps.specs.Traces.{client_requests, client_outcomes, covered, CoreRun}
-use Rattle.core_steps.specs.Views.{progress_of}
+use Rattle.core_steps.specs.Views.{move_result}
 use Rattle.core_steps.specs.declared.step.Step.{Step}
 use Rattle.core_steps.specs.declared.step.Step.TheVariants.{Call, View, Freeze, Finish, Abandon, Take, Steal, Split, Work}
 use Rattle.core_steps.specs.declared.outcome.Outcome.{Outcome}
@@ -54,7 +54,7 @@ module _ {K V Q I : Type 0} where
   Shows x (outcomes.Answer a) t = t ≡ to_client (finished (told_of a))
   Shows x outcomes.Unfinished t = t ≡ to_client unfinished
   Shows x outcomes.Abandoned t = t ≡ to_client made
-  Shows x (outcomes.Moved p) t = t ≡ to_worker (progress_of p)
+  Shows x (outcomes.Moved p) t = t ≡ to_worker (move_result p)
   Shows x (outcomes.Refused e) t = t ≡ refusal_told x e
 
 -- what is answered where a step is refused: want of memory is no outcome

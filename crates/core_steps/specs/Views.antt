@@ -4,9 +4,9 @@ use Rattle.core_steps.specs.declared.progress.Progress.{Progress}
 use Rattle.core_steps.specs.declared.progress.Progress.TheVariants.{Took, Cut, Whole, Worked, Idle}
 
 -- what a worker's move was answered, as the board answers it
-abbrev pub progress_of : Progress → MoveResult
-progress_of (Took lo hi) = took lo hi
-progress_of (Cut lo mid hi) = cut lo mid hi
-progress_of Whole = uncut
-progress_of (Worked lo hi n settled) = done lo hi n settled
-progress_of Idle = idle
+abbrev pub move_result : Progress → MoveResult
+move_result (Took lo hi) = took lo hi
+move_result (Cut lo mid hi) = cut lo mid hi
+move_result Whole = uncut
+move_result (Worked lo hi n settled) = done lo hi n settled
+move_result Idle = idle

@@ -7,7 +7,7 @@ ghost use Rattle.splitter.specs.Cuts.{cut_point};
 ghost use Rattle.std.specs.VecDeque.{deque_capacity, deque_len};
 ghost use Rattle.core_steps.specs.WorkerValues.{HasPieces, IsJobOn, IsVacant, Leaves, WorkerValue, Works, board, splitting_move, state_parts, stealing_move, taking_move};
 ghost use Rattle.core_steps.specs.Parts.{PartsMove};
-ghost use Rattle.core_steps.specs.Views.{progress_of};
+ghost use Rattle.core_steps.specs.Views.{move_result};
 
 use crate::progress::Progress;
 use crate::worker_state::WorkerState;
@@ -72,7 +72,7 @@ impl<K: PathKey + Drop, V: Drop, P> Board<K, V, P> {
     /// A worker that holds no piece takes the newest one of its queue.
     pub fn take(&mut self, worker: u32) -> Progress
         requires { worker < length self.old }
-        ensures { Leaves self.old self.new (progress_of result) (taking_move self.old worker) }
+        ensures { Leaves self.old self.new (move_result result) (taking_move self.old worker) }
     {
         self.worker_states[worker as usize].take()
     }
@@ -81,7 +81,7 @@ impl<K: PathKey + Drop, V: Drop, P> Board<K, V, P> {
     pub fn steal(&mut self, worker: u32, from: u32) -> Progress
         requires thief { worker < length self.old }
         requires owner { from < length self.old }
-        ensures { Leaves self.old self.new (progress_of result) (stealing_move self.old worker from) }
+        ensures { Leaves self.old self.new (move_result result) (stealing_move self.old worker from) }
     {
         if !self.worker_states[worker as usize].is_free() {
             return Progress::Idle;
@@ -96,7 +96,7 @@ impl<K: PathKey + Drop, V: Drop, P> Board<K, V, P> {
     /// then. After `NoMemory` all is as before.
     pub fn split(&mut self, worker: u32, grain: u64) -> Result<Progress, NoMemory>
         requires { worker < length self.old }
-        ensures ok { IfOk result (λ progress. (m : Map K V) → All (HasPieces m) self.old → Leaves self.old self.new (progress_of progress) (splitting_move (λ i. cut_point K.path_of m i grain) self.old worker)) }
+        ensures ok { IfOk result (λ progress. (m : Map K V) → All (HasPieces m) self.old → Leaves self.old self.new (move_result progress) (splitting_move (λ i. cut_point K.path_of m i grain) self.old worker)) }
         ensures err { OnErr result (self.new ≡ self.old) }
     {
         self.worker_states[worker as usize].split(grain)
@@ -170,8 +170,8 @@ pub fn work_on<K: PathKey + Drop, V: Drop, B: Bulk<K, V>>(
     requires ready { B.ready bulk.now }
     requires worker { worker < length board.old }
     requires job { (m : Map K V) × IsJobOn K.cmp K.path_of (B.answers bulk.now) m board.old }
-    ensures ok { IfOk result (λ progress. (m : Map K V) → IsJobOn K.cmp K.path_of (B.answers bulk.now) m board.old → Works K.cmp K.path_of (B.answers bulk.now) m (B.decides bulk.now) board.old worker (progress_of progress) board.new) }
-    ensures parts { IfOk result (λ progress. PartsMove (state_parts board.old) (working worker) (progress_of progress) (state_parts board.new)) }
+    ensures ok { IfOk result (λ progress. (m : Map K V) → IsJobOn K.cmp K.path_of (B.answers bulk.now) m board.old → Works K.cmp K.path_of (B.answers bulk.now) m (B.decides bulk.now) board.old worker (move_result progress) board.new) }
+    ensures parts { IfOk result (λ progress. PartsMove (state_parts board.old) (working worker) (move_result progress) (state_parts board.new)) }
     ensures err { OnErr result (board.new ≡ board.old) }
 {
     work_held(alloc, bulk, &mut board.worker_states[worker as usize])

@@ -4,7 +4,7 @@ ghost use Rattle.std.specs.List.{list_any};
 ghost use Rattle.core_steps.specs.Boards.{named_by};
 ghost use Rattle.core_steps.specs.WorkerValues.{IsJobOn};
 ghost use Rattle.core_steps.specs.Moves.{MovesTo, move_of, moves_without_memory};
-ghost use Rattle.core_steps.specs.Views.{progress_of};
+ghost use Rattle.core_steps.specs.Views.{move_result};
 ghost use Rattle.versions.specs.Map.{Map};
 
 use crate::board::{Board, work_on};
@@ -51,7 +51,7 @@ pub fn make_move<K: PathKey + Drop, V: Drop, B: Bulk<K, V>>(
     requires ready { B.ready bulk.now }
     requires named { All (λ w. w < length board.old) (named_by (move_of chosen)) }
     requires job { (m : Map K V) × IsJobOn K.cmp K.path_of (B.answers bulk.now) m board.old }
-    ensures ok { IfOk result (λ progress. (m : Map K V) → IsJobOn K.cmp K.path_of (B.answers bulk.now) m board.old → MovesTo K.cmp K.path_of (B.answers bulk.now) (B.decides bulk.now) m grain board.old (move_of chosen) (progress_of progress) board.new) }
+    ensures ok { IfOk result (λ progress. (m : Map K V) → IsJobOn K.cmp K.path_of (B.answers bulk.now) m board.old → MovesTo K.cmp K.path_of (B.answers bulk.now) (B.decides bulk.now) m grain board.old (move_of chosen) (move_result progress) board.new) }
     ensures err { OnErr result (board.new ≡ board.old) }
     ensures memory { OnErr result (moves_without_memory (move_of chosen) ≡ false) }
 {

@@ -3,7 +3,7 @@
 ghost use Rattle.std.specs.Prelude.{◌≡◌, [], IfOk, None, Some, OnErr, is_none, length};
 ghost use Rattle.core_steps.specs.Boards.{oldest, without_oldest};
 ghost use Rattle.core_steps.specs.WorkerValues.{state_split, state_take};
-ghost use Rattle.core_steps.specs.Views.{progress_of};
+ghost use Rattle.core_steps.specs.Views.{move_result};
 
 use crate::progress::Progress;
 use hash_path::PathKey;
@@ -68,7 +68,7 @@ impl<K: PathKey + Drop, V: Drop, P> WorkerState<K, V, P> {
 
     /// A worker that holds no piece gets the newest one of its queue.
     pub(crate) fn take(&mut self) -> Progress
-        ensures { (progress_of result, self.new) ≡ state_take self.old }
+        ensures { (move_result result, self.new) ≡ state_take self.old }
     {
         if self.held.is_some() {
             return Progress::Idle;
@@ -100,7 +100,7 @@ impl<K: PathKey + Drop, V: Drop, P> WorkerState<K, V, P> {
     /// Cuts the held piece at its cut point, where it has one: the upper piece is put last in the queue. The place in
     /// the queue is made first, and after `NoMemory` all is as before.
     pub(crate) fn split(&mut self, grain: u64) -> Result<Progress, NoMemory>
-        ensures ok { IfOk result (λ progress. (progress_of progress, self.new) ≡ state_split K.path_of grain self.old) }
+        ensures ok { IfOk result (λ progress. (move_result progress, self.new) ≡ state_split K.path_of grain self.old) }
         ensures err { OnErr result (self.new ≡ self.old) }
     {
         self.queue.reserve(1)?;

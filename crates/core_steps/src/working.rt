@@ -3,7 +3,7 @@
 ghost use Rattle.std.specs.Prelude.{◌≡◌, IfOk, OnErr};
 ghost use Rattle.versions.specs.Map.{Map};
 ghost use Rattle.core_steps.specs.WorkerValues.{CanWork, WorksHeld};
-ghost use Rattle.core_steps.specs.Views.{progress_of};
+ghost use Rattle.core_steps.specs.Views.{move_result};
 
 use crate::progress::Progress;
 use crate::worker_state::WorkerState;
@@ -23,7 +23,7 @@ pub(crate) fn work_held<K: PathKey + Drop, V: Drop, B: Bulk<K, V>>(
 ) -> Result<Progress, NoMemory>
     requires ready { B.ready bulk.now }
     requires map { (m : Map K V) × CanWork K.cmp K.path_of (B.answers bulk.now) m worker_state.old }
-    ensures ok { IfOk result (λ progress. (m : Map K V) → CanWork K.cmp K.path_of (B.answers bulk.now) m worker_state.old → WorksHeld K.cmp K.path_of (B.answers bulk.now) m (B.decides bulk.now) worker_state.old worker_state.old.held (progress_of progress) worker_state.new) }
+    ensures ok { IfOk result (λ progress. (m : Map K V) → CanWork K.cmp K.path_of (B.answers bulk.now) m worker_state.old → WorksHeld K.cmp K.path_of (B.answers bulk.now) m (B.decides bulk.now) worker_state.old worker_state.old.held (move_result progress) worker_state.new) }
     ensures err { OnErr result (worker_state.new ≡ worker_state.old) }
 {
     parts_follow_intervals::<K, V>();

@@ -2,7 +2,7 @@ use Rattle.std.proofs.Common.{◌<◌, length, set, sym, subst}
 use Rattle.core_steps.specs.WorkerValues.{IsJobOn, Works, state_parts}
 use Rattle.core_steps.specs.Boards.{working}
 use Rattle.core_steps.specs.Parts.{PartsMove}
-use Rattle.core_steps.specs.Views.{progress_of}
+use Rattle.core_steps.specs.Views.{move_result}
 use Rattle.core_steps.proofs.Takings.{if_ok}
 use Rattle.core_steps.proofs.Workings.{can_work, works_on, works_parts}
 use Rattle.core_steps.proofs.board.work_on.Goals as goal
@@ -32,8 +32,8 @@ returns-clause-parts g c =
     let after = set worker_states c.args.worker c.work_held.new.worker_state in
     if_ok _ _ c.work_held.result
     (λ progress works.
-    subst (λ ds. PartsMove (state_parts ds) (working c.args.worker) (progress_of progress) (state_parts after)) c.board.view_is
-    (works_parts R path answers m decides worker_states c.args.worker worker_state c.work_held.new.worker_state (progress_of progress) c.index_mut.ensures.value
+    subst (λ ds. PartsMove (state_parts ds) (working c.args.worker) (move_result progress) (state_parts after)) c.board.view_is
+    (works_parts R path answers m decides worker_states c.args.worker worker_state c.work_held.new.worker_state (move_result progress) c.index_mut.ensures.value
     (works m (can_work R path answers m worker_states c.args.worker worker_state there c.index_mut.ensures.value job))))
     c.work_held.ensures.ok
 
@@ -50,7 +50,7 @@ returns-clause-ok g c =
     if_ok _ _ c.work_held.result
     (λ progress works m given.
     let job = subst (IsJobOn R path answers m) (sym c.board.view_is) given in
-    subst (λ ds. Works R path answers m decides ds c.args.worker (progress_of progress) after) c.board.view_is
-    (works_on R path answers m decides worker_states c.args.worker worker_state c.work_held.new.worker_state (progress_of progress) there c.index_mut.ensures.value job
+    subst (λ ds. Works R path answers m decides ds c.args.worker (move_result progress) after) c.board.view_is
+    (works_on R path answers m decides worker_states c.args.worker worker_state c.work_held.new.worker_state (move_result progress) there c.index_mut.ensures.value job
     (works m (can_work R path answers m worker_states c.args.worker worker_state there c.index_mut.ensures.value job))))
     c.work_held.ensures.ok

@@ -1,6 +1,6 @@
 use Rattle.std.proofs.Common.{◌≡◌, ◌<◌, length, set, sym, subst, ap, ◌∙◌, is_none, true, arith}
 use Rattle.core_steps.specs.WorkerValues.{Leaves, stealing_move}
-use Rattle.core_steps.specs.Views.{progress_of}
+use Rattle.core_steps.specs.Views.{move_result}
 use Rattle.core_steps.proofs.Takings.{steal_leaves}
 use Rattle.core_steps.proofs.board.Board.steal.Goals as goal
 
@@ -11,6 +11,6 @@ returns-in-Some g c =
     let there = subst (λ ds. c.args.worker < length ds) (sym c.self.view_is) c.requires.thief in
     let other = subst (λ ds. c.args.from < length ds) (sym c.self.view_is) c.requires.owner in
     let free : is_none (c.index.result.now).held ≡ true = grind arith in
-    subst (λ ds. Leaves ds after (progress_of c.hold.result) (stealing_move ds c.args.worker c.args.from)) c.self.view_is
-    (steal_leaves worker_states c.args.worker c.args.from c.index.result.now c.index_mut.result.now c.oldest.new.self c.index_mut-in-Some.result.now c.hold.new.self c.in-Some.piece (progress_of c.hold.result)
-    there other c.index.ensures free c.index_mut.ensures.value (sym c.oldest.ensures.piece ∙ c.in-Some.is) c.oldest.ensures.left c.index_mut-in-Some.ensures.value c.hold.ensures.held (ap progress_of c.hold.ensures.told))
+    subst (λ ds. Leaves ds after (move_result c.hold.result) (stealing_move ds c.args.worker c.args.from)) c.self.view_is
+    (steal_leaves worker_states c.args.worker c.args.from c.index.result.now c.index_mut.result.now c.oldest.new.self c.index_mut-in-Some.result.now c.hold.new.self c.in-Some.piece (move_result c.hold.result)
+    there other c.index.ensures free c.index_mut.ensures.value (sym c.oldest.ensures.piece ∙ c.in-Some.is) c.oldest.ensures.left c.index_mut-in-Some.ensures.value c.hold.ensures.held (ap move_result c.hold.ensures.told))
