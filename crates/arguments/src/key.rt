@@ -9,6 +9,9 @@ use std::alloc::{AllocError, Global};
 use std::marker::Model;
 use std::sync::Arc;
 
+/// The most bytes of a key.
+pub const MOST_KEY_BYTES: usize = 64;
+
 /// A key: 1 to 64 bytes, each from 0x21 to 0x7e. Its text is shared with the maps that get it.
 #[derive(Debug, Drop)]
 pub struct Key {
@@ -88,5 +91,5 @@ impl Key {
 fn is_key(bytes: &[u8]) -> bool
     ensures { IsTrue result ↔ IsKey bytes.now }
 {
-    (1..=64).contains(&bytes.len()) && bytes.iter().all(|b| (0x21..=0x7e).contains(b))
+    (1..=MOST_KEY_BYTES).contains(&bytes.len()) && bytes.iter().all(|b| (0x21..=0x7e).contains(b))
 }

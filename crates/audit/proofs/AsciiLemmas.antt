@@ -27,7 +27,7 @@ use Rattle.script.specs.Statements.{fold_argument, spelling_of, IsInRange, AreIn
 use Rattle.script.specs.Replies.{pair_text, refusal_name}
 use Rattle.script.specs.declared.statement.Statement.{Statement}
 use Rattle.script.specs.declared.statement.Statement.TheVariants.{Open, Snap, Drop}
-use Rattle.questions.specs.Program.{ProgramRequest, ProgramOutcome, ProgramTold, command_statement, question_statement}
+use Rattle.questions.specs.Program.{ProgramRequest, ProgramOutcome, ProgramSummary, command_statement, question_statement}
 use Rattle.journal_text.specs.Calls.{IsLawfulRequest, call_text, outcome_text}
 use Rattle.audit.proofs.MapLemmas.{Each}
 use Rattle.audit.proofs.ByteLemmas.{IsAscii, AreAscii, ascii_append, ascii_behind, ascii_decimal, ascii_joined, ascii_literal, ascii_places, ascii_signed}
@@ -111,9 +111,9 @@ abbrev pub IsPlainMap : Map (List ℕ) ℤ → Type 0
 IsPlainMap m = Each IsPlainKey IsPlainValue m
 
 -- the key of a pair that is told is ASCII, and so are those of a map
-abbrev pub IsAsciiTold : ProgramTold → Type 0
-IsAsciiTold (plain.Told.found (Some x)) = IsAscii x.0
-IsAsciiTold (plain.Told.images m) = IsPlainMap m
+abbrev pub IsAsciiTold : ProgramSummary → Type 0
+IsAsciiTold (plain.Summary.found (Some x)) = IsAscii x.0
+IsAsciiTold (plain.Summary.images m) = IsPlainMap m
 IsAsciiTold b = Unit {0}
 
 -- the keys that the outcome shows are ASCII
@@ -133,17 +133,17 @@ ascii_refusal : (e : Refusal) → IsAscii (refusal_name e)
 ascii_refusal NoHandle = ascii_literal (codes "NoHandle") refl
 ascii_refusal e = ascii_literal (refusal_name e) refl
 
-ascii_told : (b : ProgramTold) → IsAsciiTold b → IsAscii (outcome_text (finished b))
-ascii_told (plain.Told.number n) h = ascii_behind (codes "count ") (decimal n) refl (ascii_decimal n)
-ascii_told (plain.Told.truth true) h = ascii_literal (codes "true") refl
-ascii_told (plain.Told.truth false) h = ascii_literal (codes "false") refl
-ascii_told (plain.Told.found None) h = ascii_literal (codes "none") refl
-ascii_told (plain.Told.found (Some x)) h =
+ascii_told : (b : ProgramSummary) → IsAsciiTold b → IsAscii (outcome_text (finished b))
+ascii_told (plain.Summary.number n) h = ascii_behind (codes "count ") (decimal n) refl (ascii_decimal n)
+ascii_told (plain.Summary.truth true) h = ascii_literal (codes "true") refl
+ascii_told (plain.Summary.truth false) h = ascii_literal (codes "false") refl
+ascii_told (plain.Summary.found None) h = ascii_literal (codes "none") refl
+ascii_told (plain.Summary.found (Some x)) h =
     ascii_append (codes "pair " ++ x.0) _ (ascii_behind (codes "pair ") x.0 refl h) (omega arith, ascii_signed x.1)
-ascii_told (plain.Told.made n) h = ascii_behind (codes "count ") (decimal n) refl (ascii_decimal n)
-ascii_told (plain.Told.images m) h = ascii_behind (codes "pairs") (flat_map pair_text m) refl (ascii_pairs m h)
-ascii_told (plain.Told.item None) h = ascii_literal (codes "none") refl
-ascii_told (plain.Told.item (Some n)) h = ascii_behind (codes "item ") (signed_decimal n) refl (ascii_signed n)
+ascii_told (plain.Summary.made n) h = ascii_behind (codes "count ") (decimal n) refl (ascii_decimal n)
+ascii_told (plain.Summary.images m) h = ascii_behind (codes "pairs") (flat_map pair_text m) refl (ascii_pairs m h)
+ascii_told (plain.Summary.item None) h = ascii_literal (codes "none") refl
+ascii_told (plain.Summary.item (Some n)) h = ascii_behind (codes "item ") (signed_decimal n) refl (ascii_signed n)
 
 ascii_replied : (y : commands.Reply ℤ) → IsAscii (outcome_text (replied y))
 ascii_replied (old None) = ascii_literal (codes "none") refl

@@ -7,7 +7,7 @@ use Rattle.versions.specs.declared.refusal.Refusal.TheVariants.{NoJob}
 use Rattle.handles.specs.Machine.{Step, Job, job_at, refusal, finish, finished, refused}
 use Rattle.journal.specs.Journals.{is_filed}
 use Rattle.questions.specs.Queries.{ScriptQuestion, answers}
-use Rattle.questions.specs.Program.{program, ProgramState, ProgramOutcome, ProgramTold}
+use Rattle.questions.specs.Program.{program, ProgramState, ProgramOutcome, ProgramSummary}
 use Rattle.handles.specs.Views.{IsStep, lacks_memory}
 use Rattle.questions.proofs.OneStep.{Settled, settled}
 use Rattle.journal_text.specs.Calls.{outcome_text}
@@ -51,7 +51,7 @@ some_settled s t j job text o there none filed is (inr (clear, g)) =
     let f = finish_told s j o t filed g in
     let named : Some f.2.job ≡ Some job = sym f.2.named ∙ there in
     let same : f.2.job ≡ job = cc in
-    none f.2.answer (subst (λ (x : ScriptJob). answers x.query x.frozen f.2.answer) same f.2.is_answer.0) (in_order s t j f.0 f.2) (is ∙ ap outcome_text (f.1 ∙ ap (λ (b : ProgramTold). finished b) f.2.told))
+    none f.2.answer (subst (λ (x : ScriptJob). answers x.query x.frozen f.2.answer) same f.2.is_answer.0) (in_order s t j f.0 f.2) (is ∙ ap outcome_text (f.1 ∙ ap (λ (b : ProgramSummary). finished b) f.2.told))
 
 -- where no answer of its query is told so, no entry tells of its end so
 pub untold : (s : ProgramState) (j : ℕ) (job : ScriptJob) (text : List ℕ) → job_at s j ≡ Some job → NoneTold job.query job.frozen text → NoneAnswers s (finish j) text
@@ -61,12 +61,12 @@ refused_open : (s t : ProgramState) (j : ℕ) (job : ScriptJob) (e : Refusal) �
 refused_open s t j job e there why = let bad : Some e ≡ None = sym why ∙ open_job s j job there in cc
 
 -- an open job is finished by a part that answers
-pub finished_so : {T : Type 0} (s t : ProgramState) (j : ℕ) (job : ScriptJob) (shown : T → ProgramOutcome) (told : T → ProgramTold) (answer : Result T Refusal) (answers_so : ProgramTold) (text : List ℕ)
+pub finished_so : {T : Type 0} (s t : ProgramState) (j : ℕ) (job : ScriptJob) (shown : T → ProgramOutcome) (told : T → ProgramSummary) (answer : Result T Refusal) (answers_so : ProgramSummary) (text : List ℕ)
     → job_at s j ≡ Some job → ((x : T) → shown x ≡ finished (told x)) → lacks_memory answer ≡ false → IsStep program s (finish j) shown answer t → IfOk answer (λ x. told x ≡ answers_so) → text ≡ outcome_text (finished answers_so)
     → MatchBool (is_ok answer) (Answers s (finish j) text t) (NoneAnswers s (finish j) text)
 finished_so s t j job shown told (Ok x) b text there by some step is tells = record {
   outcome = finished b;
-  step = subst (λ (o : ProgramOutcome). Step program s (finish j) o t) (by x ∙ ap (λ (c : ProgramTold). finished c) is) (step_of s t (finish j) shown (Ok x) some step);
+  step = subst (λ (o : ProgramOutcome). Step program s (finish j) o t) (by x ∙ ap (λ (c : ProgramSummary). finished c) is) (step_of s t (finish j) shown (Ok x) some step);
   filed = refl;
   text = tells;
 }

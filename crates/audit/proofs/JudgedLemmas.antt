@@ -16,7 +16,7 @@ use Rattle.handles.specs.Machine.{Step, made, replied, viewed, frozen, finished,
 use Rattle.journal.specs.Journals.{is_filed}
 use Rattle.script.specs.Replies.{text_of}
 use Rattle.script.specs.declared.reply.LineReply.{LineReply}
-use Rattle.questions.specs.Program.{program, ProgramState, ProgramRequest, ProgramOutcome, ProgramTold, reply_to}
+use Rattle.questions.specs.Program.{program, ProgramState, ProgramRequest, ProgramOutcome, ProgramSummary, reply_to}
 use Rattle.questions.specs.Laws.{is_settled_at_once}
 use Rattle.questions.proofs.OneStep.{granted_once, one_step}
 use Rattle.journal_text.specs.Calls.{outcome_text, reply_text}
@@ -28,7 +28,7 @@ IsNoFinish (finished b) = ⊥
 IsNoFinish o = Unit {0}
 
 -- a request that is settled at once is answered as no finish is
-not_granted : (r : ProgramRequest) (s t : ProgramState) (b : ProgramTold) → is_settled_at_once r ≡ true → Granted program s r (finished b) t → ⊥
+not_granted : (r : ProgramRequest) (s t : ProgramState) (b : ProgramSummary) → is_settled_at_once r ≡ true → Granted program s r (finished b) t → ⊥
 not_granted (finish j) s t b once g = cc
 not_granted worker_step s t b once g = g
 not_granted (open_handle h) s t b once g = g

@@ -135,7 +135,7 @@ map_keys q m (plain.Answer.found x) asked a all = tt
 map_keys q m (plain.Answer.item i) asked a all = tt
 map_keys q m a asked is all = absurd is
 
-told_key : (q : ScriptQuestion) (m : Map (List ℕ) ℤ) (a : ProgramAnswer) → IsAsked q → answers q m a → IsPlainMap m → IsAsciiTold (plain.told a)
+told_key : (q : ScriptQuestion) (m : Map (List ℕ) ℤ) (a : ProgramAnswer) → IsAsked q → answers q m a → IsPlainMap m → IsAsciiTold (plain.summary a)
 told_key (find t) m (plain.Answer.found (Some x)) asked a all = (contained m x a.0.0 a.0.1 a.0.2 all).0.0
 told_key (paired f to) m (plain.Answer.images n) asked a all = image_keys f m n asked all a
 told_key q m (plain.Answer.found None) asked a all = tt

@@ -3,13 +3,13 @@ use Rattle.std.proofs.Common.{◌≡◌, Bool, true, false, ℕ, ◌+◌, ◌∙
 use Rattle.versions.specs.declared.refusal.Refusal.{Refusal}
 use Rattle.handles.specs.Machine.{Step, Granted, Finishes, is_entry, open_handle, snapshot, drop_handle, on, view, freeze, finish, abandon, worker_step, made, replied, viewed, frozen, finished, unfinished, refused, worked}
 use Rattle.journal.specs.Journals.{is_filed}
-use Rattle.questions.specs.Program.{program, ProgramTold, ProgramState, ProgramRequest, ProgramOutcome}
+use Rattle.questions.specs.Program.{program, ProgramSummary, ProgramState, ProgramRequest, ProgramOutcome}
 use Rattle.questions.proofs.OneStep.{Settled, settled, refused_in, granted_once, one_step, one_open, one_snapshot, one_reply, one_drop, one_abandon, one_freeze, one_view, finishes_leave_one}
 use Rattle.journal_text.specs.Calls.{IsLawfulRequest}
 
 -- a finish that is filed is told
 abbrev pub IsTold : ProgramState → ℕ → ProgramOutcome → ProgramState → Type 0
-IsTold s j o t = (b : ProgramTold) × (o ≡ finished b) × Finishes program s j b t
+IsTold s j o t = (b : ProgramSummary) × (o ≡ finished b) × Finishes program s j b t
 
 pub finish_told : (s : ProgramState) (j : ℕ) (o : ProgramOutcome) (t : ProgramState) → is_filed o ≡ true → Granted program s (finish j) o t → IsTold s j o t
 finish_told s j (finished b) t filed g = (b, refl, g)

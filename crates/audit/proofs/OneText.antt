@@ -13,7 +13,7 @@ use Rattle.arguments.specs.Questions.{image_of}
 use Rattle.script.specs.Replies.{pair_text}
 use Rattle.arguments.specs.declared.pair_mapping.PairMapping.{PairMapping}
 use Rattle.questions.specs.Queries.{ScriptQuestion, answers, find, paired, target_of}
-use Rattle.questions.specs.Program.{program, ProgramAnswer, ProgramTold, ProgramState, ProgramRequest, ProgramOutcome}
+use Rattle.questions.specs.Program.{program, ProgramAnswer, ProgramSummary, ProgramState, ProgramRequest, ProgramOutcome}
 use Rattle.questions.proofs.OneStep.{Settled, settled, refused_in, granted_once, is_the_answer, one_step}
 use Rattle.journal_text.specs.Calls.{IsLawfulRequest, outcome_text}
 use Rattle.questions.specs.Queries.{IsInOrder}
@@ -47,7 +47,7 @@ all_fit (x ∷ n) all = (all.1, all_fit n all.2)
 
 -- maps of images of one map that have one text are one
 same_images : (f : PairMapping) (to : ℕ) (m : Map (List ℕ) ℤ) (a b : ProgramAnswer) → IsAsked (paired f to) → IsPlainMap m → answers (paired f to) m a → answers (paired f to) m b → IsInOrder a → IsInOrder b
-    → outcome_text (finished (plain.told a)) ≡ outcome_text (finished (plain.told b)) → a ≡ b
+    → outcome_text (finished (plain.summary a)) ≡ outcome_text (finished (plain.summary b)) → a ≡ b
 same_images f to m (plain.Answer.images n) (plain.Answer.images k) asked all x y hn hk text =
     let keys = same_keys n k hn hk (image_keys (image_of f) m n k x y) (image_keys (image_of f) m k n y x) in
     let fn = all_fit n (map_keys (paired f to) m (plain.Answer.images n) asked x all) in
@@ -62,19 +62,19 @@ finished_in s j job answer = record s { live = live_after program s (target_of j
 
 -- what a finish that is told the same text leaves is one: a pair that is found makes no map
 leaves_one : (s : ProgramState) (j : ℕ) (q : ScriptQuestion) (m : Map (List ℕ) ℤ) (a b : ProgramAnswer) → IsAsked q → IsPlainMap m → answers q m a → answers q m b → IsInOrder a → IsInOrder b
-    → outcome_text (finished (plain.told a)) ≡ outcome_text (finished (plain.told b)) → finished_in s j (record { query = q; frozen = m }) a ≡ finished_in s j (record { query = q; frozen = m }) b
+    → outcome_text (finished (plain.summary a)) ≡ outcome_text (finished (plain.summary b)) → finished_in s j (record { query = q; frozen = m }) a ≡ finished_in s j (record { query = q; frozen = m }) b
 leaves_one s j (find test) m a b asked all x y hn hk text = refl
 leaves_one s j (paired f to) m a b asked all x y hn hk text = ap (finished_in s j (record { query = paired f to; frozen = m })) (same_images f to m a b asked all x y hn hk text)
 leaves_one s j q m a b asked all x y hn hk text = let one = is_the_answer q m a refl x in let other = is_the_answer q m b refl y in ap (finished_in s j (record { query = q; frozen = m })) (one ∙ sym other)
 
 -- an open job that is told the same text is finished in one state
-finishes_leave_one : (s t u : ProgramState) (j : ℕ) (b c : ProgramTold) → HasPlainMaps s → outcome_text (finished b) ≡ outcome_text (finished c) → Finishes program s j b t → Finishes program s j c u → t ≡ u
+finishes_leave_one : (s t u : ProgramState) (j : ℕ) (b c : ProgramSummary) → HasPlainMaps s → outcome_text (finished b) ≡ outcome_text (finished c) → Finishes program s j b t → Finishes program s j c u → t ≡ u
 finishes_leave_one s t u j b c plains text f k =
     let named : Some f.job ≡ Some k.job = sym f.named ∙ k.named in
     let same : f.job ≡ k.job = cc in
     let answered : answers f.job.query f.job.frozen k.answer = subst (λ (x : ScriptJob). answers x.query x.frozen k.answer) (sym same) k.is_answer.0 in
     let all = (each_at nat_cmp Any HasPlainMap s.jobs j f.job plains.jobs f.named).3 in
-    let texts = ap (λ (d : ProgramTold). outcome_text (finished d)) (sym f.told) ∙ text ∙ ap (λ (d : ProgramTold). outcome_text (finished d)) k.told in
+    let texts = ap (λ (d : ProgramSummary). outcome_text (finished d)) (sym f.told) ∙ text ∙ ap (λ (d : ProgramSummary). outcome_text (finished d)) k.told in
     f.left ∙ leaves_one s j f.job.query f.job.frozen f.answer k.answer all.1 all.0 f.is_answer.0 answered (in_order s t j b f) (in_order s u j c k) texts ∙ ap (λ (x : ScriptJob). finished_in s j x k.answer) same ∙ sym k.left
 
 one_finish : (s t u : ProgramState) (j : ℕ) (o p : ProgramOutcome) → HasPlainMaps s → outcome_text o ≡ outcome_text p → is_filed o ≡ true → is_filed p ≡ true → Settled s (finish j) o t → Settled s (finish j) p u → t ≡ u

@@ -14,7 +14,7 @@ use Rattle.std.specs.Ordering.{is_eq, is_lt, ordering_reverse}
 use Rattle.std.specs.Cmp.Lexicographic.{pointwise}
 use Rattle.versions.specs.Contents.{Contents}
 use Rattle.versions.specs.declared.version.TheConstants.{MOST_PAIRS}
-use Rattle.bulk_ops.specs.Told.{MakesFor}
+use Rattle.bulk_ops.specs.Summaries.{MakesFor}
 use Rattle.versions.specs.Map.{Map, IsMap, value_at}
 use Rattle.keys.specs.Order.{bytes_cmp}
 use Rattle.bulk_ops.specs.Answers as plain
@@ -30,7 +30,7 @@ use Rattle.arguments.specs.declared.pair_mapping.PairMapping.{PairMapping}
 use Rattle.script.specs.declared.reply.LineReply.TheVariants as replies
 use Rattle.questions.specs.Folds.{Item}
 use Rattle.questions.specs.Queries.{ScriptQuestion, IsPartFor, answers, find, paired, target_of}
-use Rattle.questions.specs.Program.{asks_choice, asks_images, asks_pair, ProgramAnswer, ProgramTold, told_reply}
+use Rattle.questions.specs.Program.{asks_choice, asks_images, asks_pair, ProgramAnswer, ProgramSummary, told_reply}
 use Rattle.questions.proofs.OneStep.{is_the_answer}
 use Rattle.journal_text.specs.Calls.{outcome_text}
 use Rattle.audit.specs.Answers.{NoneTold}
@@ -91,7 +91,7 @@ only_pair test m key reply part k h (plain.Answer.found (Some x)) is ordered e =
     let there : Some x.1 ≡ Some h.value = sym (value_found m x h.is_map is.0) ∙ ap (λ (n : List ℕ). value_at bytes_cmp m n) same ∙ h.there in
     let value : x.1 ≡ h.value = cc in
     let one : ◌≡◌ {A = ProgramAnswer} (plain.Answer.found (Some x)) (plain.Answer.found (Some (key, h.value))) = λ i. plain.Answer.found (Some (same i, value i)) in
-    ap (λ (b : ProgramAnswer). plain.told b) (one ∙ sym h.told)
+    ap (λ (b : ProgramAnswer). plain.summary b) (one ∙ sym h.told)
 only_pair test m key reply part k h (plain.Answer.number n) is ordered e = absurd is
 only_pair test m key reply part k h (plain.Answer.truth b) is ordered e = absurd is
 only_pair test m key reply part k h (plain.Answer.made n) is ordered e = absurd is
@@ -123,7 +123,7 @@ none_alike test m (plain.Answer.item n) none is = absurd is
 
 -- no pair is told
 pub other_for : (test : Test) (m : ScriptMap) (reply : List ℕ) (part : ScriptPart) → TellsNoPair reply → IsPartFor (find test) m part → IsOnlyTold (find test) m reply part
-other_for test m reply part none p (plain.Answer.found None) is ordered e = ap (λ (b : ProgramAnswer). plain.told b) (none_alike test m (answer_of part) is p.answer)
+other_for test m reply part none p (plain.Answer.found None) is ordered e = ap (λ (b : ProgramAnswer). plain.summary b) (none_alike test m (answer_of part) is p.answer)
 other_for test m reply part none p (plain.Answer.found (Some x)) is ordered e = absurd (none x.0 x.1 e)
 other_for test m reply part none p (plain.Answer.number n) is ordered e = absurd is
 other_for test m reply part none p (plain.Answer.truth b) is ordered e = absurd is
@@ -142,10 +142,10 @@ no_choice q found made = refl
 pub one_for : (q : ScriptQuestion) (m : ScriptMap) (reply : List ℕ) (part : ScriptPart) → asks_pair q ≡ false → asks_images q ≡ false → IsPartFor q m part → IsOnlyTold q m reply part
 one_for q m reply part found made p a is ordered e =
     let never = no_choice q found made in
-    ap (λ (b : ProgramAnswer). plain.told b) (is_the_answer q m a never is ∙ sym (is_the_answer q m (answer_of part) never p.answer))
+    ap (λ (b : ProgramAnswer). plain.summary b) (is_the_answer q m a never is ∙ sym (is_the_answer q m (answer_of part) never p.answer))
 
 -- what a script is told is what the journal shows, but of images
-shown_as : (q : ScriptQuestion) (m : ScriptMap) (a : ProgramAnswer) → asks_images q ≡ false → answers q m a → text_of (told_reply (plain.told a)) ≡ outcome_text (finished (plain.told a))
+shown_as : (q : ScriptQuestion) (m : ScriptMap) (a : ProgramAnswer) → asks_images q ≡ false → answers q m a → text_of (told_reply (plain.summary a)) ≡ outcome_text (finished (plain.summary a))
 shown_as (paired mapping to) m (plain.Answer.images n) never is = cc
 shown_as q m (plain.Answer.images n) never is = absurd is
 shown_as q m (plain.Answer.number n) never is = refl
@@ -155,26 +155,26 @@ shown_as q m (plain.Answer.made n) never is = refl
 shown_as q m (plain.Answer.item i) never is = refl
 
 -- the only answer that may be told so is told otherwise
-pub told_otherwise : (q : ScriptQuestion) (m : ScriptMap) (reply : List ℕ) (part : ScriptPart) (b : ProgramTold) → asks_images q ≡ false → IsPartFor q m part → IsOnlyTold q m reply part → b ≡ plain.told (answer_of part)
+pub told_otherwise : (q : ScriptQuestion) (m : ScriptMap) (reply : List ℕ) (part : ScriptPart) (b : ProgramSummary) → asks_images q ≡ false → IsPartFor q m part → IsOnlyTold q m reply part → b ≡ plain.summary (answer_of part)
     → (reply ≡ text_of (told_reply b) → ⊥) → NoneTold q m reply
-told_otherwise q m reply part b never p only same other a is ordered e = other (e ∙ ap (λ (c : ProgramTold). outcome_text (finished c)) (only a is ordered e) ∙ sym (ap (λ (c : ProgramTold). text_of (told_reply c)) same ∙ shown_as q m (answer_of part) never p.answer))
+told_otherwise q m reply part b never p only same other a is ordered e = other (e ∙ ap (λ (c : ProgramSummary). outcome_text (finished c)) (only a is ordered e) ∙ sym (ap (λ (c : ProgramSummary). text_of (told_reply c)) same ∙ shown_as q m (answer_of part) never p.answer))
 
 -- it is told so
-pub told_so : (q : ScriptQuestion) (m : ScriptMap) (reply : List ℕ) (part : ScriptPart) (b : ProgramTold) → asks_images q ≡ false → IsPartFor q m part → b ≡ plain.told (answer_of part) → reply ≡ text_of (told_reply b)
-    → reply ≡ outcome_text (finished (plain.told (answer_of part)))
-told_so q m reply part b never p same is = is ∙ ap (λ (c : ProgramTold). text_of (told_reply c)) same ∙ shown_as q m (answer_of part) never p.answer
+pub told_so : (q : ScriptQuestion) (m : ScriptMap) (reply : List ℕ) (part : ScriptPart) (b : ProgramSummary) → asks_images q ≡ false → IsPartFor q m part → b ≡ plain.summary (answer_of part) → reply ≡ text_of (told_reply b)
+    → reply ≡ outcome_text (finished (plain.summary (answer_of part)))
+told_so q m reply part b never p same is = is ∙ ap (λ (c : ProgramSummary). text_of (told_reply c)) same ∙ shown_as q m (answer_of part) never p.answer
 
 -- the text that tells the part
 pub told_part : (q : ScriptQuestion) (m : ScriptMap) (reply : List ℕ) (found : Option ScriptPart) (part : ScriptPart) → found ≡ Some part
-    → MatchOption found (NoneTold q m reply) (λ x. IsPartFor q m x × (reply ≡ outcome_text (finished (plain.told (answer_of x))))) → reply ≡ outcome_text (finished (plain.told (answer_of part)))
+    → MatchOption found (NoneTold q m reply) (λ x. IsPartFor q m x × (reply ≡ outcome_text (finished (plain.summary (answer_of x))))) → reply ≡ outcome_text (finished (plain.summary (answer_of part)))
 told_part q m reply None part e h = cc
-told_part q m reply (Some x) part e h = let same : x ≡ part = cc in subst (λ (y : ScriptPart). reply ≡ outcome_text (finished (plain.told (answer_of y)))) same h.1
+told_part q m reply (Some x) part e h = let same : x ≡ part = cc in subst (λ (y : ScriptPart). reply ≡ outcome_text (finished (plain.summary (answer_of y)))) same h.1
 
 -- ---- what a query for images is told
 
 -- the map that was read answers, and is told by the text
 pub images_for : (q : ScriptQuestion) (mapping : PairMapping) (to : ℕ) (m told : ScriptMap) (v : Contents (List ℕ) ℤ) (w : ScriptMap) (reply : List ℕ) → q ≡ paired mapping to → v.limit ≡ MOST_PAIRS → v.stamp ≡ 0 → w ≡ v.entries → HasAllRead (image_of mapping) m told v.entries → reply ≡ text_of (replies.Pairs w)
-    → IsPartFor q m (parts.Images v w) × (reply ≡ outcome_text (finished (plain.told (answer_of {K = List ℕ} {V = ℤ} {I = Item} (parts.Images v w)))))
+    → IsPartFor q m (parts.Images v w) × (reply ≡ outcome_text (finished (plain.summary (answer_of {K = List ℕ} {V = ℤ} {I = Item} (parts.Images v w)))))
 images_for q mapping to m told v w reply same limit stamp seen all is =
     (subst (λ (x : ScriptQuestion). IsPartFor x m (parts.Images v w)) (sym same) (record { loose = (limit, stamp, sym seen); answer = subst (λ (n : ScriptMap). IsImage (image_of mapping) m n) (sym seen) all.image }), is)
 

@@ -46,16 +46,16 @@ IsReplyTo o (Some reply) = (is_filed o ≡ true) × (reply_to o ≡ Some reply)
 abbrev pub IsTextOf : ProgramOutcome → List ℕ → Type 0
 IsTextOf o text = (is_filed o ≡ true) × (text ≡ outcome_text o)
 
--- no answer that the question may have is told by this text
+-- no answer that the question may have has this text
 abbrev pub NoneTold : ScriptQuestion → Map (List ℕ) ℤ → List ℕ → Type 0
-NoneTold q m reply = (a : ProgramAnswer) → answers q m a → IsInOrder a → reply ≡ outcome_text (finished (plain.told a)) → ⊥
+NoneTold q m reply = (a : ProgramAnswer) → answers q m a → IsInOrder a → reply ≡ outcome_text (finished (plain.summary a)) → ⊥
 
 -- the reply is there, and has this text
 abbrev pub IsShownAs : Option LineReply → List ℕ → Type 0
 IsShownAs None text = ⊥
 IsShownAs (Some reply) text = text ≡ text_of reply
 
--- whether memory was wanting
+-- whether memory ran out
 abbrev pub is_want : Refusal → Bool
 is_want NoMemory = true
 is_want e = false

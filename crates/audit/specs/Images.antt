@@ -37,7 +37,7 @@ abbrev pub WasRead : Map (List ℕ) ℤ → Map (List ℕ) ℤ → Type 0
 WasRead told [] = Unit {0}
 WasRead told (x ∷ n) = (FitsSigned w64 x.1 → value_at bytes_cmp told x.0 ≡ Some x.1) × WasRead told n
 
--- of a map with the keys of w that the text tells, each such value was read
+-- of a map with the keys of w that the text gives, each such value was read
 abbrev pub AreValuesTold : Map (List ℕ) ℤ → List ℕ → Map (List ℕ) ℤ → Type 0
 AreValuesTold w reply told = (n : Map (List ℕ) ℤ) → IsMap bytes_cmp n → HaveSameKeys n w → reply ≡ text_of (replies.Pairs n) → WasRead told n
 

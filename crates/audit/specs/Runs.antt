@@ -2,6 +2,7 @@
 use Rattle.std.specs.Prelude.{◌≡◌, ℕ, ◌<◌, List, [], ◌∷◌, length}
 use Rattle.handles.specs.Machine.{open_handle, snapshot, drop_handle, on, view, freeze, finish, abandon, worker_step}
 use Rattle.journal.specs.Journals.{IsLegal}
+use Rattle.script.specs.declared.limits.TheConstants.{MOST_CLIENTS}
 use Rattle.script.specs.declared.statement.Statement.{Statement}
 use Rattle.script.specs.declared.statement.Statement.TheVariants.{PutIfAbsent}
 use Rattle.script.specs.Statements.{IsLawful}
@@ -21,7 +22,7 @@ MayBeAsked r = IsLawfulRequest r
 -- each of the entries is a seat's of the 64, and asks what may be asked
 abbrev pub MayBeMade : List ProgramEntry → Type 0
 MayBeMade [] = Unit {0}
-MayBeMade (e ∷ es) = (e.seat < 64) × MayBeAsked e.request × MayBeMade es
+MayBeMade (e ∷ es) = (e.seat < MOST_CLIENTS) × MayBeAsked e.request × MayBeMade es
 
 -- a text has one verdict
 abbrev pub HasOneVerdict : Type 0

@@ -15,9 +15,9 @@ use Rattle.questions.specs.Program.{ProgramAnswer}
 use Rattle.questions.specs.Queries.{ScriptQuestion, IsInOrder, IsLoose, answers}
 use Rattle.journal_text.specs.Calls.{outcome_text}
 
--- no answer of the question for the map but the part's is told by the text
+-- each answer of the question for the map that has this text has the summary of the part's answer
 abbrev pub IsOnlyTold : ScriptQuestion → Map (List ℕ) ℤ → List ℕ → Part (List ℕ) ℤ Item → Type 0
-IsOnlyTold q m reply part = (a : ProgramAnswer) → answers q m a → IsInOrder a → reply ≡ outcome_text (finished (plain.told a)) → plain.told a ≡ plain.told (answer_of part)
+IsOnlyTold q m reply part = (a : ProgramAnswer) → answers q m a → IsInOrder a → reply ≡ outcome_text (finished (plain.summary a)) → plain.summary a ≡ plain.summary (answer_of part)
 
 -- no byte is a space
 abbrev pub IsSpaceless : List ℕ → Type 0
@@ -32,11 +32,11 @@ IsFront bytes front = (before behind : List ℕ) → IsSpaceless behind → byte
 abbrev pub HasNoFront : List ℕ → Type 0
 HasNoFront bytes = (before behind : List ℕ) → IsSpaceless behind → bytes ≡ before ++ 32 ∷ behind → ⊥
 
--- the text tells no pair
+-- the text is that of no pair
 abbrev pub TellsNoPair : List ℕ → Type 0
 TellsNoPair reply = (key : List ℕ) (value : ℤ) → reply ≡ text_of (replies.Pair key value) → ⊥
 
--- the text tells a pair of this key, if it tells an answer
+-- the text is not `none`, and if it is that of a pair, the pair has this key
 pub record IsKeyTold (reply key : List ℕ) : Type 0 where
   pub other : reply ≢ codes "none"
   pub keyed : (k : List ℕ) (value : ℤ) → reply ≡ text_of (replies.Pair k value) → k ≡ key

@@ -10,7 +10,7 @@ use journal_text::asked_in;
 use std::alloc::Global;
 use versions::NoMemory;
 
-/// Whether the line is the last one behind so many entries.
+/// Whether the line is the last line of a journal of `entries` entries.
 ///
 /// # Errors
 ///

@@ -1,4 +1,4 @@
-//! The map of images that a text tells.
+//! The map of images that a text gives.
 
 ghost use Rattle.std.specs.Prelude.{◌≡◌, ◌↔◌, ℕ, FitsSigned, IfOk, IsTrue, MatchOption, None, OnOk, Some};
 ghost use Rattle.std.specs.Arc.{arc_value};
@@ -30,11 +30,11 @@ use std::sync::Arc;
 use trie_node::walk_lists_map;
 use versions::{NoMemory, Refusal, Version, View};
 
-/// A part of images that answers the query for the map and is told by this text, if there is one.
+/// A part of images that answers the query for the map and whose reply is this text, if there is one.
 ///
-/// A map that answers has the keys of every other one, in the same order. So the values that the text tells of those
-/// keys are read, and each image whose value was read is put into some map that answers: it is then the one that is
-/// told, if any is, and its text is compared.
+/// A map that answers has the keys of every other one, in the same order. So the values that the text gives for those
+/// keys are read, and each image whose value was read is put into some map that answers: it is then the one that the
+/// text gives, if it gives any, and its text is compared.
 #[tactic(auto, using(crate::proofs::TellingLemmas::images_for, crate::proofs::TellingLemmas::images_none))]
 pub fn images_told(
     alloc: Global,
@@ -44,7 +44,7 @@ pub fn images_told(
     reply: &[u8],
 ) -> Result<Option<ScriptPart>, NoMemory>
     requires { (to : ℕ) × (query.now ≡ paired mapping.now to) }
-    ensures { IfOk result (λ found. MatchOption found (NoneTold query.now view.now reply.now) (λ part. IsPartFor query.now view.now part × (reply.now ≡ outcome_text (finished (plain.told (answer_of part)))))) }
+    ensures { IfOk result (λ found. MatchOption found (NoneTold query.now view.now reply.now) (λ part. IsPartFor query.now view.now part × (reply.now ≡ outcome_text (finished (plain.summary (answer_of part)))))) }
 {
     let some = some_images(alloc, mapping, query, view)?;
     let read = values_told(alloc, &some, reply)?;
@@ -76,7 +76,7 @@ fn some_images(
     let (_, made) = query.conclude(part);
     match made {
         Some(map) => {
-            // What this tells of the map: its keys rise strictly.
+            // Called for its contract: the keys of the map rise strictly.
             map.len();
             Ok(map)
         }

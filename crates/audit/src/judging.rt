@@ -10,7 +10,7 @@ ghost use Rattle.journal.specs.Answers.{answered, asked_of};
 ghost use Rattle.audit.specs.Answers.{Answers, IsReplyTo, IsShownAs, IsTextOf, NoneAnswers, is_want};
 
 use crate::telling::part_told;
-use handles::{Call, CallReply, Table};
+use handles::{Call, CallReply, Table, is_entry};
 use journal::Asked;
 use journal_text::ProgramAsked;
 use keys::ByteText;
@@ -177,15 +177,15 @@ fn closed(answer: &Result<(), Refusal>) -> Result<Option<LineReply>, NoMemory>
     }
 }
 
-/// The reply that tells the refusal, if it is an entry's.
+/// The reply that reports the refusal, if the refusal is an entry's.
 fn refused(refusal: Refusal) -> Result<Option<LineReply>, NoMemory>
     ensures shown { IfOk result (λ shown. IsReplyTo (machine.refused refusal) shown) }
     ensures memory { OnOk result (is_want refusal ≡ false) }
 {
     match refusal {
         Refusal::NoMemory => Err(NoMemory),
-        Refusal::JournalFull | Refusal::NoJob | Refusal::Unfinished => Ok(None),
-        _ => Ok(Some(LineReply::Refused(refusal))),
+        _ if is_entry(refusal) => Ok(Some(LineReply::Refused(refusal))),
+        _ => Ok(None),
     }
 }
 

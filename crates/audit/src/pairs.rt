@@ -1,4 +1,4 @@
-//! The pair that a reply tells.
+//! The pair that a reply gives.
 
 ghost use Rattle.std.specs.Prelude.{IfOk, List, MatchOption, ℕ};
 ghost use Rattle.audit.specs.Telling.{HasNoFront, IsFront, IsKeyTold, IsPairAt, NonePairAt, TellsNoPair};
@@ -11,7 +11,7 @@ use std::alloc::Global;
 use std::sync::Arc;
 use versions::{NoMemory, View};
 
-/// The key of the pair that the text tells, if it may tell one.
+/// The key of the pair that the text gives, if it may give one.
 #[tactic(auto, using(crate::proofs::TellingLemmas::no_prefix, crate::proofs::TellingLemmas::key_parted))]
 pub fn key_told(reply: &[u8]) -> Option<&[u8]>
     ensures { MatchOption result (TellsNoPair reply.now) (λ key. IsKeyTold reply.now key.now) }

@@ -1,4 +1,4 @@
-//! Whether a job is told so.
+//! Whether a text is the reply of a job.
 
 ghost use Rattle.std.specs.Prelude.{◌≡◌, IfOk, MatchOption, false};
 ghost use Rattle.bulk_ops.specs.Answers as plain;
@@ -22,14 +22,14 @@ use splitter::whole;
 use std::alloc::Global;
 use versions::{NoMemory, View};
 
-/// A part that answers the query for the map and is told by this text, if there is one.
+/// A part that answers the query for the map and whose reply is this text, if there is one.
 pub fn part_told(
     alloc: Global,
     query: &ScriptQuery,
     view: &View<ByteText, i64>,
     reply: &[u8],
 ) -> Result<Option<ScriptPart>, NoMemory>
-    ensures { IfOk result (λ found. MatchOption found (NoneTold query.now view.now reply.now) (λ part. IsPartFor query.now view.now part × (reply.now ≡ outcome_text (finished (plain.told (answer_of part)))))) }
+    ensures { IfOk result (λ found. MatchOption found (NoneTold query.now view.now reply.now) (λ part. IsPartFor query.now view.now part × (reply.now ≡ outcome_text (finished (plain.summary (answer_of part)))))) }
 {
     match query.pair_mapping() {
         Some(mapping) => images_told(alloc, mapping, query, view, reply),
@@ -46,7 +46,7 @@ fn other_told(
     reply: &[u8],
 ) -> Result<Option<ScriptPart>, NoMemory>
     requires { asks_images query.now ≡ false }
-    ensures { IfOk result (λ found. MatchOption found (NoneTold query.now view.now reply.now) (λ part. IsPartFor query.now view.now part × (reply.now ≡ outcome_text (finished (plain.told (answer_of part)))))) }
+    ensures { IfOk result (λ found. MatchOption found (NoneTold query.now view.now reply.now) (λ part. IsPartFor query.now view.now part × (reply.now ≡ outcome_text (finished (plain.summary (answer_of part)))))) }
 {
     let Some(part) = only_part(alloc, query, view, reply)? else {
         return Ok(None);
@@ -59,7 +59,7 @@ fn other_told(
     }
 }
 
-/// A part that answers the query for the map, if this text may tell one; no answer but the part's is told by the text.
+/// A part that answers the query for the map, if this text may be its reply; no answer but the part's has this text.
 #[tactic(auto, using(crate::proofs::TellingLemmas::one_for))]
 fn only_part(
     alloc: Global,

@@ -1,4 +1,4 @@
-//! The values that a text tells of the keys of a map.
+//! The values that a text gives for the keys of a map.
 
 ghost use Rattle.std.specs.Prelude.{◌≡◌, ◌≤◌, IfOk, MatchOption, OnOk, length};
 ghost use Rattle.keys.specs.Order.{bytes_cmp};
@@ -17,7 +17,7 @@ use versions::{NoMemory, Version};
 /// Values of keys, in the order of their bytes.
 pub type Values = BTreeMap<MapKey, i64>;
 
-/// The values that the text tells of the keys of the map, where it tells a map that has these keys alone.
+/// The values that the text gives for the keys of the map, where it is that of a map that has these keys alone.
 ///
 /// The keys are known, so a text is read in one way, even where keys have spaces or equals signs.
 pub fn values_told(
@@ -46,7 +46,7 @@ fn sorted_of(alloc: Global, map: &Version<ByteText, i64>) -> Result<Values, NoMe
     ensures { IfOk result (λ sorted. sorted.entries ≡ map.now.entries) }
 {
     walk_lists_map::<ByteText, i64>();
-    // What this tells of the map: its keys rise strictly.
+    // Called for its contract: the keys of the map rise strictly.
     map.len();
     let mut sorted = BTreeMap::new(alloc);
     for (key, value) in pairs_of(alloc, map)? {

@@ -8,7 +8,7 @@ use Rattle.versions.specs.Map.{Map}
 use Rattle.versions.specs.Commands.{get, put_if_absent, old, done, count, cleared}
 use Rattle.versions.specs.declared.refusal.Refusal.{Refusal}
 use Rattle.versions.specs.declared.refusal.Refusal.TheVariants.{NoHandle, Taken, Full, NoJob, Unfinished, NoWorker, TooManyJobs, JournalFull, NoMemory, BadNumber}
-use Rattle.bulk_ops.specs.Told.{told_of}
+use Rattle.bulk_ops.specs.Summaries.{summary_of}
 use Rattle.bulk_ops.specs.declared.asks.Answer.{Answer}
 use Rattle.handles.specs.Machine.{finish, freeze, frozen, is_entry, made, on, replied, viewed, finished, refused, unfinished, worked}
 use Rattle.handles.specs.Views.{call_outcome, is_counted, outcome_of}
@@ -26,7 +26,7 @@ use Rattle.script.specs.declared.reply.LineReply.{LineReply}
 use Rattle.script.specs.declared.reply.LineReply.TheVariants.{Found, Refused}
 use Rattle.script_runs.specs.Events.{Event, Ends, Makes}
 use Rattle.questions.specs.Folds.{Item}
-use Rattle.questions.specs.Program.{ProgramAnswer, ProgramTold, ProgramRequest, ProgramOutcome, or_else_in, reply_to, request_for, told_reply}
+use Rattle.questions.specs.Program.{ProgramAnswer, ProgramSummary, ProgramRequest, ProgramOutcome, or_else_in, reply_to, request_for, told_reply}
 use Rattle.questions.specs.Queries.{ScriptQuestion}
 use Rattle.batch_cli.specs.Filing.{ProgramSeat, Files, FilesAnswer, FilesJob, FilesOrElse, FilesReply, FilesService, event_of, events_at}
 use Rattle.script_runs.proofs.Ends.{missing_or_done}
@@ -60,13 +60,13 @@ pub then_filed : (s m t : ProgramSeat) (es fs : List Event) → Files s es m →
 then_filed s m t es fs first more = more ∙ ap (λ (front : List Event). front ++ fs) first ∙ append_assoc (events_at s) es fs
 
 -- an answer that is counted is filed
-counted_filed : (answer : Result (CallReply ℤ) Refusal) → is_counted answer ≡ true → is_filed {K = List ℕ} {B = ProgramTold} (outcome_of answer) ≡ true
+counted_filed : (answer : Result (CallReply ℤ) Refusal) → is_counted answer ≡ true → is_filed {K = List ℕ} {B = ProgramSummary} (outcome_of answer) ≡ true
 counted_filed (Ok call_replies.Unit) h = refl
 counted_filed (Ok (call_replies.Reply y)) h = refl
 counted_filed (Err e) h = h
 
 -- what a call adds, by its result
-outcome_is : (answer : Result (CallReply ℤ) Refusal) → answered call_outcome answer ≡ outcome_of {K = List ℕ} {B = ProgramTold} answer
+outcome_is : (answer : Result (CallReply ℤ) Refusal) → answered call_outcome answer ≡ outcome_of {K = List ℕ} {B = ProgramSummary} answer
 outcome_is (Ok y) = refl
 outcome_is (Err e) = refl
 
@@ -100,12 +100,12 @@ served_by_job s m t r job shown (Err e) adds h = tt
 module _ {P : Type 0} (answers : ScriptQuestion → Map (List ℕ) ℤ → P → Type 0) (answer_of : P → ProgramAnswer) (h : ℕ) (q : ScriptQuestion) where
   -- what a bulk call tells is shown by the finish of the job that its freeze opened
   told_by_job : (s m t : ProgramSeat) (opened : Result (Ticketed (List ℕ) ℤ ScriptQuestion) Refusal) (answer : Answer (List ℕ) ℤ Item) → Adds s (freeze h q) (answered ticket_outcome opened) m → EndsBulk answers answer_of m opened (Ok answer) t
-      → FilesService s (freeze h q) (told_reply (told_of answer)) t
+      → FilesService s (freeze h q) (told_reply (summary_of answer)) t
   told_by_job s m t (Err e) answer freezes (other, stays) = cc
   told_by_job s m t (Ok ticket) answer freezes (adds, told) =
-      inr (ticket.job, ticket.frozen, finished (told_of answer), then_filed s m t ((freeze h q, frozen ticket.job ticket.frozen) ∷ []) ((finish ticket.job, finished (told_of answer)) ∷ []) (filed s (freeze h q) (frozen ticket.job ticket.frozen) m freezes refl) (filed m (finish ticket.job) (finished (told_of answer)) t adds refl), refl)
+      inr (ticket.job, ticket.frozen, finished (summary_of answer), then_filed s m t ((freeze h q, frozen ticket.job ticket.frozen) ∷ []) ((finish ticket.job, finished (summary_of answer)) ∷ []) (filed s (freeze h q) (frozen ticket.job ticket.frozen) m freezes refl) (filed m (finish ticket.job) (finished (summary_of answer)) t adds refl), refl)
 
-  pub bulk_told : (s t : ProgramSeat) (answer : Answer (List ℕ) ℤ Item) → AddsBulk answers answer_of h q s (Ok answer) t → FilesService s (freeze h q) (told_reply (told_of answer)) t
+  pub bulk_told : (s t : ProgramSeat) (answer : Answer (List ℕ) ℤ Item) → AddsBulk answers answer_of h q s (Ok answer) t → FilesService s (freeze h q) (told_reply (summary_of answer)) t
   bulk_told s t answer bulk = told_by_job s bulk.between t bulk.opened answer bulk.freezes bulk.ends
 
   -- a bulk call that is refused files its freeze alone, if that is refused, and else the finish of its job too

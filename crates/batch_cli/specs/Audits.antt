@@ -6,7 +6,7 @@ use Rattle.audit.specs.Verdicts.{IsVerdict}
 use Rattle.audit.specs.declared.verdict.Verdict.{Verdict}
 use Rattle.audit.specs.declared.verdict.Verdict.TheVariants.{Legal, Bad}
 
--- the line that tells a verdict
+-- the line that reports a verdict
 abbrev pub verdict_line : Verdict → List ℕ
 verdict_line (Legal entries) = codes "legal " ++ (decimal entries ++ codes "\n")
 verdict_line (Bad line) = codes "bad " ++ (decimal line ++ codes "\n")

@@ -7,15 +7,15 @@ use Rattle.script.specs.declared.statement.Statement.{Statement}
 use Rattle.script.specs.declared.statement.Statement.TheVariants.{GetOrElse}
 use Rattle.script.specs.declared.reply.LineReply.{LineReply}
 use Rattle.script_runs.specs.Events.{Event, Makes}
-use Rattle.questions.specs.Program.{ProgramTold, ProgramRequest, ProgramOutcome, reply_to}
+use Rattle.questions.specs.Program.{ProgramSummary, ProgramRequest, ProgramOutcome, reply_to}
 use Rattle.questions.specs.Queries.{ScriptQuestion}
 
 -- the seat of a client
 abbrev pub ProgramSeat : Type 0
-ProgramSeat = Seated (List ℕ) ℤ ScriptQuestion ProgramTold
+ProgramSeat = Seated (List ℕ) ℤ ScriptQuestion ProgramSummary
 
--- what an entry of the seat asked, and what it was told
-abbrev pub event_of : Placed (List ℕ) ℤ ScriptQuestion ProgramTold → Event
+-- what an entry of the seat asked, and what it was answered
+abbrev pub event_of : Placed (List ℕ) ℤ ScriptQuestion ProgramSummary → Event
 event_of p = (p.entry.request, p.entry.outcome)
 
 -- all that the seat has filed, in order

@@ -3,7 +3,7 @@
 use crate::events::{ProgramMap, ProgramSeat, answer};
 use crate::gate::LineGate;
 use keys::ByteText;
-use locked_map::{Client, Room};
+use locked_map::{Client, JournalName};
 use questions::ScriptQuery;
 use script::{CommandLine, LineReply};
 use std::alloc::Global;
@@ -34,7 +34,7 @@ impl<'a, G: LineGate> Client<ByteText, i64, ScriptQuery> for ScriptClient<'a, G>
 
     ghost gives = { λ c seat out. IfOk out (λ replies. LinesMake (lines_by c.number c.lines.now) (events_in (pairs seat.list)) replies.items) };
 
-    fn run<J: Room, R: Threads + Wait + Sync>(
+    fn run<J: JournalName, R: Threads + Wait + Sync>(
         self,
         rt: &R,
         alloc: Global,

@@ -8,9 +8,9 @@ ghost use Rattle.questions.specs.Program.{reply_to};
 ghost use Rattle.batch_cli.specs.CommandLine.{AreInRange};
 ghost use Rattle.batch_cli.specs.Filing.{FilesAnswer, FilesOrElse, FilesReply, FilesService};
 
-use handles::{Call, CallReply};
+use handles::{Call, CallReply, is_entry};
 use keys::ByteText;
-use locked_map::{Room, Seat, SharedMap};
+use locked_map::{JournalName, Seat, SharedMap};
 use questions::{Ask, ScriptQuery, ask_of, listing_of, reply_shown, told};
 use script::{LineReply, Statement};
 use std::alloc::Global;
@@ -26,7 +26,7 @@ pub type ProgramMap<J> = SharedMap<ByteText, i64, ScriptQuery, J>;
 pub type ProgramSeat<J> = Seat<ByteText, i64, ScriptQuery, J>;
 
 /// Makes the events of the statement, and gives the reply of its line.
-pub fn answer<J: Room, R: Threads + Wait + Sync>(
+pub fn answer<J: JournalName, R: Threads + Wait + Sync>(
     rt: &R,
     alloc: Global,
     map: &ProgramMap<J>,
@@ -46,7 +46,7 @@ pub fn answer<J: Room, R: Threads + Wait + Sync>(
 }
 
 /// Makes the call, and gives the reply that shows its answer.
-fn served<J: Room, R: Wait>(
+fn served<J: JournalName, R: Wait>(
     rt: &R,
     map: &ProgramMap<J>,
     seat: &mut ProgramSeat<J>,
@@ -59,7 +59,7 @@ fn served<J: Room, R: Wait>(
 }
 
 /// Views the map of the handle, and gives the reply that lists its pairs.
-fn listed<J: Room, R: Wait>(
+fn listed<J: JournalName, R: Wait>(
     rt: &R,
     alloc: Global,
     map: &ProgramMap<J>,
@@ -74,11 +74,11 @@ fn listed<J: Room, R: Wait>(
     }
 }
 
-/// Asks the query of the map of the handle as it stands, which a crew works with no lock held, and gives the reply that
-/// tells the answer.
+/// Asks the query of the map of the handle as it stands, which a crew works with no lock held, and returns the reply
+/// that reports the answer.
 ///
-/// A ticket that comes back stands beside want of memory, which ends the run. Its job stays open.
-fn worked<J: Room, R: Threads + Wait + Sync>(
+/// A ticket comes back with `NoMemory`, which ends the run. Its job stays open.
+fn worked<J: JournalName, R: Threads + Wait + Sync>(
     rt: &R,
     alloc: Global,
     map: &ProgramMap<J>,
@@ -96,9 +96,9 @@ fn worked<J: Room, R: Threads + Wait + Sync>(
     }
 }
 
-/// Asks for the value of the key, stores this one where there is none, and gives the reply that tells the value that
-/// the key has then.
-fn found_or_stored<J: Room, R: Wait>(
+/// Asks for the value of the key, stores this one where there is none, and returns the reply that reports the value
+/// that the key has then.
+fn found_or_stored<J: JournalName, R: Wait>(
     rt: &R,
     map: &ProgramMap<J>,
     seat: &mut ProgramSeat<J>,
@@ -117,7 +117,7 @@ fn found_or_stored<J: Room, R: Wait>(
     }
 }
 
-/// The reply that tells the value.
+/// The reply that reports the value.
 fn found(value: &Arc<i64>) -> LineReply
     ensures { result ≡ LineReply.Found value.now.value }
 {
@@ -136,19 +136,17 @@ fn reply_of(answer: &Result<CallReply<i64>, Refusal>) -> Result<LineReply, NoMem
     }
 }
 
-/// The reply that tells the refusal, if it is an entry of the journal.
+/// The reply that reports the refusal, if it is an entry of the journal.
 ///
-/// Others than want of memory are never met here: a script is too short to fill the journal, and each job is closed
+/// Other refusals than `NoMemory` are never met here: a script is too short to fill the journal, and each job is closed
 /// once, by the client that opened it.
 fn refused(refusal: Refusal) -> Result<LineReply, NoMemory>
     ensures shown { IfOk result (λ reply. reply ≡ LineReply.Refused refusal) }
     ensures filed { OnOk result (is_entry refusal ≡ true) }
     ensures unfiled { OnErr result (is_entry refusal ≡ false) }
 {
-    match refusal {
-        Refusal::NoMemory | Refusal::JournalFull | Refusal::NoJob | Refusal::Unfinished => {
-            Err(NoMemory)
-        }
-        _ => Ok(LineReply::Refused(refusal)),
+    if !is_entry(refusal) {
+        return Err(NoMemory);
     }
+    Ok(LineReply::Refused(refusal))
 }

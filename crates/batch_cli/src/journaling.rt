@@ -10,8 +10,8 @@ use program_io::{DONE, RunFault, failed};
 use std::alloc::Global;
 use std::io::Write;
 
-/// The text of the journal where it is asked for, with the status: 0, or 1 where memory for it is refused, which is told
-/// then.
+/// The text of the journal where it is asked for, with the status: 0, or 1 where memory for it is refused, which is
+/// then reported on `err`.
 pub fn kept<E: Write>(
     alloc: Global,
     asked: bool,

@@ -24,8 +24,8 @@ use std::thread::Threads;
 use task_pool::Crew;
 use versions::MOST_PAIRS;
 
-/// The journal of a run: what each client asked and was told, in the order in which it was done. A freeze holds the
-/// question of its line.
+/// The journal of a run: what each client asked and was answered, in the order in which it was done. A freeze holds
+/// the question of its line.
 pub type Journal = locked_map::Journal<ByteText, i64, ScriptQuery, Option<i128>>;
 
 // How much the maps and the journal of a script may hold.
@@ -44,7 +44,7 @@ const LARGEST: Limits = Limits {
 ///
 /// # Errors
 ///
-/// Want of memory, with nothing written; a writer that fails.
+/// Memory runs out, with nothing written; or the writer fails.
 pub fn run_script<R, W, G>(
     rt: &R,
     alloc: Global,

@@ -21,7 +21,7 @@ use std::sync::Wait;
 use std::thread::Threads;
 use task_pool::Crew;
 
-/// So many rounds of a worker find no piece before it ends.
+/// How many rounds of a worker find no piece before it ends.
 const PATIENCE: u32 = 1_000;
 
 /// Runs the script that the text spells, with the crews that the options name; or audits the text as a journal's, if

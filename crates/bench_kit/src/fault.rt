@@ -11,7 +11,7 @@ use versions::Refusal;
 /// Why a benchmark stops.
 #[derive(Debug, Drop, Error)]
 pub enum Fault {
-    /// The words after the program's name are not those of a measurement, which are told.
+    /// The words after the program's name are not those of a measurement. The error says which are.
     #[error("usage: {0}")]
     Usage(&'static str),
     /// A request for memory was refused.
@@ -43,7 +43,7 @@ impl From<NoMemory> for Fault {
     }
 }
 
-// A map of the benchmarks is never full, nor is a stripe or a journal, so that a refusal is want of memory.
+// A map of the benchmarks is never full, nor is a stripe or a journal, so a refusal is always `NoMemory`.
 impl From<Refusal> for Fault {
     fn from(_: Refusal) -> Fault {
         Fault::Memory

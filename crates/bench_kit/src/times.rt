@@ -45,7 +45,7 @@ impl Times {
     }
 }
 
-/// The time that stands so many hundredths of the way from the first to the last, 0 where there is none.
+/// The time that stands `hundredths` hundredths of the way from the first to the last, 0 where there is none.
 fn at_hundredth(rising: &[u64], hundredths: usize) -> u64 {
     let last = rising.len().saturating_sub(1);
     let place = last.saturating_mul(hundredths) / 100;

@@ -13,7 +13,7 @@ pub fn words_of<R: Runtime + AllocGlobal>(rt: &R) -> Result<Vec<String>, Fault> 
     Ok(env::args(rt)?.skip(1).collect(rt.alloc())?)
 }
 
-/// The number that the word tells, none where it tells none from `least` to `most`.
+/// The number that the word spells, or `None` where it spells none from `least` to `most`.
 pub fn number(word: &str, least: u32, most: u32) -> Option<u32> {
     match word.parse::<u32>() {
         Ok(number) if least <= number && number <= most => Some(number),

@@ -2,4 +2,4 @@ pub mod Meanings
 pub mod Answers
 pub mod Parts
 pub mod Queries
-pub mod Told
+pub mod Summaries

@@ -1,6 +1,6 @@
 //! Questions that are asked and answered at once.
 ghost use Rattle.std.specs.Prelude.{IfOk};
-ghost use Rattle.bulk_ops.specs.Told.{IsAnswered};
+ghost use Rattle.bulk_ops.specs.Summaries.{IsAnswered};
 
 use crate::asks::{Answer, Asks};
 use crate::walking::work;

@@ -80,7 +80,7 @@ pub(crate) fn more_images<K: PathKey + Drop, V: Drop, P: ImageFn<K, V>>(
     root_is_map::<K, V>();
     walk_lists_map::<K, V>();
     let mut all = map;
-    // What this tells of the map: its keys rise strictly.
+    // Called for its contract: the keys of the map rise strictly.
     all.len();
     for (key, value) in bunches_of_root(alloc, root) {
         let (image, made) = change.shared_at(alloc, key, value)?;
@@ -108,7 +108,7 @@ pub(crate) fn with_image<K: PathKey + Drop, V: Drop>(
     let mut more = again(map)?;
     put(alloc, &mut more, key, value)?;
     let view = more.view()?;
-    // What this tells of the view: its keys rise strictly.
+    // Called for its contract: the keys of the view rise strictly.
     view.len();
     Ok((more, view))
 }
@@ -130,7 +130,7 @@ pub(crate) fn joined_images<K: PathKey + Drop, V: Drop>(
 {
     let both = merge(alloc, left, right)?;
     let view = both.view()?;
-    // What this tells of the view: its keys rise strictly.
+    // Called for its contract: the keys of the view rise strictly.
     view.len();
     Ok((both, view))
 }
@@ -143,7 +143,7 @@ fn again<K: PathKey + Drop, V: Drop>(map: &Version<K, V>) -> Result<Version<K, V
     ensures limit { IfOk result (λ same. same.limit ≡ MOST_PAIRS) }
     ensures stamp { IfOk result (λ same. same.stamp ≡ 0) }
 {
-    // What this tells of the map: it has no node of a later stamp.
+    // Called for its contract: the map has no node of a later stamp.
     map.stamp();
     let root = map.root().try_clone()?;
     Ok(Version::from_root(root, MOST_PAIRS, Stamp::LOOSE))

@@ -86,7 +86,7 @@ impl<K: PathKey + Drop, V: Drop, I> Part<K, V, I> {
         }
     }
 
-    /// The same, taken out of the part.
+    /// The same, moved out of the part.
     pub(crate) fn into_images(self) -> (Version<K, V>, View<K, V>)
         requires { HasImages self }
         ensures { self ≡ Part.Images result.0 result.1 }

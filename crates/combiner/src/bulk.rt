@@ -14,7 +14,7 @@ use trie_node::{NoMemory, Node};
 
 /// An operation on a whole map whose parts may be worked apart and joined in any order.
 ///
-/// Each call that makes a part is refused for want of memory alone.
+/// Each call that makes a part fails only if memory runs out.
 pub trait Bulk<K: PathKey, V> {
     /// What is known of some of the pairs.
     type Part: Drop;

@@ -13,7 +13,7 @@ use Rattle.command_line.specs.declared.arguments.ArgFault.{ArgFault}
 use Rattle.command_line.specs.declared.arguments.ArgFault.TheVariants.{Help, Parser, NotText, AuditJournal, Memory}
 use Rattle.command_line.specs.declared.arguments.Options.{Options}
 
--- an option that takes a whole number from 1 to so many, with what stands for it where it is left out
+-- an option that takes a whole number from 1 to `most`, with what stands for it where it is left out
 abbrev pub number_rule : Text → ℕ → Text → Rule
 number_rule name most usual = record (new_rule name) { long = Some name; value_names = 1; parser = Some (Signed (pos 1) (pos most)); defaults = usual ∷ [] }
 
@@ -98,7 +98,7 @@ pub record AreInRange (workers grain : ℕ) : Type 0 where
 abbrev pub IsShown : ErrorKind → Type 0
 IsShown kind = (kind ≡ DisplayHelp) ⊎ (kind ≡ DisplayVersion)
 
--- the words ask for help or for the version, or have an error of another kind, or ask for an audit with a journal; words that were read are text; want of memory says nothing of them
+-- the words ask for help or for the version, or have an error of another kind, or ask for an audit with a journal; words that were read are text; `Memory` says nothing of them
 abbrev pub IsArgFaultOf : List Text → ArgFault → Type 0
 IsArgFaultOf words (Help text) = (kind : ErrorKind) × IsShown kind × IsAmong kind (faults_in words)
 IsArgFaultOf words (Parser text) = (kind : ErrorKind) × (¬ IsShown kind) × IsAmong kind (faults_in words)
@@ -106,7 +106,7 @@ IsArgFaultOf words NotText = ⊥
 IsArgFaultOf words AuditJournal = (faults_in words ≡ []) × (audit_in words ≡ true) × (is_some (journal_in words) ≡ true)
 IsArgFaultOf words Memory = Unit {0}
 
--- the fault tells of an error of this kind
+-- the fault reports an error of this kind
 abbrev pub Tells : ErrorKind → ArgFault → Type 0
 Tells kind (Help text) = IsShown kind
 Tells kind (Parser text) = (¬ IsShown kind) × (kind ≢ OutOfMemory)

@@ -7,7 +7,7 @@ use thiserror::Error;
 pub struct Options {
     /// How many workers the crew of a bulk verb has, from 1 to 16.
     pub workers: u32,
-    /// The crew's pieces are cut until they have at most so many pairs, from 1 to 65,536.
+    /// The crew's pieces are cut until they have at most this many pairs, from 1 to 65,536.
     pub grain: u64,
     /// A journal is to be audited in place of a script to be run.
     pub audit: bool,

@@ -11,10 +11,10 @@ use std::alloc::{AllocError, Global};
 const VERSION: &str = "0.1.0";
 
 /// How many workers a crew has, where the words do not say.
-pub const USUAL_WORKERS: u32 = 4;
+pub const DEFAULT_WORKERS: u32 = 4;
 
 /// The grain of a crew, where the words do not say.
-pub const USUAL_GRAIN: u32 = 1024;
+pub const DEFAULT_GRAIN: u32 = 1024;
 
 /// The grammar of the command line.
 pub fn grammar<'a>(alloc: Global) -> Result<Command<'a>, AllocError>

@@ -7,7 +7,7 @@ ghost use Rattle.clap.specs.Words.{FailsBy, IsSignedIn, app_of, found_of, kind_o
 ghost use Rattle.command_line.specs.CommandLine.{AreInRange, IsArgFaultOf, IsGiven, Tells, command_line, faults_in, number_of};
 
 use crate::arguments::{ArgFault, Options};
-use crate::grammar::{USUAL_GRAIN, USUAL_WORKERS, grammar};
+use crate::grammar::{DEFAULT_GRAIN, DEFAULT_WORKERS, grammar};
 use clap::error::ErrorKind;
 use clap::{ArgMatches, Error};
 use std::alloc::{AllocError, Global};
@@ -48,8 +48,8 @@ fn read(alloc: Global, words: &[&str]) -> Result<Options, Error>
     let journal = text_of(alloc, matches.get_str("journal"))?;
     let file = text_of(alloc, matches.get_str("file"))?;
     Ok(Options {
-        workers: number(&matches, "workers", USUAL_WORKERS),
-        grain: u64::from(number(&matches, "grain", USUAL_GRAIN)),
+        workers: number(&matches, "workers", DEFAULT_WORKERS),
+        grain: u64::from(number(&matches, "grain", DEFAULT_GRAIN)),
         audit: flag(&matches, "audit"),
         journal,
         file,
@@ -91,7 +91,7 @@ fn behind_name<'a>(alloc: Global, words: &[&'a str]) -> Result<Vec<&'a str>, All
     Ok(all)
 }
 
-/// The fault that tells of the error.
+/// The fault that reports the error.
 fn fault_of(alloc: Global, error: &Error) -> ArgFault
     ensures { Tells (kind_of error.now) result }
 {

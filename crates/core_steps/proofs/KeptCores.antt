@@ -17,7 +17,7 @@ use Rattle.handles.specs.Machine.{Kind, State, Job, Request, open_handle, snapsh
 use Rattle.iter.specs.Intervals.{part}
 use Rattle.splitter.specs.Cuts.{cut_point}
 use Rattle.core_steps.specs.Boards.{Board, Move, named_by, first_board, MoveResult, tells_settled}
-use Rattle.core_steps.specs.Cores.{CoreState, Asked, of_client, of_worker, Told, to_client, to_worker, no_move, Division, WorkerMoves, moved_job, board_of, frozen_map, refusal_of, boards_after, CoreStep, new_core}
+use Rattle.core_steps.specs.Cores.{CoreState, Asked, of_client, of_worker, CoreOutcome, to_client, to_worker, no_move, Division, WorkerMoves, moved_job, board_of, frozen_map, refusal_of, boards_after, CoreStep, new_core}
 use Rattle.core_steps.specs.Invariants.{IsBoard, IsCore}
 use Rattle.core_steps.proofs.KeptBoards.{CutsWithin, board_kept, first_is_board}
 
@@ -159,7 +159,7 @@ module _ {K V Q : Type 0} (division : Division K V Q) (cuts : (m : Map K V) (gra
 
 module _ {K V Q A B : Type 0} (kind : Kind K V Q A B) (division : Division K V Q) (cuts : (m : Map K V) (grain : ℕ) → CutsWithin (λ i. cut_point division.path m i grain)) where
   -- each step keeps what is true of a core
-  pub step_kept : (s : CoreState K V Q) (x : Asked K V Q) (y : Told K V B) (t : CoreState K V Q) → CoreStep kind division s x y t → IsCore s → IsCore t
+  pub step_kept : (s : CoreState K V Q) (x : Asked K V Q) (y : CoreOutcome K V B) (t : CoreState K V Q) → CoreStep kind division s x y t → IsCore s → IsCore t
   step_kept s (of_client r) (to_client o) t step is = subst IsCore (sym step.3) (client_kept kind s r o step.0 step.1 is)
   step_kept s (of_client r) (to_worker y) t step is = absurd step
   step_kept s (of_client r) (no_move e) t step is = absurd step

@@ -15,7 +15,7 @@ use Rattle.iter.specs.Intervals.{whole, lies_in, cover, AreApart, part}
 use Rattle.core_steps.proofs.Covers.{once}
 use Rattle.splitter.specs.Cuts.{cut_point}
 use Rattle.core_steps.specs.Boards.{Board, Move, taking, stealing, splitting, working, named_by, first_board, all_worked, MoveResult, took, cut, uncut, done, idle, tells_settled}
-use Rattle.core_steps.specs.Cores.{CoreState, Asked, of_client, of_worker, Told, to_client, to_worker, no_move, Division, WorkerMoves, moved_job, board_of, frozen_map, refusal_of, boards_after}
+use Rattle.core_steps.specs.Cores.{CoreState, Asked, of_client, of_worker, CoreOutcome, to_client, to_worker, no_move, Division, WorkerMoves, moved_job, board_of, frozen_map, refusal_of, boards_after}
 use Rattle.core_steps.specs.Traces.{covered, CoreRun}
 use Rattle.core_steps.specs.Invariants.{IsBoard, IsCore}
 use Rattle.core_steps.proofs.KeptBoards.{CutsWithin}
@@ -96,7 +96,7 @@ module _ {K V Q : Type 0} where
       kept false (Some x) b h most = let past : cond (nat_lt q s.machine.next) 1 0 ≡ 1 = ap (λ (t : Bool). cond {A = ℕ} t 1 0) (lt-ltb q s.machine.next (h refl)) in omega (arith, most, past)
 
 -- what a worker's step adds to the covering of a job
-covered_one : {K V Q B : Type 0} (q j : ℕ) (x : Move) (y : MoveResult) (xs : List (Asked K V Q)) (ys : List (Told K V B)) (p : ℕ)
+covered_one : {K V Q B : Type 0} (q j : ℕ) (x : Move) (y : MoveResult) (xs : List (Asked K V Q)) (ys : List (CoreOutcome K V B)) (p : ℕ)
     → cover (covered q (of_worker j x ∷ xs) (to_worker y ∷ ys)) p ≤ cond (j == q) (cover (worked_by y) p) 0 + cover (covered q xs ys) p
 covered_one q j (taking w) y xs ys p = omega arith
 covered_one q j (stealing w from) y xs ys p = omega arith
@@ -159,7 +159,7 @@ module _ {K V Q A B : Type 0} (kind : Kind K V Q A B) where
 
 module _ {K V Q A B : Type 0} (kind : Kind K V Q A B) (division : Division K V Q) (cuts : (m : Map K V) (grain : ℕ) → CutsWithin (λ i. cut_point division.path m i grain)) where
   -- what a run works of a job, and what was worked before, has each position once at most
-  pub run_spends : (s t : CoreState K V Q) (xs : List (Asked K V Q)) (ys : List (Told K V B)) (q p : ℕ) → CoreRun kind division s xs ys t → IsCore s → cover (covered q xs ys) p + spent s q p ≤ 1
+  pub run_spends : (s t : CoreState K V Q) (xs : List (Asked K V Q)) (ys : List (CoreOutcome K V B)) (q p : ℕ) → CoreRun kind division s xs ys t → IsCore s → cover (covered q xs ys) p + spent s q p ≤ 1
   run_spends s t [] [] q p run is = omega (arith, spent_once s q p is)
   run_spends s t [] (y ∷ ys) q p run is = absurd run
   run_spends s t (x ∷ xs) [] q p run is = absurd run
@@ -177,12 +177,12 @@ module _ {K V Q A B : Type 0} (kind : Kind K V Q A B) (division : Division K V Q
       let next = run_spends u t xs ys q p rest (step_kept kind division cuts s (of_worker j x) (no_move e) u step is) in
       omega (arith, next, ap (λ (c : CoreState K V Q). spent c q p) step.1, no_more j x xs ys e)
     where
-      no_more : (j : ℕ) (x : Move) (xs : List (Asked K V Q)) (ys : List (Told K V B)) (e : Refusal) → cover (covered q (of_worker j x ∷ xs) (no_move e ∷ ys)) p ≡ cover (covered q xs ys) p
+      no_more : (j : ℕ) (x : Move) (xs : List (Asked K V Q)) (ys : List (CoreOutcome K V B)) (e : Refusal) → cover (covered q (of_worker j x ∷ xs) (no_move e ∷ ys)) p ≡ cover (covered q xs ys) p
       no_more j (taking w) xs ys e = refl
       no_more j (stealing w from) xs ys e = refl
       no_more j (splitting w) xs ys e = refl
       no_more j (working w) xs ys e = refl
 
   -- the intervals that a run works of a job never share a position
-  pub never_twice : (s t : CoreState K V Q) (xs : List (Asked K V Q)) (ys : List (Told K V B)) (q : ℕ) → CoreRun kind division s xs ys t → IsCore s → AreApart (covered q xs ys)
+  pub never_twice : (s t : CoreState K V Q) (xs : List (Asked K V Q)) (ys : List (CoreOutcome K V B)) (q : ℕ) → CoreRun kind division s xs ys t → IsCore s → AreApart (covered q xs ys)
   never_twice s t xs ys q run is p = omega (arith, run_spends s t xs ys q p run is)

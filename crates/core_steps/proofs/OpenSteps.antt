@@ -84,7 +84,7 @@ part_of {K} {V} {P} {X} R path answers m ds k f o same job = by_case o (slice_ge
         (subst (λ (x : Worker). answers (parts path m x.worked) d.part) (sym (worker_is ds k d there read)) has)
 
 module _ {K V Q P A I : Type 0} (R : K → K → Ordering) (path : K → ℕ) (answers : Q → Map K V → P → Type 0) (ready : Q → Type 0)
-    (kind : Kind K V Q A (plain.Told K V I)) (Decides : Q → Map K V → Type 0)
+    (kind : Kind K V Q A (plain.Summary K V I)) (Decides : Q → Map K V → Type 0)
     (cuts : (m : Map K V) (grain : ℕ) → CutsWithin (λ i. cut_point path m i grain))
     (s : State K V Q) (ps : List (JobState K V Q P)) (w g : ℕ) (is : IsWhole R path answers ready s (job_states_of ps) w g)
   where

@@ -4,7 +4,7 @@ use Rattle.std.proofs.lemmas.List.{take_more, map-append}
 use Rattle.bulk_ops.specs.Answers as plain
 use Rattle.versions.specs.Map.{Map}
 use Rattle.handles.specs.Machine.{Kind}
-use Rattle.core_steps.specs.Cores.{CoreState, Asked, Told, Division, CoreStep}
+use Rattle.core_steps.specs.Cores.{CoreState, Asked, CoreOutcome, Division, CoreStep}
 use Rattle.core_steps.specs.Parts.{CoreValue, PartsStep, PartsRun}
 use Rattle.core_steps.specs.Traces.{CoreRun}
 use Rattle.core_steps.specs.Invariants.{IsCore}
@@ -15,7 +15,7 @@ use Rattle.core_steps.specs.declared.step.Step.{Step}
 use Rattle.core_steps.proofs.Runs.{run_of_machine}
 
 module _ {K V Q I : Type 0} where
-  shows_more : (xs : List (Asked K V Q)) (os : List (Outcome K V I)) (ys : List (Told K V (plain.Told K V I))) (x : Asked K V Q) (o : Outcome K V I) (y : Told K V (plain.Told K V I))
+  shows_more : (xs : List (Asked K V Q)) (os : List (Outcome K V I)) (ys : List (CoreOutcome K V (plain.Summary K V I))) (x : Asked K V Q) (o : Outcome K V I) (y : CoreOutcome K V (plain.Summary K V I))
       → AllShow xs os ys → Shows x o y → AllShow (xs ++ x ∷ []) (os ++ o ∷ []) (ys ++ y ∷ [])
   shows_more [] [] [] x o y all one = (one, tt)
   shows_more [] [] (z ∷ ys) x o y all one = absurd all
@@ -24,8 +24,8 @@ module _ {K V Q I : Type 0} where
   shows_more (a ∷ xs) (p ∷ os) [] x o y all one = absurd all
   shows_more (a ∷ xs) (p ∷ os) (z ∷ ys) x o y all one = (all.0, shows_more xs os ys x o y all.1 one)
 
-module _ {K V Q I A : Type 0} (kind : Kind K V Q A (plain.Told K V I)) (division : Division K V Q) where
-  runs_more : (s t u : CoreState K V Q) (xs : List (Asked K V Q)) (ys : List (Told K V (plain.Told K V I))) (x : Asked K V Q) (y : Told K V (plain.Told K V I))
+module _ {K V Q I A : Type 0} (kind : Kind K V Q A (plain.Summary K V I)) (division : Division K V Q) where
+  runs_more : (s t u : CoreState K V Q) (xs : List (Asked K V Q)) (ys : List (CoreOutcome K V (plain.Summary K V I))) (x : Asked K V Q) (y : CoreOutcome K V (plain.Summary K V I))
       → CoreRun kind division s xs ys t → CoreStep kind division t x y u → CoreRun kind division s (xs ++ x ∷ []) (ys ++ y ∷ []) u
   runs_more s t u [] [] x y run step = (u, subst (λ (r : CoreState K V Q). CoreStep kind division r x y u) (sym run) step, refl)
   runs_more s t u [] (z ∷ ys) x y run step = absurd run
@@ -33,14 +33,14 @@ module _ {K V Q I A : Type 0} (kind : Kind K V Q A (plain.Told K V I)) (division
   runs_more s t u (a ∷ xs) (z ∷ ys) x y run step = (run.0, run.1, runs_more run.0 t u xs ys x y run.2 step)
 
 module _ {K V Q B P : Type 0} where
-  parts_more : (ps qs rs : Map ℕ (List P)) (xs : List (Asked K V Q)) (ys : List (Told K V B)) (x : Asked K V Q) (y : Told K V B)
+  parts_more : (ps qs rs : Map ℕ (List P)) (xs : List (Asked K V Q)) (ys : List (CoreOutcome K V B)) (x : Asked K V Q) (y : CoreOutcome K V B)
       → PartsRun ps xs ys qs → PartsStep qs y x rs → PartsRun ps (xs ++ x ∷ []) (ys ++ y ∷ []) rs
   parts_more ps qs rs [] [] x y run step = (rs, subst (λ (r : Map ℕ (List P)). PartsStep r y x rs) (sym run) step, refl)
   parts_more ps qs rs [] (z ∷ ys) x y run step = absurd run
   parts_more ps qs rs (a ∷ xs) [] x y run step = absurd run
   parts_more ps qs rs (a ∷ xs) (z ∷ ys) x y run step = (run.0, run.1, parts_more run.0 qs rs xs ys x y run.2 step)
 
-module _ {K V Q P I A : Type 0} (kind : Kind K V Q A (plain.Told K V I)) (division : Division K V Q) where
+module _ {K V Q P I A : Type 0} (kind : Kind K V Q A (plain.Summary K V I)) (division : Division K V Q) where
   -- no step
   pub run_none : (s : CoreValue K V Q P) → HasRun kind division s [] [] s
   run_none s = record { told = []; shown = tt; run = refl; parts = refl }

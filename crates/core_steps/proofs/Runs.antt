@@ -1,14 +1,14 @@
 -- A run of the core is a run of the machine.
 use Rattle.std.proofs.Common.{◌≡◌, List, [], ◌∷◌, ap, subst}
 use Rattle.handles.specs.Machine.{Kind, State, Request, Outcome, Run}
-use Rattle.core_steps.specs.Cores.{CoreState, Asked, of_client, of_worker, Told, to_client, to_worker, no_move, Division}
+use Rattle.core_steps.specs.Cores.{CoreState, Asked, of_client, of_worker, CoreOutcome, to_client, to_worker, no_move, Division}
 use Rattle.core_steps.specs.Traces.{client_requests, client_outcomes, CoreRun}
 
 module _ {K V Q A B : Type 0} (kind : Kind K V Q A B) (division : Division K V Q) where
   from_machine : (a b t : State K V Q) (rs : List (Request K V Q)) (os : List (Outcome K V B)) → a ≡ b → Run kind a rs os t → Run kind b rs os t
   from_machine a b t rs os e run = subst (λ (s : State K V Q). Run kind s rs os t) e run
 
-  pub run_of_machine : (s t : CoreState K V Q) (xs : List (Asked K V Q)) (ys : List (Told K V B)) → CoreRun kind division s xs ys t → Run kind s.machine (client_requests xs) (client_outcomes ys) t.machine
+  pub run_of_machine : (s t : CoreState K V Q) (xs : List (Asked K V Q)) (ys : List (CoreOutcome K V B)) → CoreRun kind division s xs ys t → Run kind s.machine (client_requests xs) (client_outcomes ys) t.machine
   run_of_machine s t [] [] run = ap (λ (c : CoreState K V Q). c.machine) run
   run_of_machine s t [] (y ∷ ys) run = absurd run
   run_of_machine s t (x ∷ xs) [] run = absurd run

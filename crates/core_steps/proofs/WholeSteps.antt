@@ -10,7 +10,7 @@ use Rattle.versions.specs.Map.{Map, value_at, with_pair, without, is_other}
 use Rattle.versions.specs.declared.refusal.Refusal.{Refusal}
 use Rattle.versions.specs.declared.refusal.Refusal.TheVariants.{NoHandle, Taken, Full, NoJob, Unfinished, NoWorker, TooManyJobs, JournalFull, NoMemory, BadNumber}
 use Rattle.bulk_ops.specs.Answers as plain
-use Rattle.bulk_ops.specs.Told.{told_of}
+use Rattle.bulk_ops.specs.Summaries.{summary_of}
 use Rattle.bulk_ops.specs.declared.asks.Answer.{Answer}
 use Rattle.handles.specs.declared.call.Call.{Call}
 use Rattle.handles.specs.declared.call.Call.TheVariants.{Open, Snapshot, Drop, On}
@@ -26,7 +26,7 @@ use Rattle.core_steps.specs.Boards.{Board, worker, first_board, all_worked, Move
 use Rattle.core_steps.specs.Cores as cores
 use Rattle.core_steps.specs.Views.{move_result}
 use Rattle.core_steps.specs.declared.progress.Progress.{Progress}
-use Rattle.core_steps.specs.Cores.{CoreState, Asked, of_client, of_worker, Told, to_client, to_worker, no_move, CoreStep, board_of, frozen_map, refusal_of, IsUnfinished, IsSettled}
+use Rattle.core_steps.specs.Cores.{CoreState, Asked, of_client, of_worker, CoreOutcome, to_client, to_worker, no_move, CoreStep, board_of, frozen_map, refusal_of, IsUnfinished, IsSettled}
 use Rattle.core_steps.specs.WorkerValues.{WorkerValue, worker_of, board, state_parts, IsJobOn}
 use Rattle.core_steps.specs.Invariants.{IsBoard, waiting}
 use Rattle.core_steps.specs.Collected.{IsCollected, MayCollect}
@@ -42,14 +42,14 @@ use Rattle.core_steps.proofs.JobStateLemmas.{same_ties, put_sorted, less_sorted,
 use Rattle.core_steps.proofs.Wholes.{job_tiles}
 
 module _ {K V Q P A I : Type 0} (R : K → K → Ordering) (path : K → ℕ) (answers : Q → Map K V → P → Type 0) (ready : Q → Type 0)
-    (kind : Kind K V Q A (plain.Told K V I)) (Decides : Q → Map K V → Type 0)
+    (kind : Kind K V Q A (plain.Summary K V I)) (Decides : Q → Map K V → Type 0)
     (cuts : (m : Map K V) (grain : ℕ) → CutsWithin (λ i. cut_point path m i grain))
   where
     abbrev Whole : State K V Q → Map ℕ (JobValue K V Q P) → ℕ → ℕ → Type 0
     Whole s job_states w g = IsWhole R path answers ready s job_states w g
 
     -- 1. Steps that neither open nor close a job.
-    quiet : (s t : State K V Q) (job_states : Map ℕ (JobValue K V Q P)) (w g : ℕ) (r : Request K V Q) (o : Outcome K V (plain.Told K V I))
+    quiet : (s t : State K V Q) (job_states : Map ℕ (JobValue K V Q P)) (w g : ℕ) (r : Request K V Q) (o : Outcome K V (plain.Summary K V I))
         → t.jobs ≡ s.jobs → CoreStep kind (divided path Decides) (core_of s job_states w g) (of_client r) (to_client o) (core_of t job_states w g) → Whole s job_states w g → Whole t job_states w g
     quiet s t job_states w g r o same step is = record {
       core = step_kept kind (divided path Decides) cuts (core_of s job_states w g) (of_client r) (to_client o) (core_of t job_states w g) step is.core;
@@ -78,7 +78,7 @@ module _ {K V Q P A I : Type 0} (R : K → K → Ordering) (path : K → ℕ) (a
           quiet s t job_states w g r (refused e) (ap (λ (x : State K V Q). x.jobs) step.1) core is,
         )
 
-    pub refusal_whole : {T : Type 0} (shown : T → Outcome K V (plain.Told K V I)) (s t : State K V Q) (job_states : Map ℕ (JobValue K V Q P)) (w g : ℕ) (r : Request K V Q) (e : Refusal) → IsStep kind s r shown (Err e) t → Whole s job_states w g
+    pub refusal_whole : {T : Type 0} (shown : T → Outcome K V (plain.Summary K V I)) (s t : State K V Q) (job_states : Map ℕ (JobValue K V Q P)) (w g : ℕ) (r : Request K V Q) (e : Refusal) → IsStep kind s r shown (Err e) t → Whole s job_states w g
         → IsAnswered kind (divided path Decides) (value_of s job_states w g) (of_client r) (refused_outcome e) (value_of t job_states w g) × Whole t job_states w g
     refusal_whole shown s t job_states w g r NoHandle step is = refused_whole s t job_states w g r NoHandle step is
     refusal_whole shown s t job_states w g r Taken step is = refused_whole s t job_states w g r Taken step is
@@ -115,7 +115,7 @@ module _ {K V Q P A I : Type 0} (R : K → K → Ordering) (path : K → ℕ) (a
     closes_none (On h c) = refl
 
     -- a call leaves all parts
-    call_parts : (ps : Map ℕ (List P)) (c : Call K V) (y : CallReply V) → PartsStep {P = P} {K = K} {V = V} {Q = Q} {B = plain.Told K V I} ps (to_client (call_outcome y)) (of_client (request_of c)) ps
+    call_parts : (ps : Map ℕ (List P)) (c : Call K V) (y : CallReply V) → PartsStep {P = P} {K = K} {V = V} {Q = Q} {B = plain.Summary K V I} ps (to_client (call_outcome y)) (of_client (request_of c)) ps
     call_parts ps (Open h) replies.Unit = refl
     call_parts ps (Open h) (replies.Reply y) = refl
     call_parts ps (Snapshot h to) replies.Unit = refl
@@ -173,7 +173,7 @@ module _ {K V Q P A I : Type 0} (R : K → K → Ordering) (path : K → ℕ) (a
         by_number false x p o r has fits = fits
 
     -- 3. A job is closed.
-    closed_whole : (s t : State K V Q) (job_states : Map ℕ (JobValue K V Q P)) (w g j : ℕ) (r : Request K V Q) (o : Outcome K V (plain.Told K V I))
+    closed_whole : (s t : State K V Q) (job_states : Map ℕ (JobValue K V Q P)) (w g j : ℕ) (r : Request K V Q) (o : Outcome K V (plain.Summary K V I))
         → t.jobs ≡ without nat_cmp s.jobs j → CoreStep kind (divided path Decides) (core_of s job_states w g) (of_client r) (to_client o) (core_of t (without nat_cmp job_states j) w g)
         → Whole s job_states w g → Whole t (without nat_cmp job_states j) w g
     closed_whole s t job_states w g j r o jobs core is = record {
@@ -291,14 +291,14 @@ module _ {K V Q P A I : Type 0} (R : K → K → Ordering) (path : K → ℕ) (a
     )
 
     -- a job is closed by its answer
-    pub finished_whole : (s t : State K V Q) (job_states : Map ℕ (JobValue K V Q P)) (w g j : ℕ) (a : Answer K V I) → Step kind s (finish j) (finished (told_of a)) t
+    pub finished_whole : (s t : State K V Q) (job_states : Map ℕ (JobValue K V Q P)) (w g j : ℕ) (a : Answer K V I) → Step kind s (finish j) (finished (summary_of a)) t
         → (IsUnfinished (divided path Decides) (core_of s job_states w g) j → ⊥) → Whole s job_states w g
         → StepsTo kind (divided path Decides) (value_of s job_states w g) (of_client (finish j)) (outcomes.Answer a) (value_of t (without nat_cmp job_states j) w g) × Whole t (without nat_cmp job_states j) w g
     finished_whole s t job_states w g j a step exact is =
-        let core : CoreStep kind (divided path Decides) (core_of s job_states w g) (of_client (finish j)) (to_client (finished (told_of a))) (core_of t (without nat_cmp job_states j) w g) =
+        let core : CoreStep kind (divided path Decides) (core_of s job_states w g) (of_client (finish j)) (to_client (finished (summary_of a))) (core_of t (without nat_cmp job_states j) w g) =
         (t, step, exact, λ i. record { machine = t; boards = shown_without job_states j i; workers = w; grain = g }) in (
-          record { told = to_client (finished (told_of a)); shown = refl; step = core; parts = parts_without job_states j },
-          closed_whole s t job_states w g j (finish j) (finished (told_of a)) (ap (λ (x : State K V Q). x.jobs) step.1.left) core is,
+          record { told = to_client (finished (summary_of a)); shown = refl; step = core; parts = parts_without job_states j },
+          closed_whole s t job_states w g j (finish j) (finished (summary_of a)) (ap (λ (x : State K V Q). x.jobs) step.1.left) core is,
         )
 
     -- 5. Workers.

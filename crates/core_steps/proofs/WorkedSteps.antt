@@ -12,7 +12,7 @@ use Rattle.iter.specs.declared.interval.Interval.{Interval}
 use Rattle.iter.specs.Intervals.{whole, Tile}
 use Rattle.core_steps.proofs.Covers.{cut_tiles, cuts_tile}
 use Rattle.core_steps.specs.Boards.{taking, stealing, splitting, working, took, cut, uncut, done, idle}
-use Rattle.core_steps.specs.Cores.{CoreState, new_core, Asked, of_client, of_worker, Told, to_client, to_worker, no_move, Division}
+use Rattle.core_steps.specs.Cores.{CoreState, new_core, Asked, of_client, of_worker, CoreOutcome, to_client, to_worker, no_move, Division}
 use Rattle.core_steps.specs.Traces.{CoreRun}
 
 -- count all pairs, or tell whether some pair has a value
@@ -62,7 +62,7 @@ abbrev by_bytes : Division ℕ ℕ Query
 by_bytes = record { path = of_byte; Decides = decides }
 
 -- from a new core with two workers and grain 1, the steps get the answers
-abbrev IsWorkedRun : Division ℕ ℕ Query → List (Asked ℕ ℕ Query) → List (Told ℕ ℕ Answer) → Type 0
+abbrev IsWorkedRun : Division ℕ ℕ Query → List (Asked ℕ ℕ Query) → List (CoreOutcome ℕ ℕ Answer) → Type 0
 IsWorkedRun division xs ys = (t : CoreState ℕ ℕ Query) × CoreRun kind division (new_core (record { pairs = 16777216; entries = 1048576 }) 2 1) xs ys t
 
 -- the first steps of the runs: two pairs, a job on them, and a later pair
@@ -71,7 +71,7 @@ start q xs =
     of_client (open_handle 1) ∷ of_client (on 1 (put 0 1)) ∷ of_client (on 1 (put 13835058055282163712 2)) ∷ of_client (freeze 1 q) ∷ of_client (on 1 (put 5 3))
     ∷ of_worker 0 (taking 0) ∷ of_worker 0 (splitting 0) ∷ xs
 
-abbrev started : List (Told ℕ ℕ Answer) → List (Told ℕ ℕ Answer)
+abbrev started : List (CoreOutcome ℕ ℕ Answer) → List (CoreOutcome ℕ ℕ Answer)
 started ys =
     to_client made ∷ to_client (replied (old None)) ∷ to_client (replied (old None)) ∷ to_client (frozen 0 ((0, 1) ∷ (13835058055282163712, 2) ∷ [])) ∷ to_client (replied (old None))
     ∷ to_worker (took 0 18446744073709551616) ∷ to_worker (cut 0 12 18446744073709551616) ∷ ys

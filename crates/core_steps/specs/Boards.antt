@@ -20,7 +20,7 @@ pub data Move : Type 0 where
   splitting : ℕ → Move
   working : ℕ → Move
 
--- what a move is answered; a worked interval tells its number of pairs, and whether the worker's part is settled
+-- what a move is answered; that of a worked interval has its number of pairs, and whether the worker's part is settled
 pub data MoveResult : Type 0 where
   took : ℕ → ℕ → MoveResult
   cut : ℕ → ℕ → ℕ → MoveResult
@@ -103,7 +103,7 @@ abbrev pub split : (Interval → Option ℕ) → Board → ℕ → Option Interv
 split point b w (Some i) = split_at b w i (point i)
 split point b w None = (idle, b)
 
--- a worker works what it holds, by the number of pairs that an interval has; it is told whether its part is settled then
+-- a worker works what it holds, by the number of pairs that an interval has; the answer says whether its part is settled then
 abbrev pub work : (Interval → ℕ) → Bool → Board → ℕ → Option Interval → MoveResult × Board
 work size settled b w (Some i) = (done i.lo i.hi (size i) settled, with_held (with_worked b w ((worker b w).worked ++ i ∷ [])) w None)
 work size settled b w None = (idle, b)
@@ -129,12 +129,12 @@ named_by (stealing w from) = w ∷ from ∷ []
 named_by (splitting w) = w ∷ []
 named_by (working w) = w ∷ []
 
--- whether an answer tells that the worker's part is settled
+-- whether an answer says that the worker's part is settled
 abbrev pub tells_settled : MoveResult → Bool
 tells_settled (done lo hi n settled) = settled
 tells_settled _ = false
 
--- an answer that tells of settling tells the truth
+-- what an answer says of settling is true
 abbrev pub TellsTruly : MoveResult → Type 0 → Type 0
 TellsTruly (done lo hi n settled) Decided = MatchBool settled Decided (Decided → ⊥)
 TellsTruly _ Decided = Unit {0}

@@ -25,10 +25,10 @@ pub data Asked (K V Q : Type 0) : Type 0 where
   of_worker : ℕ → Move → Asked K V Q
 
 -- what a core answers: a client's outcome; what a worker's move is answered, or why it is refused
-pub data Told (K V B : Type 0) : Type 0 where
-  to_client : Outcome K V B → Told K V B
-  to_worker : MoveResult → Told K V B
-  no_move : Refusal → Told K V B
+pub data CoreOutcome (K V B : Type 0) : Type 0 where
+  to_client : Outcome K V B → CoreOutcome K V B
+  to_worker : MoveResult → CoreOutcome K V B
+  no_move : Refusal → CoreOutcome K V B
 
 -- what it takes to divide a map among workers: the path words of its keys, and when the pairs of a part decide a query
 pub record Division (K V Q : Type 0) : Type 1 where
@@ -80,7 +80,7 @@ module _ {K V Q : Type 0} (division : Division K V Q) where
   abbrev pub moved_job : CoreState K V Q → ℕ → Move → Bool → MoveResult × Board
   moved_job s j x settled = moved (λ i. cut_point division.path (frozen_map s j) i s.grain) (λ i. length (frozen_part s j i)) settled (board_of s j) x
 
-  -- a worker's step: the board's, and what it tells of settling is true
+  -- a worker's step: the board's, and what it says of settling is true
   pub record WorkerMoves (s : CoreState K V Q) (j : ℕ) (x : Move) (y : MoveResult) (t : CoreState K V Q) : Type 0 where
     pub told : y ≡ (moved_job s j x (tells_settled y)).0
     pub left : t ≡ record s { boards = with_pair nat_cmp s.boards j (moved_job s j x (tells_settled y)).1 }
@@ -99,7 +99,7 @@ module _ {K V Q : Type 0} (division : Division K V Q) where
 
 module _ {K V Q A B : Type 0} (kind : Kind K V Q A B) (division : Division K V Q) where
   -- one step: a client's is a step of the machine, and a worker's leaves the machine as it is
-  abbrev pub CoreStep : CoreState K V Q → Asked K V Q → Told K V B → CoreState K V Q → Type 0
+  abbrev pub CoreStep : CoreState K V Q → Asked K V Q → CoreOutcome K V B → CoreState K V Q → Type 0
   CoreStep s (of_client r) (to_client o) t = (m : State K V Q) × Step kind s.machine r o m × IsExact division s r o × (t ≡ record s { machine = m; boards = boards_after s r o })
   CoreStep s (of_worker j x) (to_worker y) t = (refusal_of s j x ≡ None) × WorkerMoves division s j x y t
   CoreStep s (of_worker j x) (no_move e) t = (refusal_of s j x ≡ Some e) × (t ≡ s)

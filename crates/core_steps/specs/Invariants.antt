@@ -12,7 +12,7 @@ use Rattle.core_steps.specs.Cores.{CoreState}
 abbrev pub emptiness : Interval → ℕ
 emptiness i = cond (nat_lt i.lo i.hi) 0 1
 
--- a board of so many workers, whose intervals tile all positions, and none of which is empty
+-- a board of this many workers, whose intervals tile all positions, and none of which is empty
 pub record IsBoard (workers : ℕ) (b : Board) : Type 0 where
   pub long : length b ≡ workers
   pub tile : Tile (intervals b) whole

@@ -7,7 +7,7 @@ use Rattle.iter.specs.declared.interval.Interval.{Interval}
 use Rattle.splitter.specs.Cuts.{cut_point}
 use Rattle.iter.specs.Intervals.{whole, AreApart, Tile, parts}
 use Rattle.core_steps.specs.Boards.{Board, Move, MoveResult, all_worked, moved, named_by}
-use Rattle.core_steps.specs.Cores.{CoreState, Asked, Told, Division, CoreStep, board_of, frozen_map}
+use Rattle.core_steps.specs.Cores.{CoreState, Asked, CoreOutcome, Division, CoreStep, board_of, frozen_map}
 use Rattle.core_steps.specs.Traces.{client_requests, client_outcomes, covered, CoreRun}
 use Rattle.core_steps.specs.WorkerValues.{WorkerValue, IsJobOn, Leaves, Works, splitting_move, stealing_move, taking_move}
 use Rattle.core_steps.specs.Invariants.{IsBoard, IsCore, waiting}
@@ -16,19 +16,19 @@ module _ {K V Q A B : Type 0} (kind : Kind K V Q A B) (division : Division K V Q
   -- what clients see of a run of a core is a run of the machine
   abbrev pub RunsAreMachineRuns : Type 0
   RunsAreMachineRuns =
-      (s t : CoreState K V Q) (xs : List (Asked K V Q)) (ys : List (Told K V B))
+      (s t : CoreState K V Q) (xs : List (Asked K V Q)) (ys : List (CoreOutcome K V B))
       → CoreRun kind division s xs ys t → Run kind s.machine (client_requests xs) (client_outcomes ys) t.machine
 
   -- every step keeps what is true of a core
   abbrev pub StepsKeepCores : Type 0
   StepsKeepCores =
-      (s t : CoreState K V Q) (x : Asked K V Q) (y : Told K V B)
+      (s t : CoreState K V Q) (x : Asked K V Q) (y : CoreOutcome K V B)
       → IsCore s → CoreStep kind division s x y t → IsCore t
 
   -- no position of a job is worked twice, whatever its number stands for
   abbrev pub NoneWorkedTwice : Type 0
   NoneWorkedTwice =
-      (s t : CoreState K V Q) (xs : List (Asked K V Q)) (ys : List (Told K V B)) (j : ℕ)
+      (s t : CoreState K V Q) (xs : List (Asked K V Q)) (ys : List (CoreOutcome K V B)) (j : ℕ)
       → IsCore s → CoreRun kind division s xs ys t → AreApart (covered j xs ys)
 
 -- the worked intervals of an open job tile all positions exactly where nothing waits and nothing is held

@@ -30,7 +30,7 @@ module _ {K V P : Type 0} (path : K → ℕ) (m : Map K V) where
   move_on grain ds x y = moved (λ i. cut_point path m i grain) (λ i. length (part path m i)) (tells_settled y) (board ds) x
 
 module _ {K V P : Type 0} (R : K → K → Ordering) (path : K → ℕ) (answers : Map K V → P → Type 0) (Decides : Map K V → Type 0) (m : Map K V) where
-  -- a worker's move on the workers' states of a job: the board's, what it tells of settling is true, and the others keep their parts
+  -- a worker's move on the workers' states of a job: the board's, what it says of settling is true, and the others keep their parts
   pub record MovesTo (grain : ℕ) (old : List (WorkerValue K V P)) (x : boards.Move) (y : MoveResult) (new : List (WorkerValue K V P)) : Type 0 where
     pub told : y ≡ (move_on path m grain old x y).0
     pub left : board new ≡ (move_on path m grain old x y).1

@@ -5,7 +5,7 @@ use Rattle.versions.specs.Map.{Map, value_at, with_pair, without}
 use Rattle.handles.specs.declared.limits.Limits.{Limits}
 use Rattle.handles.specs.Machine.{freeze, finish, abandon, made, frozen, finished}
 use Rattle.core_steps.specs.Boards.{Move, working, MoveResult, done}
-use Rattle.core_steps.specs.Cores.{CoreState, Asked, of_client, of_worker, Told, to_client, to_worker, new_core}
+use Rattle.core_steps.specs.Cores.{CoreState, Asked, of_client, of_worker, CoreOutcome, to_client, to_worker, new_core}
 
 -- what contracts see of a core: its state, and for each open job the parts of its workers, in order of their numbers
 pub record CoreValue (K V Q P : Type 0) : Type 0 where
@@ -36,7 +36,7 @@ module _ {P : Type 0} where
   PartsMoved ps j x y qs = qs ≡ ps
 
   -- the parts after a step: a freeze adds those of its job, the end of a job takes its parts away, and a worker that has worked a piece has another part; all others stay
-  abbrev pub PartsStep : {K V Q B : Type 0} → Map ℕ (List P) → Told K V B → Asked K V Q → Map ℕ (List P) → Type 0
+  abbrev pub PartsStep : {K V Q B : Type 0} → Map ℕ (List P) → CoreOutcome K V B → Asked K V Q → Map ℕ (List P) → Type 0
   PartsStep ps (to_client (frozen j m)) x qs = (news : List P) × (qs ≡ with_pair nat_cmp ps j news)
   PartsStep ps (to_client (finished b)) (of_client (finish j)) qs = qs ≡ without nat_cmp ps j
   PartsStep ps (to_client made) (of_client (abandon j)) qs = qs ≡ without nat_cmp ps j
@@ -44,7 +44,7 @@ module _ {P : Type 0} where
   PartsStep ps y x qs = qs ≡ ps
 
   -- the parts after steps that were answered so, one after another
-  abbrev pub PartsRun : {K V Q B : Type 0} → Map ℕ (List P) → List (Asked K V Q) → List (Told K V B) → Map ℕ (List P) → Type 0
+  abbrev pub PartsRun : {K V Q B : Type 0} → Map ℕ (List P) → List (Asked K V Q) → List (CoreOutcome K V B) → Map ℕ (List P) → Type 0
   PartsRun ps [] [] qs = ps ≡ qs
   PartsRun ps (x ∷ xs) (y ∷ ys) qs = (rs : Map ℕ (List P)) × PartsStep ps y x rs × PartsRun rs xs ys qs
   PartsRun ps _ _ qs = ⊥

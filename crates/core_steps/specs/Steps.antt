@@ -6,14 +6,14 @@ use Rattle.versions.specs.declared.refusal.Refusal.{Refusal}
 use Rattle.versions.specs.declared.refusal.Refusal.TheVariants as refusals
 use Rattle.trie_shape.specs.declared.no_memory.NoMemory.{NoMemory}
 use Rattle.bulk_ops.specs.Answers as plain
-use Rattle.bulk_ops.specs.Told.{told_of}
+use Rattle.bulk_ops.specs.Summaries.{summary_of}
 use Rattle.handles.specs.declared.call_reply.CallReply.{CallReply}
 use Rattle.handles.specs.Machine.{Kind, Request, view, freeze, finish, abandon, made, viewed, frozen, finished, unfinished, Run}
 use Rattle.handles.specs.Machine as machine
 use Rattle.handles.specs.Views.{request_of, call_outcome}
 use Rattle.iter.specs.Intervals.{AreApart}
 use Rattle.core_steps.specs.Boards.{taking, stealing, splitting, working}
-use Rattle.core_steps.specs.Cores.{CoreState, Asked, of_client, of_worker, Told, to_client, to_worker, no_move, Division, IsUnfinished, CoreStep, refusal_of}
+use Rattle.core_steps.specs.Cores.{CoreState, Asked, of_client, of_worker, CoreOutcome, to_client, to_worker, no_move, Division, IsUnfinished, CoreStep, refusal_of}
 use Rattle.core_steps.specs.Parts.{CoreValue, PartsStep, PartsRun}
 use Rattle.core_steps.specs.Moves.{moves_without_memory}
 use Rattle.core_steps.specs.Traces.{client_requests, client_outcomes, covered, CoreRun}
@@ -40,24 +40,24 @@ abbrev pub CanAsk : {K V Q : Type 0} → (Q → Type 0) → Asked K V Q → Type
 CanAsk ready (of_client (freeze h q)) = ready q
 CanAsk ready x = Unit {0}
 
--- what is told of a refusal
-abbrev pub refusal_told : {K V Q B : Type 0} → Asked K V Q → Refusal → Told K V B
-refusal_told (of_client r) e = to_client (machine.refused e)
-refusal_told (of_worker j x) e = no_move e
+-- what is reported of a refusal
+abbrev pub refusal_outcome : {K V Q B : Type 0} → Asked K V Q → Refusal → CoreOutcome K V B
+refusal_outcome (of_client r) e = to_client (machine.refused e)
+refusal_outcome (of_worker j x) e = no_move e
 
 module _ {K V Q I : Type 0} where
-  -- an outcome shows what is told: of a freeze it shows the number of the job, whose map the core keeps
-  abbrev pub Shows : Asked K V Q → Outcome K V I → Told K V (plain.Told K V I) → Type 0
+  -- an outcome shows what is reported: of a freeze it shows the number of the job, whose map the core keeps
+  abbrev pub Shows : Asked K V Q → Outcome K V I → CoreOutcome K V (plain.Summary K V I) → Type 0
   Shows x (outcomes.Reply y) t = t ≡ to_client (call_outcome y)
   Shows x (outcomes.View m) t = t ≡ to_client (viewed m)
   Shows x (outcomes.Frozen j) t = (m : Map K V) × (t ≡ to_client (frozen j m))
-  Shows x (outcomes.Answer a) t = t ≡ to_client (finished (told_of a))
+  Shows x (outcomes.Answer a) t = t ≡ to_client (finished (summary_of a))
   Shows x outcomes.Unfinished t = t ≡ to_client unfinished
   Shows x outcomes.Abandoned t = t ≡ to_client made
   Shows x (outcomes.Moved p) t = t ≡ to_worker (move_result p)
-  Shows x (outcomes.Refused e) t = t ≡ refusal_told x e
+  Shows x (outcomes.Refused e) t = t ≡ refusal_outcome x e
 
--- what is answered where a step is refused: want of memory is no outcome
+-- what is answered where a step is refused: `NoMemory` is no outcome
 abbrev pub refused_outcome : {K V I : Type 0} → Refusal → Result (Outcome K V I) NoMemory
 refused_outcome refusals.NoMemory = Err (record {})
 refused_outcome e = Ok (outcomes.Refused e)
@@ -88,10 +88,10 @@ abbrev pub MayFinish : {K V Q : Type 0} → Division K V Q → CoreState K V Q �
 MayFinish division s (of_client (finish j)) = IsUnfinished division s j → ⊥
 MayFinish division s x = Unit {0}
 
-module _ {K V Q P I A : Type 0} (kind : Kind K V Q A (plain.Told K V I)) (division : Division K V Q) where
-  -- one step of the core, of which the outcome shows what is told; each worker keeps its part, but for one that has worked a piece
+module _ {K V Q P I A : Type 0} (kind : Kind K V Q A (plain.Summary K V I)) (division : Division K V Q) where
+  -- one step of the core, of which the outcome shows what is reported; each worker keeps its part, but for one that has worked a piece
   pub record StepsTo (s : CoreValue K V Q P) (x : Asked K V Q) (o : Outcome K V I) (t : CoreValue K V Q P) : Type 0 where
-    pub told : Told K V (plain.Told K V I)
+    pub told : CoreOutcome K V (plain.Summary K V I)
     pub shown : Shows x o told
     pub step : CoreStep kind division s.state x told t.state
     pub parts : PartsStep s.parts told x t.parts
@@ -102,16 +102,16 @@ module _ {K V Q P I A : Type 0} (kind : Kind K V Q A (plain.Told K V I)) (divisi
   IsAnswered s x (Err e) t = t ≡ s
 
 module _ {K V Q I : Type 0} where
-  -- each outcome shows what is told
-  abbrev pub AllShow : List (Asked K V Q) → List (Outcome K V I) → List (Told K V (plain.Told K V I)) → Type 0
+  -- each outcome shows what is reported
+  abbrev pub AllShow : List (Asked K V Q) → List (Outcome K V I) → List (CoreOutcome K V (plain.Summary K V I)) → Type 0
   AllShow [] [] [] = Unit {0}
   AllShow (x ∷ xs) (o ∷ os) (y ∷ ys) = Shows x o y × AllShow xs os ys
   AllShow _ _ _ = ⊥
 
-module _ {K V Q P I A : Type 0} (kind : Kind K V Q A (plain.Told K V I)) (division : Division K V Q) where
-  -- steps of the core, one after another, of which the outcomes show what is told: one outcome for each step; at each of them each worker keeps its part, but for one that has worked a piece
+module _ {K V Q P I A : Type 0} (kind : Kind K V Q A (plain.Summary K V I)) (division : Division K V Q) where
+  -- steps of the core, one after another, of which the outcomes show what is reported: one outcome for each step; at each of them each worker keeps its part, but for one that has worked a piece
   pub record HasRun (s : CoreValue K V Q P) (xs : List (Asked K V Q)) (os : List (Outcome K V I)) (t : CoreValue K V Q P) : Type 0 where
-    pub told : List (Told K V (plain.Told K V I))
+    pub told : List (CoreOutcome K V (plain.Summary K V I))
     pub shown : AllShow xs os told
     pub run : CoreRun kind division s.state xs told t.state
     pub parts : PartsRun s.parts xs told t.parts

@@ -66,7 +66,7 @@ module _ {K V P : Type 0} where
     pub queue : All (λ p. p.map ≡ m) d.queue
     pub held : IfSome d.held (λ p. p.map ≡ m)
 
-  -- what a worker's move comes to: what it tells, the board that it leaves; the pieces are of the same map as before, and each part stays with its intervals
+  -- what a worker's move comes to: its result, the board that it leaves; the pieces are of the same map as before, and each part stays with its intervals
   pub record Leaves (old new : List (WorkerValue K V P)) (told : MoveResult) (move : MoveResult × Board) : Type 0 where
     pub told_is : told ≡ move.0
     pub board_is : board new ≡ move.1

@@ -103,7 +103,7 @@ impl<K: PathKey + Drop, V: Drop, P> Board<K, V, P> {
     }
 }
 
-/// The board of a job that asks a view so many workers: the piece of the whole view waits for worker 0, and each worker
+/// The board of a job of `workers` workers on a view: the piece of the whole view waits for worker 0, and each worker
 /// has the part of no pairs.
 pub fn first_board<K: PathKey + Drop, V: Drop, B: Bulk<K, V>>(
     alloc: Global,

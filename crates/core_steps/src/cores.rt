@@ -21,7 +21,7 @@ use bulk_ops::Asks;
 use handles::{Call, Limits, MOST_ENTRIES, Table, law_of_freezes, law_of_open_jobs};
 use hash_path::PathKey;
 use iter::parts_follow_intervals;
-use splitter::law_of_cuts;
+use splitter::{MOST_GRAIN, MOST_WORKERS, law_of_cuts};
 use std::alloc::Global;
 use std::collections::VecDeque;
 use std::marker::Model;
@@ -54,8 +54,8 @@ impl<K: PathKey, V, Q: Asks<K, V>> Model for Core<K, V, Q> {
 }
 
 impl<K: PathKey + Drop, V: Eq + Drop, Q: Asks<K, V> + Drop> Core<K, V, Q> {
-    /// A core with no handles and no jobs, for so many workers of each job. A piece of at most `grain` pairs is not
-    /// cut.
+    /// A core with no handles and no jobs, with `workers` workers for each job. A piece of at most `grain` pairs is
+    /// not cut.
     pub fn new(
         alloc: Global,
         limits: Limits,
@@ -67,9 +67,9 @@ impl<K: PathKey + Drop, V: Eq + Drop, Q: Asks<K, V> + Drop> Core<K, V, Q> {
         requires least_entries { 2 ≤ limits.entries }
         requires most_entries { limits.entries ≤ MOST_ENTRIES }
         requires least_workers { 1 ≤ workers }
-        requires most_workers { workers ≤ 16 }
+        requires most_workers { workers ≤ MOST_WORKERS }
         requires least_grain { 1 ≤ grain }
-        requires most_grain { grain ≤ 65536 }
+        requires most_grain { grain ≤ MOST_GRAIN }
         ensures { IfOk result (λ core. core ≡ new_value limits workers grain) }
     {
         let table = Table::new(alloc, limits)?;
@@ -96,10 +96,10 @@ impl<K: PathKey + Drop, V: Eq + Drop, Q: Asks<K, V> + Drop> Core<K, V, Q> {
 
     /// Makes one step of a client or of a worker.
     ///
-    /// A query that is frozen may be called on every pair. A refusal that is due is told whatever the memory, and so is
-    /// that a job is unfinished. After `NoMemory` all is as before, and each step leaves all parts as they were, but
-    /// for that of a worker that works a piece, and those of a job that it opens or closes. A drop of a handle, an
-    /// abandon, a size, a take and a steal are never answered so.
+    /// A query that is frozen may be called on every pair. A refusal that is due is returned even if memory runs out,
+    /// and so is `Unfinished`. After `NoMemory` all is as before, and each step leaves all parts as they were, but for
+    /// that of a worker that works a piece, and those of a job that it opens or closes. A drop of a handle, an abandon,
+    /// a size, a take and a steal are never answered `NoMemory`.
     pub fn step(
         &mut self,
         alloc: Global,
@@ -113,7 +113,7 @@ impl<K: PathKey + Drop, V: Eq + Drop, Q: Asks<K, V> + Drop> Core<K, V, Q> {
         ensures core { IsCore self.new.state }
     {
         let answer = self.made(alloc, step);
-        // called for its contract alone, which tells that this is a core
+        // called for its contract alone, which says that this is a core
         self.workers();
         answer
     }
@@ -134,7 +134,7 @@ impl<K: PathKey + Drop, V: Eq + Drop, Q: Asks<K, V> + Drop> Core<K, V, Q> {
         ensures core { IsCore self.new.state }
     {
         law_of_coverings::<K, V, Q>();
-        // called for its contract alone, which tells that this is a core
+        // called for its contract alone, which says that this is a core
         self.workers();
         let mut outcomes = Vec::new(alloc);
         for step in steps {

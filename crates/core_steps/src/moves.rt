@@ -29,7 +29,7 @@ pub enum Move {
 }
 
 impl Move {
-    /// Whether a worker that the move names is none of so many.
+    /// Whether the move names a worker whose number is `workers` or more.
     pub fn names_other(self, workers: u32) -> bool
         ensures { result ≡ list_any (λ w. nat_le workers w) (named_by (move_of self)) }
     {

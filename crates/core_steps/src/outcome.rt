@@ -36,7 +36,7 @@ pub struct Trace<K: PathKey, V, I> {
     pub outcomes: Vec<Outcome<K, V, I>>,
 }
 
-/// What is answered where a step is refused: want of memory is no outcome.
+/// What is answered where a step is refused: `NoMemory` is no outcome.
 pub(crate) fn refused<K: PathKey, V, I>(refusal: Refusal) -> Result<Outcome<K, V, I>, NoMemory>
     ensures { result ≡ refused_outcome refusal }
 {

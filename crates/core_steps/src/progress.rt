@@ -2,8 +2,8 @@
 
 use hash_path::Bound;
 
-/// What a worker's move on an open job is answered. Intervals are told by their first position and the one after the
-/// last.
+/// What a worker's move on an open job is answered. An interval is given by its first position and the one after
+/// its last.
 #[derive(Clone, Copy, Debug, PartialEq, Eq)]
 pub enum Progress {
     /// It holds this interval now.
@@ -12,7 +12,7 @@ pub enum Progress {
     Cut(Bound, Bound, Bound),
     /// What it holds has no cut point.
     Whole,
-    /// It has worked this interval, with so many pairs; and whether its part is settled.
+    /// It has worked this interval, with this many pairs; and whether its part is settled.
     Worked(Bound, Bound, u64, bool),
     /// There was nothing to do.
     Idle,

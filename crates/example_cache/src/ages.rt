@@ -2,7 +2,7 @@
 ghost use Rattle.std.specs.Prelude.{◌≡◌};
 ghost use Rattle.trie_map.specs.Queries.{IsReady};
 
-use crate::entry::Entry;
+use crate::cached_ending::CachedEnding;
 use crate::lookups::Cache;
 use std::sync::Wait;
 use trie_map::{NoImages, NoMemory, PairFn, Query, Stored, StoredTest, Sum};
@@ -11,14 +11,14 @@ use trie_map::{NoImages, NoMemory, PairFn, Query, Stored, StoredTest, Sum};
 #[derive(Drop)]
 pub struct Since(pub u64);
 
-impl PairFn<u64, Entry, bool> for Since {
+impl PairFn<u64, CachedEnding, bool> for Since {
     ghost use Rattle.std.specs.Prelude.{◌≡◌, nat_le};
 
     ghost can = { λ since. Unit {0} };
 
     ghost gives = { λ since number entry answer. answer ≡ nat_le since.0 entry.second };
 
-    fn answer(&self, _number: &u64, entry: &Entry) -> bool {
+    fn answer(&self, _number: &u64, entry: &CachedEnding) -> bool {
         self.0 <= entry.second
     }
 }
@@ -27,32 +27,32 @@ impl PairFn<u64, Entry, bool> for Since {
 #[derive(Drop)]
 pub struct Unasked;
 
-impl PairFn<u64, Entry, Entry> for Unasked {
+impl PairFn<u64, CachedEnding, CachedEnding> for Unasked {
     ghost use Rattle.std.specs.Prelude.{◌≡◌};
 
     ghost can = { λ same. Unit {0} };
 
     ghost gives = { λ same number entry answer. answer ≡ entry };
 
-    fn answer(&self, _number: &u64, entry: &Entry) -> Entry {
+    fn answer(&self, _number: &u64, entry: &CachedEnding) -> CachedEnding {
         *entry
     }
 }
 
-impl PairFn<u64, Entry, i128> for Unasked {
+impl PairFn<u64, CachedEnding, i128> for Unasked {
     ghost use Rattle.std.specs.Prelude.{◌≡◌, pos};
 
     ghost can = { λ one. Unit {0} };
 
     ghost gives = { λ one number entry answer. answer ≡ pos 1 };
 
-    fn answer(&self, _number: &u64, _entry: &Entry) -> i128 {
+    fn answer(&self, _number: &u64, _entry: &CachedEnding) -> i128 {
         1
     }
 }
 
 /// The question of this program.
-pub type Question = Query<u64, Entry, Since, Unasked, Sum, Unasked, NoImages>;
+pub type Question = Query<u64, CachedEnding, Since, Unasked, Sum, Unasked, NoImages>;
 
 /// The map of the entries that were made in this second or later.
 pub fn made_since(second: u64) -> Question
@@ -74,6 +74,6 @@ pub fn expire<R: Wait>(rt: &R, cache: &Cache, second: u64) -> Result<u64, NoMemo
 }
 
 // The test, beside the fact that it has one answer for each pair.
-fn stored(since: Since) -> StoredTest<u64, Entry, Since> {
+fn stored(since: Since) -> StoredTest<u64, CachedEnding, Since> {
     Stored::new(since)
 }

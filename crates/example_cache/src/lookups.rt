@@ -2,12 +2,12 @@
 ghost use Rattle.std.specs.Prelude.{◌≡◌, IfOk};
 ghost use Rattle.example_cache.specs.Endings.{square_ending};
 
-use crate::entry::{Entry, MadeFromKey, make_entry};
+use crate::cached_ending::{CachedEnding, MadeFromKey, make_entry};
 use std::sync::Wait;
 use trie_map::{PutError, TrieMap};
 
 /// A cache of entries by their numbers.
-pub type Cache = TrieMap<u64, Entry, MadeFromKey>;
+pub type Cache = TrieMap<u64, CachedEnding, MadeFromKey>;
 
 /// The last three digits of the number's square: from the cache where they are there, and else worked out and kept.
 /// They are the right ones, whatever other threads have put there.
@@ -18,7 +18,7 @@ pub fn ending<R: Wait>(rt: &R, cache: &Cache, number: u64, second: u64) -> Resul
     Ok(entry.ending)
 }
 
-/// Looks up so many numbers from one on, each in the second that its number ends with, and answers the sum.
+/// Looks up `count` numbers from `first` on, each in the second that its number ends with, and returns the sum.
 pub fn sum_of<R: Wait>(rt: &R, cache: &Cache, first: u64, count: u64) -> Result<u64, PutError> {
     let mut sum = 0u64;
     for place in 0..count {

@@ -5,7 +5,7 @@
 #![tactic(auto)]
 
 mod ages;
-mod entry;
+mod cached_ending;
 mod lookups;
 mod tour;
 

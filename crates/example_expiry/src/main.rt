@@ -1,7 +1,7 @@
 //! A registry of leases: those that have expired are counted, and those that have not are filtered into a new map,
-//! while writes to the registry go on. Of a registry that threads share, a crew of four tells how many leases have
-//! expired, will soon, and last longer, while three others write it. Of one by names it tells how many names begin with
-//! each letter.
+//! while writes to the registry go on. Of a registry that threads share, a crew of four counts how many leases
+//! have expired, will soon, and last longer, while three others write it. Of one by names it counts how many names
+//! begin with each letter.
 //!
 //! What it prints is stored beside it. It fails, with status 1, where memory or the output does.
 #![tactic(auto)]

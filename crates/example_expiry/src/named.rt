@@ -1,4 +1,4 @@
-//! A registry by names that threads share: a crew tells how many names begin with each letter.
+//! A registry by names that threads share: a crew counts how many names begin with each letter.
 ghost use Rattle.std.specs.Prelude.{IfOk};
 ghost use Rattle.example_expiry.specs.Initials.{AreInitials};
 
@@ -22,7 +22,7 @@ type Frozen = View<ByteText, Lease>;
 /// How many devices of each kind there are.
 const DEVICES: u64 = 2_000;
 
-/// Leases to devices of four kinds, and tells how many of their names begin with each letter.
+/// Leases to devices of four kinds, and prints how many of their names begin with each letter.
 pub fn tour<R: Runtime + AllocGlobal + Threads + Wait + Sync>(rt: &R) -> Result<()> {
     let registry: Registry = TrieMap::new(rt)?;
     lease_to(rt, &registry, "camera")?;

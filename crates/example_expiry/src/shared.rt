@@ -1,4 +1,4 @@
-//! A registry that threads share: a crew tells how its leases end while other threads write it.
+//! A registry that threads share: a crew counts how its leases end while other threads write it.
 ghost use Rattle.std.specs.Prelude.{IfOk};
 ghost use Rattle.example_expiry.specs.Outlooks.{IsOutlook};
 

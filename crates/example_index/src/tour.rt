@@ -7,7 +7,8 @@ use std::rt::Runtime;
 use std::sync::{Arc, Wait};
 use std::thread::Threads;
 use tambyulo_clients::{
-    Asked, ByteText, Call, CallReply, Closed, Command, Limits, NoQuery, Reply, Told, with_clients,
+    Asked, ByteText, Call, CallReply, Closed, Command, Limits, NoQuery, Reply, Response,
+    with_clients,
 };
 
 /// What the two documents say. They have words in common, and each has a word twice.
@@ -79,11 +80,11 @@ fn added_before_view(closed: &Closing, seat: u32) -> u64 {
         let Some(entry) = closed.journal.entry(place) else {
             return added;
         };
-        match (entry.asked(), entry.told()) {
+        match (entry.asked(), entry.response()) {
             (Asked::View(_), _) if entry.seat() == seat => return added,
             (
                 Asked::Call(Call::On(_, Command::PutIfAbsent(_, _))),
-                Told::Reply(CallReply::Reply(Reply::Old(None))),
+                Response::Reply(CallReply::Reply(Reply::Old(None))),
             ) => added = added.wrapping_add(1),
             _ => (),
         }

@@ -37,10 +37,10 @@ fn count_all<R: AllocGlobal + Threads + Wait + Sync>(
 }
 
 /// How many keys there are, the visits of page 1 in hour 0, and in how many hours page 1 was visited.
-type Told = (u64, u64, u64);
+type Figures = (u64, u64, u64);
 
 /// Counts the visits, and looks at what was counted.
-fn tour<R: AllocGlobal + Threads + Wait + Sync>(rt: &R) -> Result<Told, PutError> {
+fn tour<R: AllocGlobal + Threads + Wait + Sync>(rt: &R) -> Result<Figures, PutError> {
     let visits: Visits = TrieMap::new(rt)?;
     count_all(rt, &visits)?;
     let found = visits
@@ -51,7 +51,7 @@ fn tour<R: AllocGlobal + Threads + Wait + Sync>(rt: &R) -> Result<Told, PutError
 }
 
 /// Prints what the tour told.
-fn print_told<R: Runtime>(rt: &R, told: Told) -> io::Result<()> {
+fn print_told<R: Runtime>(rt: &R, told: Figures) -> io::Result<()> {
     let (keys, found, hours) = told;
     println!(rt; "{keys} keys; {found} visits of page 1 in hour 0; it was visited in {hours} hours")
 }

@@ -42,10 +42,10 @@ fn serve_all<R: AllocGlobal + Threads + Wait + Sync>(
 
 /// The port of client 5, how many leases are secure, the sum of all ports, and how many leases there are in the map and
 /// in its snapshot at the end.
-type Told = (u16, u64, i128, u64, u64);
+type Figures = (u16, u64, i128, u64, u64);
 
 /// Takes a tour of the map that four threads have filled.
-fn tour<R: AllocGlobal + Threads + Wait + Sync>(rt: &R) -> Result<Told, PutError> {
+fn tour<R: AllocGlobal + Threads + Wait + Sync>(rt: &R) -> Result<Figures, PutError> {
     let leases: Leases = TrieMap::new(rt)?;
     serve_all(rt, &leases)?;
     leases.put(rt, 5, Lease { port: 8_443 })?;
@@ -60,7 +60,7 @@ fn tour<R: AllocGlobal + Threads + Wait + Sync>(rt: &R) -> Result<Told, PutError
 }
 
 /// Prints what the tour told.
-fn print_told<R: Runtime>(rt: &R, told: Told) -> io::Result<()> {
+fn print_told<R: Runtime>(rt: &R, told: Figures) -> io::Result<()> {
     let (port, secure, sum, now, then) = told;
     println!(rt; "port {port}; {secure} secure; sum {sum}; {now} now, {then} in the snapshot")
 }

@@ -7,7 +7,7 @@ use std::alloc::Global;
 use std::sync::{Arc, Wait};
 use std::thread::Threads;
 use tambyulo_clients::{
-    Call, Closed, Command, Limits, NoQuery, Refusal, Room, Seat, SharedMap, Use, with,
+    Call, Closed, Command, JournalName, Limits, NoQuery, Refusal, Seat, SharedMap, Use, with,
 };
 
 /// The handle of the map that both seats use.
@@ -16,7 +16,7 @@ const SHARED: u32 = 1;
 /// The table, whichever it is, and one of its seats.
 type Board<J> = SharedMap<u64, u64, NoQuery, J>;
 
-type Desk<J> = Seat<u64, u64, NoQuery, J>;
+type ClientSeat<J> = Seat<u64, u64, NoQuery, J>;
 
 /// The first of two seats puts the value of the key, they meet, and the second gets it.
 #[derive(Drop)]
@@ -36,12 +36,12 @@ impl Use<u64, u64, NoQuery> for Meeting {
 
     ghost gives = { λ self seats out. IfOk out (λ _. AreMet (arc_value self.key) (arc_value self.value) seats) };
 
-    fn run<J: Room + Send + Sync, R: Threads + Wait + Sync>(
+    fn run<J: JournalName + Send + Sync, R: Threads + Wait + Sync>(
         self,
         rt: &R,
         _alloc: Global,
         map: &Board<J>,
-        seats: &mut Vec<Desk<J>>,
+        seats: &mut Vec<ClientSeat<J>>,
     ) -> Result<(), Refusal> {
         let (one, two) = seats.split_at_mut(1);
         put_then_get(rt, map, &mut one[0], &mut two[0], self.key, self.value)
@@ -49,11 +49,11 @@ impl Use<u64, u64, NoQuery> for Meeting {
 }
 
 // The second seat's get has a floor above the place of the first's put, since they met in between.
-fn put_then_get<J: Room, R: Wait>(
+fn put_then_get<J: JournalName, R: Wait>(
     rt: &R,
     map: &Board<J>,
-    first: &mut Desk<J>,
-    second: &mut Desk<J>,
+    first: &mut ClientSeat<J>,
+    second: &mut ClientSeat<J>,
     key: Arc<u64>,
     value: Arc<u64>,
 ) -> Result<(), Refusal>

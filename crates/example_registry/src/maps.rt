@@ -50,7 +50,7 @@ fn move_billing<R: Runtime + AllocGlobal>(
     let moved = map_ops::replace_if(registry, alloc, Arc::try_clone(&billing)?, &seen, new)?;
     rt.println(format_args!("billing moved: {moved}"))?;
 
-    // A second writer saw the same, comes too late, and is told so.
+    // A second writer saw the same and comes too late: `replace_if` returns `false`.
     let late = at(alloc, "10.0.0.7", 8443)?;
     let moved = map_ops::replace_if(registry, alloc, Arc::try_clone(&billing)?, &seen, late)?;
     rt.println(format_args!("billing moved again: {moved}"))?;

@@ -7,7 +7,7 @@ use Rattle.bulk_ops.specs.Answers.{passing}
 use Rattle.bulk_ops.specs.Meanings.{Means}
 use Rattle.group_counts.specs.Counts.{total}
 
--- the count of a group that so many pairs have: none of a group with no pairs
+-- the count of a group that n pairs have: none of a group with no pairs
 abbrev pub if_any : ℕ → Option ℕ
 if_any zero = None
 if_any (suc n) = Some (suc n)

@@ -11,17 +11,17 @@ use std::sync::Arc;
 use trie_node::NoMemory;
 
 // A group and how many pairs it has.
-type Row<G> = (Arc<G>, u64);
+type GroupCount<G> = (Arc<G>, u64);
 
 // The next row of two lists put together, and what is left of both.
-type Next<'a, G> = (Row<G>, &'a [Row<G>], &'a [Row<G>]);
+type Next<'a, G> = (GroupCount<G>, &'a [GroupCount<G>], &'a [GroupCount<G>]);
 
 /// The rows of both lists, in order; where both have a group, one row with the sum of their counts.
 pub(crate) fn joined_rows<G: PathKey + Drop>(
     alloc: Global,
-    first: &[Row<G>],
-    second: &[Row<G>],
-) -> Result<Vec<Row<G>>, NoMemory>
+    first: &[GroupCount<G>],
+    second: &[GroupCount<G>],
+) -> Result<Vec<GroupCount<G>>, NoMemory>
     requires first_rises { IsMap G.cmp (map row_pair first.now) }
     requires second_rises { IsMap G.cmp (map row_pair second.now) }
     requires few { total (map row_pair first.now) + total (map row_pair second.now) < 2 ^ 64 }
@@ -40,8 +40,8 @@ pub(crate) fn joined_rows<G: PathKey + Drop>(
 
 // The next row of two lists, none where both are empty.
 fn next_row<'a, G: PathKey + Drop>(
-    left: &'a [Row<G>],
-    right: &'a [Row<G>],
+    left: &'a [GroupCount<G>],
+    right: &'a [GroupCount<G>],
 ) -> Result<Option<Next<'a, G>>, NoMemory>
     requires { total (map row_pair left.now) + total (map row_pair right.now) < 2 ^ 64 }
     ensures { IfOk result (λ next. MatchOption next ((left.now ≡ []) × (right.now ≡ [])) (λ n. TakesRow G.cmp (map row_pair left.now) (map row_pair right.now) (row_pair n.0) (map row_pair n.1.now) (map row_pair n.2.now) × (length n.1.now + length n.2.now < length left.now + length right.now))) }
@@ -64,7 +64,7 @@ fn next_row<'a, G: PathKey + Drop>(
 }
 
 // A row of the same group with this count.
-fn row_of<G: Drop>(row: &Row<G>, count: u64) -> Result<Row<G>, NoMemory>
+fn row_of<G: Drop>(row: &GroupCount<G>, count: u64) -> Result<GroupCount<G>, NoMemory>
     ensures { IfOk result (λ made. row_pair made ≡ (row.now.0.value, count)) }
 {
     Ok((Arc::try_clone(&row.0)?, count))

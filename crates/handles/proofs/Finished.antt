@@ -12,7 +12,7 @@ pub succeeds : {X T E : Type 0} (o : Option X) (P : T → Type 0) (result : Resu
 succeeds o P (Ok a) some ok err = (a, refl, ok)
 succeeds {X = X} o P (Err e) some ok err = let no : is_some {T = X} None ≡ true = subst (λ (x : Option X). is_some x ≡ true) err some in absurd (cc)
 
-module _ {K V Q I : Type 0} (kind : Kind K V Q (plain.Answer K V I) (plain.Told K V I)) where
+module _ {K V Q I : Type 0} (kind : Kind K V Q (plain.Answer K V I) (plain.Summary K V I)) where
   pub live_with_answer-is : ((a : plain.Answer K V I) → kind.map_of a ≡ plain.map_of a) → (s : State K V Q) (to : Option ℕ) (a : plain.Answer K V I) → live_with_answer s.live to a ≡ live_after kind s to a
   live_with_answer-is same s None a = refl
   live_with_answer-is same s (Some to) a = ap (with_pair nat_cmp s.live to) (sym (same a))

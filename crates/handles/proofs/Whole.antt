@@ -6,7 +6,7 @@ use Rattle.versions.specs.declared.refusal.Refusal.{Refusal}
 use Rattle.versions.specs.declared.refusal.Refusal.TheVariants.{NoMemory}
 use Rattle.versions.specs.Map.{Map, value_at, with_pair, without}
 use Rattle.handles.specs.Machine.{Job, is_entry}
-use Rattle.handles.specs.Handles.{Held}
+use Rattle.handles.specs.Handles.{HeldMaps}
 use Rattle.handles.specs.Jobs.{AllCanFinish, IsPlace, Opened}
 use Rattle.handles.specs.Views.{is_counted}
 use Rattle.handles.proofs.JobMaps.{can_finish-put, can_finish-without, fewer, length-put}
@@ -25,14 +25,14 @@ counted_as a b n m after count same before = count ∙ (λ i. if is_counted (sam
 
 module _ {K V Q : Type 0} (target : Q → Option ℕ) (pairs most : ℕ) where
   -- the parts of a table, with limits on pairs and entries
-  abbrev pub Whole : Held K V → Opened K V Q → ℕ → Type 0
+  abbrev pub Whole : HeldMaps K V → Opened K V Q → ℕ → Type 0
   Whole places jobs n = (n + length jobs.jobs ≤ most) × (places.limit ≡ pairs) × (places.issued ≤ 2 * n) × (jobs.next ≤ n) × AllCanFinish target pairs jobs.jobs
 
-  pub whole_same : (places : Held K V) (jobs : Opened K V Q) (n after : ℕ) → Whole places jobs n → after ≡ n → Whole places jobs after
+  pub whole_same : (places : HeldMaps K V) (jobs : Opened K V Q) (n after : ℕ) → Whole places jobs n → after ≡ n → Whole places jobs after
   whole_same places jobs n after whole same = (omega (arith, whole.0, same), whole.1, omega (arith, whole.2, same), omega (arith, whole.3, same), whole.4)
 
   -- a job is closed
-  pub whole_closed : (places later : Held K V) (jobs left : Opened K V Q) (j n after : ℕ) → Whole places jobs n
+  pub whole_closed : (places later : HeldMaps K V) (jobs left : Opened K V Q) (j n after : ℕ) → Whole places jobs n
       → is_some (value_at nat_cmp jobs.jobs j) ≡ true → left.jobs ≡ without nat_cmp jobs.jobs j → left.next ≡ jobs.next
       → later.limit ≡ places.limit → later.issued ≤ places.issued + 1 → after ≡ n + 1 → Whole later left after
   whole_closed places later jobs left j n after whole there closed next limit issued more =
@@ -48,7 +48,7 @@ module _ {K V Q : Type 0} (target : Q → Option ℕ) (pairs most : ℕ) where
       )
 
   -- a job is opened, or there was no memory
-  pub whole_opened : (places : Held K V) (jobs left : Opened K V Q) (q : Q) (n after : ℕ) (result : Result (ℕ × Map K V) Refusal) → Whole places jobs n
+  pub whole_opened : (places : HeldMaps K V) (jobs left : Opened K V Q) (q : Q) (n after : ℕ) (result : Result (ℕ × Map K V) Refusal) → Whole places jobs n
       → 2 ≤ most - n - length jobs.jobs → IsPlace (target q)
       → IfOk result (λ shown. length shown.1 ≤ places.limit)
       → IfOk result (λ shown. left.jobs ≡ with_pair nat_cmp jobs.jobs jobs.next (record { query = q; frozen = shown.1 }))
@@ -67,7 +67,7 @@ module _ {K V Q : Type 0} (target : Q → Option ℕ) (pairs most : ℕ) where
       subst (λ (o : Opened K V Q). Whole places o after) (sym kept) (whole_same places jobs n after whole same)
 
   -- a request was refused, which is an entry only where there is room
-  pub whole_refused : (places : Held K V) (jobs : Opened K V Q) (n after : ℕ) (e : Refusal) → Whole places jobs n
+  pub whole_refused : (places : HeldMaps K V) (jobs : Opened K V Q) (n after : ℕ) (e : Refusal) → Whole places jobs n
       → (is_entry e ≡ true → 2 ≤ most - n - length jobs.jobs) → after ≡ (if is_entry e then n + 1 else n) → Whole places jobs after
   whole_refused places jobs n after e whole room count =
       elim (is_entry e) as (λ b. (b ≡ true → 2 ≤ most - n - length jobs.jobs) → after ≡ (if b then n + 1 else n) → Whole places jobs after) [
@@ -76,7 +76,7 @@ module _ {K V Q : Type 0} (target : Q → Option ℕ) (pairs most : ℕ) where
       ] room count
 
   -- a map was written, or there was no memory
-  pub whole_written : (places later : Held K V) (jobs : Opened K V Q) (n after : ℕ) (is : Bool) → Whole places jobs n
+  pub whole_written : (places later : HeldMaps K V) (jobs : Opened K V Q) (n after : ℕ) (is : Bool) → Whole places jobs n
       → 2 ≤ most - n - length jobs.jobs → later.limit ≡ places.limit → later.issued ≡ places.issued → after ≡ (if is then n + 1 else n) → Whole later jobs after
   whole_written places later jobs n after true whole room limit issued count =
       (omega (arith, room, count), limit ∙ whole.1, omega (arith, issued, whole.2, count), omega (arith, whole.3, count), whole.4)

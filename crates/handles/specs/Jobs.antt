@@ -4,11 +4,11 @@ use Rattle.std.specs.Arc.{arc_value}
 use Rattle.std.specs.Ordering.{nat_cmp}
 use Rattle.versions.specs.Map.{Map, value_at, with_pair, without}
 use Rattle.bulk_ops.specs.Answers as plain
-use Rattle.bulk_ops.specs.Told.{told_of}
+use Rattle.bulk_ops.specs.Summaries.{summary_of}
 use Rattle.bulk_ops.specs.declared.asks.Answer.{Answer}
 pub use Rattle.held_maps.specs.Targets.{FitsIn, IsLoose, IsPlace, live_with_made, stamps_with_made}
 use Rattle.handles.specs.Machine.{Job}
-use Rattle.handles.specs.Handles.{Held}
+use Rattle.handles.specs.Handles.{HeldMaps}
 use Rattle.handles.specs.declared.jobs.OpenJob.{OpenJob}
 
 -- an open job, under its number
@@ -33,7 +33,7 @@ pub record Opened (K V Q : Type 0) : Type 0 where
   pub jobs : Map ℕ (Job K V Q)
   pub next : ℕ
 
--- a job that can be finished where a map has at most so many pairs: its frozen map has no more, and its target is the number of a place
+-- a job that can be finished where a map has at most `limit` pairs: its frozen map has no more, and its target is the number of a place
 pub record CanFinish {K V Q : Type 0} (target : Q → Option ℕ) (limit : ℕ) (job : Job K V Q) : Type 0 where
   pub fits : length job.frozen ≤ limit
   pub place : IsPlace (target job.query)
@@ -53,22 +53,22 @@ abbrev pub stamps_with_target : Map ℕ ℕ → ℕ → Option ℕ → Map ℕ �
 stamps_with_target stamps stamp None = stamps
 stamps_with_target stamps stamp (Some to) = with_pair nat_cmp stamps to stamp
 
--- the query of the open job has an answer for its frozen map, which is told: the job is closed, and a target is live with the answer's map and with the stamp that is issued next
-pub record Concludes {K V Q I : Type 0} (target : Q → Option ℕ) (answers : Q → Map K V → plain.Answer K V I → Type 0) (places : Held K V) (jobs : Opened K V Q) (j : ℕ) (told : Answer K V I) (places_after : Held K V) (jobs_after : Opened K V Q) : Type 0 where
+-- the query of the open job has an answer for its frozen map, which is returned: the job is closed, and a target is live with the answer's map and with the stamp that is issued next
+pub record Concludes {K V Q I : Type 0} (target : Q → Option ℕ) (answers : Q → Map K V → plain.Answer K V I → Type 0) (places : HeldMaps K V) (jobs : Opened K V Q) (j : ℕ) (told : Answer K V I) (places_after : HeldMaps K V) (jobs_after : Opened K V Q) : Type 0 where
   pub job : Job K V Q
   pub answer : plain.Answer K V I
   pub named : value_at nat_cmp jobs.jobs j ≡ Some job
   pub is_answer : answers job.query job.frozen answer
-  pub is_told : told_of told ≡ plain.told answer
+  pub is_told : summary_of told ≡ plain.summary answer
   pub live : places_after.live ≡ live_with_answer places.live (target job.query) answer
   pub fresh : places_after.stamps ≡ stamps_with_target places.stamps (places.issued + 1) (target job.query)
   pub closed : jobs_after.jobs ≡ without nat_cmp jobs.jobs j
   pub kept : jobs_after.next ≡ jobs.next
 
--- the query of the open job has an answer for its frozen map, of which this is told
+-- the query of the open job has an answer for its frozen map, of which this is reported
 pub record Tells {K V Q I : Type 0} (answers : Q → Map K V → plain.Answer K V I → Type 0) (jobs : Opened K V Q) (j : ℕ) (told : Answer K V I) : Type 0 where
   pub job : Job K V Q
   pub answer : plain.Answer K V I
   pub named : value_at nat_cmp jobs.jobs j ≡ Some job
   pub is_answer : answers job.query job.frozen answer
-  pub is_told : told_of told ≡ plain.told answer
+  pub is_told : summary_of told ≡ plain.summary answer

@@ -7,7 +7,7 @@ use Rattle.handles.specs.declared.call_reply.CallReply.{CallReply}
 use Rattle.handles.specs.Machine.{Kind, State, Request, on, freeze, finish, Outcome, refused, frozen, Step, map_at, job_at, job_of, is_freeze}
 use Rattle.handles.specs.Views.{IsStep, call_outcome, lacks_memory, outcome_of}
 
--- whether what a request leaves follows from the state alone: that of a finish hangs on the answer, which is free
+-- whether what a request leaves follows from the state alone: that of a finish depends on the answer, which is free
 abbrev pub is_settled_by_state : {K V Q : Type 0} → Request K V Q → Bool
 is_settled_by_state (finish j) = false
 is_settled_by_state _ = true
@@ -25,7 +25,7 @@ module _ {K V Q A B : Type 0} (kind : Kind K V Q A B) where
       (s t : State K V Q) (r : Request K V Q) (e : Refusal)
       → Step kind s r (refused e) t → (t.live ≡ s.live) × (t.jobs ≡ s.jobs)
 
-  -- what a table answers is a step's outcome, unless memory was wanting
+  -- what a table answers is a step's outcome, unless memory ran out
   abbrev pub AnswersAreSteps : Type 0
   AnswersAreSteps =
       (s t : State K V Q) (r : Request K V Q) (answer : Result (CallReply V) Refusal)

@@ -7,6 +7,7 @@ use Rattle.versions.specs.Map.{Map, value_at, with_pair, without}
 use Rattle.versions.specs.Commands.{Command, clear, Reply, after, reply, is_full, needs_no_memory}
 use Rattle.versions.specs.declared.refusal.Refusal.{Refusal}
 use Rattle.versions.specs.declared.refusal.Refusal.TheVariants.{NoHandle, Taken, Full, NoJob, Unfinished, TooManyJobs, JournalFull, NoMemory, BadNumber}
+use Rattle.held_maps.specs.declared.limits.TheConstants.{LAST_HANDLE}
 use Rattle.handles.specs.declared.limits.Limits.{Limits}
 
 -- an open job: its query, and the map that its freeze recorded
@@ -38,7 +39,7 @@ pub data Request (K V Q : Type 0) : Type 0 where
   abandon : ℕ → Request K V Q
   worker_step : Request K V Q
 
--- what a request is answered; B is what a finish tells
+-- what a request is answered; B is what a finish returns
 pub data Outcome (K V B : Type 0) : Type 0 where
   made : Outcome K V B
   replied : Reply V → Outcome K V B
@@ -49,7 +50,7 @@ pub data Outcome (K V B : Type 0) : Type 0 where
   refused : Refusal → Outcome K V B
   worked : Outcome K V B
 
--- keys in their order, values with their equality, and queries: the number that one reserves, the answers that it may have, the map that an answer makes, and what is told of an answer
+-- keys in their order, values with their equality, and queries: the number that one reserves, the answers that it may have, the map that an answer makes, and what is reported of an answer
 pub record Kind (K V Q A B : Type 0) : Type 1 where
   pub order : K → K → Ordering
   pub equal : V → V → Bool
@@ -117,7 +118,7 @@ module _ {K V Q : Type 0} where
   takes_no_memory (abandon j) = true
   takes_no_memory _ = false
 
-  -- the map that a drop or a clear of a live handle lets go
+  -- the map that a drop or a clear of a live handle releases
   abbrev pub let_go : State K V Q → Request K V Q → Option (Map K V)
   let_go s (drop_handle h) = map_at s h
   let_go s (on h clear) = map_at s h
@@ -140,7 +141,7 @@ module _ {K V Q : Type 0} where
 -- whether a number is no handle's
 abbrev pub is_bad : Option ℕ → Bool
 is_bad None = false
-is_bad (Some h) = nat_lt 1023 h
+is_bad (Some h) = nat_lt LAST_HANDLE h
 
 -- whether a number is named and is this one
 abbrev pub is_number : Option ℕ → ℕ → Bool
@@ -203,7 +204,7 @@ module _ {K V Q A B : Type 0} (kind : Kind K V Q A B) where
   live_after s None a = s.live
   live_after s (Some to) a = live_with s to (kind.map_of a)
 
-  -- the query of the open job has an answer for its frozen map, which is told: the job is closed, a target is live with the answer's map
+  -- the query of the open job has an answer for its frozen map, which is returned: the job is closed, a target is live with the answer's map
   pub record Finishes (s : State K V Q) (j : ℕ) (b : B) (t : State K V Q) : Type 0 where
     pub job : Job K V Q
     pub answer : A

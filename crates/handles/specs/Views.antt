@@ -5,21 +5,21 @@ use Rattle.versions.specs.Map.{Map}
 use Rattle.versions.specs.declared.refusal.Refusal.{Refusal}
 use Rattle.versions.specs.declared.refusal.Refusal.TheVariants.{NoMemory}
 use Rattle.bulk_ops.specs.Answers as plain
-use Rattle.bulk_ops.specs.Told.{told_of}
+use Rattle.bulk_ops.specs.Summaries.{summary_of}
 use Rattle.bulk_ops.specs.declared.asks.Answer.{Answer}
 pub use Rattle.held_maps.specs.Commands.{command_of, lacks_memory, leaves_map, reply_of}
 use Rattle.held_maps.specs.declared.reply.Reply.{Reply}
 use Rattle.handles.specs.declared.call.Call.{Call}
 use Rattle.handles.specs.declared.call.Call.TheVariants.{Open, Snapshot, Drop, On}
-use Rattle.handles.specs.declared.demand.Demand.{Demand}
-use Rattle.handles.specs.declared.demand.Demand.TheVariants as demands
+use Rattle.handles.specs.declared.request_ref.RequestRef.{RequestRef}
+use Rattle.handles.specs.declared.request_ref.RequestRef.TheVariants as requests
 use Rattle.handles.specs.declared.call_reply.CallReply.{CallReply}
 use Rattle.handles.specs.declared.call_reply.CallReply.TheVariants as call_replies
 use Rattle.handles.specs.Machine.{Kind, State, Request, open_handle, snapshot, drop_handle, on, view, freeze, finish, abandon, takes_no_memory, Outcome, Step, made, replied, viewed, frozen, finished, refused, refusal, is_entry}
 
 -- the machine of a table, whose queries reserve these targets and have these answers
-abbrev pub machine : {K V Q I : Type 0} → (K → K → Ordering) → (V → V → Bool) → (Q → Option ℕ) → (Q → Map K V → plain.Answer K V I → Type 0) → Kind K V Q (plain.Answer K V I) (plain.Told K V I)
-machine R E target answers = record { order = R; equal = E; target = target; answers = answers; map_of = plain.map_of; told = plain.told }
+abbrev pub machine : {K V Q I : Type 0} → (K → K → Ordering) → (V → V → Bool) → (Q → Option ℕ) → (Q → Map K V → plain.Answer K V I → Type 0) → Kind K V Q (plain.Answer K V I) (plain.Summary K V I)
+machine R E target answers = record { order = R; equal = E; target = target; answers = answers; map_of = plain.map_of; told = plain.summary }
 
 -- the outcome of a call that opened or closed a handle
 abbrev pub unit_outcome : {K V B : Type 0} → Unit {0} → Outcome K V B
@@ -38,8 +38,8 @@ abbrev pub frozen_outcome : {K V B : Type 0} → ℕ × Map K V → Outcome K V 
 frozen_outcome shown = frozen shown.0 shown.1
 
 -- the outcome of a call that closed a job with this answer
-abbrev pub finished_outcome : {K V I : Type 0} → Answer K V I → Outcome K V (plain.Told K V I)
-finished_outcome answer = finished (told_of answer)
+abbrev pub finished_outcome : {K V I : Type 0} → Answer K V I → Outcome K V (plain.Summary K V I)
+finished_outcome answer = finished (summary_of answer)
 
 -- the request that a call is
 abbrev pub request_of : {K V Q : Type 0} → Call K V → Request K V Q
@@ -49,15 +49,15 @@ request_of (Drop h) = drop_handle h
 request_of (On h c) = on h (command_of c)
 
 -- the request whose refusal is asked for
-abbrev pub demanded : {K V Q : Type 0} → Demand K V Q → Request K V Q
-demanded (demands.Open h) = open_handle h
-demanded (demands.Snapshot h to) = snapshot h to
-demanded (demands.Drop h) = drop_handle h
-demanded (demands.On h c) = on h (command_of c.now)
-demanded (demands.View h) = view h
-demanded (demands.Freeze h q) = freeze h q.now
-demanded (demands.Finish j) = finish j
-demanded (demands.Abandon j) = abandon j
+abbrev pub requested : {K V Q : Type 0} → RequestRef K V Q → Request K V Q
+requested (requests.Open h) = open_handle h
+requested (requests.Snapshot h to) = snapshot h to
+requested (requests.Drop h) = drop_handle h
+requested (requests.On h c) = on h (command_of c.now)
+requested (requests.View h) = view h
+requested (requests.Freeze h q) = freeze h q.now
+requested (requests.Finish j) = finish j
+requested (requests.Abandon j) = abandon j
 
 -- the outcome of a call that was answered so
 abbrev pub call_outcome : {K V B : Type 0} → CallReply V → Outcome K V B
@@ -89,21 +89,21 @@ is_counted (Ok x) = true
 is_counted (Err e) = is_entry e
 
 module _ {K V Q A B T : Type 0} (kind : Kind K V Q A B) where
-  -- a call is a step of the machine, with the outcome that its result shows; but for want of memory it changes nothing
+  -- a call is a step of the machine, with the outcome that its result shows; if memory runs out it changes nothing
   abbrev pub IsStep : State K V Q → Request K V Q → (T → Outcome K V B) → Result T Refusal → State K V Q → Type 0
   IsStep s r shown (Ok x) t = Step kind s r (shown x) t
   IsStep s r shown (Err NoMemory) t = t ≡ s
   IsStep s r shown (Err e) t = Step kind s r (refused e) t
 
-  -- a call that takes no memory does not fail for want of it
+  -- a call that takes no memory is not answered `NoMemory`
   abbrev pub AnswersWithoutMemory : Request K V Q → Result T Refusal → Type 0
   AnswersWithoutMemory r result = takes_no_memory r ≡ true → lacks_memory result ≡ false
 
-  -- a call that fails for want of memory is not refused for another reason
+  -- where a call is answered `NoMemory`, no refusal is due
   abbrev pub IsDue : State K V Q → Request K V Q → Result T Refusal → Type 0
   IsDue s r result = lacks_memory result ≡ true → refusal kind s r ≡ None
 
-  -- what a call would be answered now: the machine may make a step with this outcome, or refuses so; want of memory is foreseen only where no refusal is due
+  -- what a call would be answered now: the machine may make a step with this outcome, or refuses so; `NoMemory` is foreseen only where no refusal is due
   abbrev pub Foresees : State K V Q → Request K V Q → (T → Outcome K V B) → Result T Refusal → Type 0
   Foresees s r shown (Ok x) = (t : State K V Q) × Step kind s r (shown x) t
   Foresees s r shown (Err NoMemory) = refusal kind s r ≡ None

@@ -8,15 +8,17 @@
 mod call;
 mod call_reply;
 mod copying;
-mod demand;
+mod entries;
 mod jobs;
 mod laws;
 mod limits;
 mod no_query;
+mod request_ref;
 mod table;
 
 pub use call::Call;
 pub use call_reply::CallReply;
+pub use entries::{is_entry, lacks_memory};
 pub use held_maps::{Command, Reply};
 pub use laws::{
     law_of_answers, law_of_foresight, law_of_freezes, law_of_open_jobs, law_of_other_handles,

@@ -9,7 +9,7 @@ use std::alloc::Global;
 use std::sync::Arc;
 use versions::{NoMemory, Version};
 
-/// The query of a table that is asked none: it looks at no pair, every map decides it, and it is told 0.
+/// The query of a table that is asked none: it looks at no pair, every map decides it, and it is answered 0.
 #[derive(Drop)]
 pub struct NoQuery;
 

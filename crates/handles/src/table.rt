@@ -1,17 +1,18 @@
 //! The table of handles.
 ghost use Rattle.std.specs.Prelude.{◌≡◌, ◌+◌, ◌<◌, ◌≤◌, ◌*◌, ◌^◌, IfOk, IfSome, OnErr, Some, option_map, if◌then◌else◌, false, true};
 ghost use Rattle.bulk_ops.specs.Answers as plain;
-ghost use Rattle.bulk_ops.specs.Told.{told_of};
+ghost use Rattle.bulk_ops.specs.Summaries.{summary_of};
 ghost use Rattle.handles.specs.Handles.{IsKept, live_from, maps_in};
 ghost use Rattle.handles.specs.Machine.{IsRunOfSome, Job, Run, abandon, drop_handle, finish, freeze, is_entry, job_at, let_go, nothing, on, open_handle, snapshot, view};
 ghost use Rattle.handles.specs.Views.{AnswersWithoutMemory, IsDue, IsStep, call_outcome, command_of, finished_outcome, frozen_outcome, is_counted, lacks_memory, machine, outcomes_of, reply_outcome, request_of, requests_of, unit_outcome, view_outcome};
 
 use crate::call::Call;
 use crate::call_reply::CallReply;
-use crate::demand::Demand;
+use crate::entries::{is_counted, lacks_memory};
 use crate::jobs::Jobs;
 use crate::limits::{Limits, MOST_ENTRIES};
 use crate::no_query::NoQuery;
+use crate::request_ref::RequestRef;
 use bulk_ops::{Answer, Asks};
 use hash_path::PathKey;
 use held_maps::{Command, Places, Reply};
@@ -23,6 +24,7 @@ use versions::{MOST_PAIRS, NoMemory, Refusal, Version, View};
 mod ends;
 mod foreseen;
 mod foresight;
+mod granted;
 mod refusals;
 
 use ends::{close_job, open_job};
@@ -35,9 +37,9 @@ use ends::{close_job, open_job};
 ///
 /// Each call but `entries` and `places` is one step of the machine. Where several refusals are due, the first of this
 /// order is the answer: `JournalFull`, `BadNumber`, `NoHandle`, `NoJob`, `Taken`, `TooManyJobs`, `Full`. A refusal that
-/// is due is told whatever the memory. After any refusal all handles and jobs are as before. Each call is one entry of
-/// the journal, unless it is refused as `NoJob`, `JournalFull` or `NoMemory`. The journal keeps room for the ends of
-/// the open jobs.
+/// is due is returned even if memory runs out. After any refusal all handles and jobs are as before. Each call is one
+/// entry of the journal, unless it is refused as `NoJob`, `JournalFull` or `NoMemory`. The journal keeps room for the
+/// ends of the open jobs.
 #[derive(Drop)]
 pub struct Table<K: PathKey, V, Q: Asks<K, V> = NoQuery> {
     limits: Limits,
@@ -100,11 +102,11 @@ impl<K: PathKey + Drop, V: Eq + Drop, Q: Asks<K, V> + Drop> Table<K, V, Q> {
         self.places.as_slice()
     }
 
-    /// The map that the call is about to let go: that of a live handle which it drops or clears. Where the view is kept
+    /// The map that the call would release: that of a live handle which it drops or clears. Where the view is kept
     /// until the call was made, the nodes of the map are freed with the view, and not by the call.
     ///
     /// It makes no entry and no request for memory. It is none too where the clone of a handle is refused.
-    pub fn taken_out(&self, call: &Call<K, V>) -> Option<View<K, V>>
+    pub fn discarded_map(&self, call: &Call<K, V>) -> Option<View<K, V>>
         ensures { IfSome result (λ map. let_go self.now (request_of call.now) ≡ Some map) }
     {
         match call {
@@ -133,11 +135,10 @@ impl<K: PathKey + Drop, V: Eq + Drop, Q: Asks<K, V> + Drop> Table<K, V, Q> {
         ensures step { IsStep (machine K.cmp V.eq Q.target_of Q.answered) self.old (open_handle handle) unit_outcome result self.new }
         ensures due { IsDue (machine K.cmp V.eq Q.target_of Q.answered) self.old (open_handle handle) result }
     {
-        let answer = match self.refusal_of(&Demand::Open(handle)) {
-            Some(refusal) => Err(refusal),
-            None => self.places.open(alloc, handle),
-        };
-        counted(&mut self.entries, answer)
+        match self.refusal_of(&RequestRef::Open(handle)) {
+            Some(refusal) => counted(&mut self.entries, Err(refusal)),
+            None => self.open_granted(alloc, handle),
+        }
     }
 
     /// Opens the handle `to`, with the pairs of the other handle. It makes no request for memory.
@@ -147,11 +148,10 @@ impl<K: PathKey + Drop, V: Eq + Drop, Q: Asks<K, V> + Drop> Table<K, V, Q> {
         ensures step { IsStep (machine K.cmp V.eq Q.target_of Q.answered) self.old (snapshot handle to) unit_outcome result self.new }
         ensures due { IsDue (machine K.cmp V.eq Q.target_of Q.answered) self.old (snapshot handle to) result }
     {
-        let answer = match self.refusal_of(&Demand::Snapshot(handle, to)) {
-            Some(refusal) => Err(refusal),
-            None => self.places.fork(handle, to),
-        };
-        counted(&mut self.entries, answer)
+        match self.refusal_of(&RequestRef::Snapshot(handle, to)) {
+            Some(refusal) => counted(&mut self.entries, Err(refusal)),
+            None => self.snapshot_granted(handle, to),
+        }
     }
 
     /// The map of the handle as it stands now, which no later call changes. It makes no request for memory.
@@ -161,7 +161,7 @@ impl<K: PathKey + Drop, V: Eq + Drop, Q: Asks<K, V> + Drop> Table<K, V, Q> {
         ensures step { IsStep (machine K.cmp V.eq Q.target_of Q.answered) self.old (view handle) view_outcome result self.new }
         ensures due { IsDue (machine K.cmp V.eq Q.target_of Q.answered) self.old (view handle) result }
     {
-        let answer = match self.refusal_of(&Demand::View(handle)) {
+        let answer = match self.refusal_of(&RequestRef::View(handle)) {
             Some(refusal) => Err(refusal),
             None => self.places.view(handle),
         };
@@ -181,11 +181,10 @@ impl<K: PathKey + Drop, V: Eq + Drop, Q: Asks<K, V> + Drop> Table<K, V, Q> {
         ensures memory { AnswersWithoutMemory (machine K.cmp V.eq Q.target_of Q.answered) (on handle (command_of command)) result }
         ensures due { IsDue (machine K.cmp V.eq Q.target_of Q.answered) self.old (on handle (command_of command)) result }
     {
-        let answer = match self.refusal_of(&Demand::On(handle, &command)) {
-            Some(refusal) => Err(refusal),
-            None => self.places.run(alloc, handle, command),
-        };
-        counted(&mut self.entries, answer)
+        match self.refusal_of(&RequestRef::On(handle, &command)) {
+            Some(refusal) => counted(&mut self.entries, Err(refusal)),
+            None => self.call_granted(alloc, handle, command),
+        }
     }
 
     /// Closes the handle: it is not live then. It takes no memory and is never `NoMemory`.
@@ -195,14 +194,10 @@ impl<K: PathKey + Drop, V: Eq + Drop, Q: Asks<K, V> + Drop> Table<K, V, Q> {
         ensures step { IsStep (machine K.cmp V.eq Q.target_of Q.answered) self.old (drop_handle handle) unit_outcome result self.new }
         ensures memory { lacks_memory result ≡ false }
     {
-        let answer = match self.refusal_of(&Demand::Drop(handle)) {
-            Some(refusal) => Err(refusal),
-            None => {
-                self.places.close(handle);
-                Ok(())
-            }
-        };
-        counted(&mut self.entries, answer)
+        match self.refusal_of(&RequestRef::Drop(handle)) {
+            Some(refusal) => counted(&mut self.entries, Err(refusal)),
+            None => self.drop_granted(handle),
+        }
     }
 
     /// Opens a job with the query on the handle's map as it stands now, and gives the job's number and that map, which
@@ -214,7 +209,7 @@ impl<K: PathKey + Drop, V: Eq + Drop, Q: Asks<K, V> + Drop> Table<K, V, Q> {
         ensures step { IsStep (machine K.cmp V.eq Q.target_of Q.answered) self.old (freeze handle query.value) frozen_outcome result self.new }
         ensures due { IsDue (machine K.cmp V.eq Q.target_of Q.answered) self.old (freeze handle query.value) result }
     {
-        let answer = match self.refusal_of(&Demand::Freeze(handle, &query)) {
+        let answer = match self.refusal_of(&RequestRef::Freeze(handle, &query)) {
             Some(refusal) => Err(refusal),
             None => open_job(&self.places, &mut self.jobs, handle, query),
         };
@@ -222,17 +217,17 @@ impl<K: PathKey + Drop, V: Eq + Drop, Q: Asks<K, V> + Drop> Table<K, V, Q> {
     }
 
     /// Closes the job by the part's answer, and opens its target, if it has one, with the map that the part made. The
-    /// part has to answer the job's query for its frozen map; it is dropped where no such job is open. What is told
-    /// follows from the part alone. It takes no memory and is never `NoMemory`.
+    /// part has to answer the job's query for its frozen map; it is dropped where no such job is open. The
+    /// answer follows from the part alone. It takes no memory and is never `NoMemory`.
     ///
     /// It is refused as `NoJob`.
     pub fn finish(&mut self, job: u64, part: Q::Part) -> Result<Answer<K, V, Q::Item>, Refusal>
         requires { (j : Job K V Q) → job_at self.old job ≡ Some j → Q.answers j.query j.frozen part }
         ensures step { IsStep (machine K.cmp V.eq Q.target_of Q.answered) self.old (finish job) finished_outcome result self.new }
-        ensures told { IfOk result (λ answer. told_of answer ≡ plain.told (Q.answer_of part)) }
+        ensures told { IfOk result (λ answer. summary_of answer ≡ plain.summary (Q.answer_of part)) }
         ensures memory { lacks_memory result ≡ false }
     {
-        let answer = match self.refusal_of(&Demand::Finish(job)) {
+        let answer = match self.refusal_of(&RequestRef::Finish(job)) {
             Some(refusal) => Err(refusal),
             None => close_job(&mut self.places, &mut self.jobs, job, part),
         };
@@ -246,7 +241,7 @@ impl<K: PathKey + Drop, V: Eq + Drop, Q: Asks<K, V> + Drop> Table<K, V, Q> {
         ensures step { IsStep (machine K.cmp V.eq Q.target_of Q.answered) self.old (abandon job) unit_outcome result self.new }
         ensures memory { lacks_memory result ≡ false }
     {
-        let answer = match self.refusal_of(&Demand::Abandon(job)) {
+        let answer = match self.refusal_of(&RequestRef::Abandon(job)) {
             Some(refusal) => Err(refusal),
             None => {
                 self.jobs.close(job);
@@ -316,21 +311,4 @@ fn counted<T>(entries: &mut u32, answer: Result<T, Refusal>) -> Result<T, Refusa
         *entries += 1;
     }
     answer
-}
-
-// Whether a call that is answered so is an entry.
-fn is_counted<T>(answer: &Result<T, Refusal>) -> bool
-    ensures { result ≡ is_counted answer.now }
-{
-    !matches!(
-        answer,
-        Err(Refusal::NoJob | Refusal::Unfinished | Refusal::JournalFull | Refusal::NoMemory)
-    )
-}
-
-// Whether the call ran out of memory.
-fn lacks_memory<T>(answer: &Result<T, Refusal>) -> bool
-    ensures { result ≡ lacks_memory answer.now }
-{
-    matches!(answer, Err(Refusal::NoMemory))
 }

@@ -4,7 +4,7 @@ use Rattle.std.specs.Int.{Width, w64, cast_unsigned, to_le_bytes}
 use Rattle.hash_path.specs.Fnv.{fnv1a, fnv1a-below}
 use Rattle.hash_path.specs.Widths.{word_bits}
 
--- the path word of a number of so many bits: the hash of its bytes, little-endian
+-- the path word of a number of this width: the hash of its bytes, little-endian
 abbrev pub bytes_path : Width → ℕ → ℕ
 bytes_path width n = fnv1a (to_le_bytes width n)
 

@@ -17,6 +17,6 @@ word_digits = 13
 abbrev pub last_level : ℕ
 last_level = word_digits - 1
 
--- how many digits there are at one level: a branch has at most so many children
+-- how many digits there are at one level: a branch has at most that many children
 abbrev pub fan_out : ℕ
 fan_out = 2 ^ digit_bits

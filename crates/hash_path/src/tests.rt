@@ -75,7 +75,7 @@ fn first_digit_is_most_significant_in_position(rt: HostRuntime) {
     }
 }
 
-/// Words are told apart by their positions alone, since position is a bijection.
+/// Words are distinguished by their positions alone, since position is a bijection.
 fn is_one_word(a: u64, b: u64) -> bool
     ensures { IsTrue result ↔ (a ≡ b) }
 {

@@ -17,7 +17,7 @@ pub const DIGIT_BITS: u32 = 5;
 /// How many digits a path word has.
 pub const WORD_DIGITS: u32 = (WORD_BITS + DIGIT_BITS - 1) / DIGIT_BITS;
 
-/// How many digits there are at one level: a branch has at most so many children.
+/// How many digits there are at one level: a branch has at most that many children.
 pub const FAN_OUT: u32 = 1 << DIGIT_BITS;
 
 /// Where FNV-1a starts, and what each of its steps multiplies by.

@@ -3,7 +3,7 @@ use Rattle.std.proofs.Common.{◌≡◌, ℕ, ◌<◌, ◌≤◌, List, [], ◌�
 use Rattle.std.specs.Prelude.{slice_set, ◌⊎◌}
 use Rattle.std.proofs.lemmas.List.{get_or_default}
 use Rattle.versions.specs.Contents.{Contents}
-use Rattle.held_maps.specs.Held.{IsKept, IsWithin, version_in}
+use Rattle.held_maps.specs.HeldMaps.{IsKept, IsWithin, version_in}
 
 module _ {K V : Type 0} where
   -- what was read is what stands in the place

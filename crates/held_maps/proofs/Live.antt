@@ -10,7 +10,7 @@ use Rattle.std.specs.Cmp.{nat_cmp_is}
 use Rattle.std.specs.FinMap.Entries.{by_order}
 use Rattle.versions.specs.Contents.{Contents}
 use Rattle.versions.specs.Map.{Map, value_at, with_pair, without}
-use Rattle.held_maps.specs.Held.{entries_of, live_from, maps_in, map_in, stamp_of, stamps_in, version_in}
+use Rattle.held_maps.specs.HeldMaps.{entries_of, live_from, maps_in, map_in, stamp_of, stamps_in, version_in}
 
 module _ {M : Type 0} where
   -- nothing stands before the first number

@@ -39,7 +39,7 @@ leaves_map (commands.replace_if k was v) (commands.done false) = true
 leaves_map (commands.remove_if k v) (commands.done false) = true
 leaves_map c y = false
 
--- whether a call failed for want of memory
+-- whether a call failed because memory ran out
 abbrev pub lacks_memory : {T : Type 0} → Result T Refusal → Bool
 lacks_memory (Err NoMemory) = true
 lacks_memory _ = false

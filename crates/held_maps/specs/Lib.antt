@@ -1,3 +1,3 @@
-pub mod Held
+pub mod HeldMaps
 pub mod Commands
 pub mod Targets

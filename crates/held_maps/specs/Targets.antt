@@ -3,11 +3,12 @@ use Rattle.std.specs.Prelude.{◌≡◌, ◌≤◌, ◌<◌, ◌+◌, ℕ, Optio
 use Rattle.std.specs.Ordering.{nat_cmp}
 use Rattle.versions.specs.Map.{Map, with_pair}
 use Rattle.versions.specs.Contents.{Contents}
+use Rattle.held_maps.specs.declared.limits.TheConstants.{HANDLES}
 
 -- a target is the number of a place
 abbrev pub IsPlace : Option ℕ → Type 0
 IsPlace None = Unit {0}
-IsPlace (Some to) = to < 1024
+IsPlace (Some to) = to < HANDLES
 
 -- the live maps once the target, if there is one, has the map that was made
 abbrev pub live_with_made : {K V : Type 0} → Map ℕ (Map K V) → Option ℕ → Option (Contents K V) → Map ℕ (Map K V)
@@ -29,7 +30,7 @@ abbrev pub IsLoose : {K V : Type 0} → Option (Contents K V) → Type 0
 IsLoose None = Unit {0}
 IsLoose (Some v) = v.stamp ≡ 0
 
--- what was made has at most so many pairs
+-- what was made has at most `limit` pairs
 abbrev pub FitsIn : {K V : Type 0} → ℕ → Option (Contents K V) → Type 0
 FitsIn limit None = Unit {0}
 FitsIn limit (Some v) = length v.entries ≤ limit

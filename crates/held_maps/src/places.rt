@@ -1,7 +1,7 @@
 //! The places of a table, each of which has a version where its handle is live.
 ghost use Rattle.std.specs.Prelude.{◌≡◌, ◌<◌, ◌≤◌, ◌+◌, ◌^◌, length, [], IfErr, IfOk, IfSome, IsSome, Err, None, OnErr, OnOk, false, true, option_map, unwrap_or};
 ghost use Rattle.std.specs.Ordering.{nat_cmp};
-ghost use Rattle.held_maps.specs.Held.{IsKept, live_from, maps_in, stamps_in};
+ghost use Rattle.held_maps.specs.HeldMaps.{IsKept, live_from, maps_in, stamps_in};
 ghost use Rattle.held_maps.specs.Targets.{FitsIn, IsLoose, IsPlace, issued_with_made, live_with_made, stamps_with_made};
 ghost use Rattle.held_maps.specs.Commands.{command_of, lacks_memory, reply_of};
 ghost use Rattle.versions.specs.Commands.{after, is_full, needs_no_memory, reply};
@@ -10,6 +10,7 @@ ghost use Rattle.versions.specs.Puts.{FullExactly};
 ghost use Rattle.versions.specs.declared.version.TheConstants.{MOST_PAIRS};
 
 use crate::command::Command;
+use crate::limits::HANDLES;
 use crate::reply::Reply;
 use generation::Source;
 use hash_path::PathKey;
@@ -17,9 +18,6 @@ use std::alloc::Global;
 use std::marker::Model;
 use trie_node::Stamp;
 use versions::{MOST_PAIRS, NoMemory, Refusal, Version, View};
-
-// How many handle numbers there are.
-const HANDLES: usize = 1024;
 
 /// A place for each handle number, and the source of the stamps of the versions in them.
 ///
@@ -33,10 +31,10 @@ pub struct Places<K: PathKey, V> {
 
 impl<K: PathKey, V> Model for Places<K, V> {
     ghost use Rattle.std.specs.Prelude.{◌≤◌};
-    ghost use Rattle.held_maps.specs.Held.{Held, IsKept, live_from, maps_in, stamps_in};
+    ghost use Rattle.held_maps.specs.HeldMaps.{HeldMaps, IsKept, live_from, maps_in, stamps_in};
     ghost use Rattle.versions.specs.declared.version.TheConstants.{MOST_PAIRS};
 
-    ghost Value = { Held K V };
+    ghost Value = { HeldMaps K V };
 
     ghost view = { λ p. record { live = live_from 0 (maps_in p.versions.items); limit = p.limit; issued = p.source; stamps = live_from 0 (stamps_in p.versions.items) } };
 
@@ -44,7 +42,7 @@ impl<K: PathKey, V> Model for Places<K, V> {
 }
 
 impl<K: PathKey + Drop, V: Eq + Drop> Places<K, V> {
-    /// Places with no version, whose versions may have so many pairs each.
+    /// Places with no version, whose versions may have at most `limit` pairs each.
     pub fn new(alloc: Global, limit: u64) -> Result<Places<K, V>, NoMemory>
         requires least { 1 ≤ limit }
         requires most { limit ≤ MOST_PAIRS }
@@ -104,7 +102,7 @@ impl<K: PathKey + Drop, V: Eq + Drop> Places<K, V> {
 
     /// Opens the handle, with no pairs. Its version gets the stamp that the source issues next.
     pub fn open(&mut self, alloc: Global, handle: u32) -> Result<(), Refusal>
-        requires place { handle < 1024 }
+        requires place { handle < HANDLES }
         requires room { self.old.issued < 2 ^ 63 }
         ensures live { OnOk result (self.new.live ≡ with_pair nat_cmp self.old.live handle []) }
         ensures fresh { OnOk result (self.new.stamps ≡ with_pair nat_cmp self.old.stamps handle (self.old.issued + 1)) }
@@ -124,7 +122,7 @@ impl<K: PathKey + Drop, V: Eq + Drop> Places<K, V> {
 
     /// Closes the handle: it is not live then.
     pub fn close(&mut self, handle: u32)
-        requires { handle < 1024 }
+        requires { handle < HANDLES }
         ensures { self.new ≡ record self.old { live = without nat_cmp self.old.live handle; stamps = without nat_cmp self.old.stamps handle } }
     {
         self.versions[handle as usize] = None;
@@ -135,8 +133,8 @@ impl<K: PathKey + Drop, V: Eq + Drop> Places<K, V> {
     ///
     /// It is refused as `NoHandle` where the other handle is not live, and as `NoMemory`.
     pub fn fork(&mut self, handle: u32, to: u32) -> Result<(), Refusal>
-        requires place { handle < 1024 }
-        requires target { to < 1024 }
+        requires place { handle < HANDLES }
+        requires target { to < HANDLES }
         requires room { self.old.issued + 2 ≤ 2 ^ 63 }
         ensures live { OnOk result (self.new.live ≡ with_pair nat_cmp self.old.live to (unwrap_or (value_at nat_cmp self.old.live handle) [])) }
         ensures fresh { OnOk result (self.new.stamps ≡ with_pair nat_cmp (with_pair nat_cmp self.old.stamps handle (self.old.issued + 1)) to (self.old.issued + 2)) }
@@ -157,7 +155,7 @@ impl<K: PathKey + Drop, V: Eq + Drop> Places<K, V> {
 
     /// Opens the target, if there is one, with the map that was made for it: it gets the limit of all the versions, and
     /// the stamp that the source issues next. It takes no memory and copies no node.
-    pub fn settle(&mut self, target: Option<u32>, made: Option<Version<K, V>>)
+    pub fn open_target(&mut self, target: Option<u32>, made: Option<Version<K, V>>)
         requires place { IsPlace target }
         requires loose { IsLoose made }
         requires fits { FitsIn self.old.limit made }
@@ -217,7 +215,7 @@ impl<K: PathKey + Drop, V: Eq + Drop> Places<K, V> {
         handle: u32,
         command: Command<K, V>,
     ) -> Result<Reply<V>, Refusal>
-        requires place { handle < 1024 }
+        requires place { handle < HANDLES }
         ensures reply { IfOk result (λ y. reply_of y ≡ reply K.cmp V.eq (unwrap_or (value_at nat_cmp self.old.live handle) []) (command_of command)) }
         ensures live { OnOk result (self.new.live ≡ with_pair nat_cmp self.old.live handle (after K.cmp V.eq (unwrap_or (value_at nat_cmp self.old.live handle) []) (command_of command))) }
         ensures limit { self.new.limit ≡ self.old.limit }

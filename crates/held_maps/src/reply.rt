@@ -1,7 +1,7 @@
 //! What a command is answered.
 use std::sync::Arc;
 
-/// What a command is answered. It tells of the map before the command.
+/// What a command is answered. It describes the map before the command.
 #[derive(Debug, Drop, PartialEq, Eq)]
 pub enum Reply<V> {
     /// The value of the key, or none.

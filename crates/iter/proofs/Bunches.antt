@@ -21,7 +21,7 @@ abbrev pub Place : Type 0 → Type 0 → Type 0
 Place K V = Option (Bor (Arc K Global × Arc V Global))
 
 module _ {K V : Type 0} where
-  -- places each of which holds a pair have the pairs that were poured into them
+  -- places each of which holds a pair have the pairs that were pushed into them
   pub held_pairs : (places : List (Place K V)) (ps : List (K × V)) → map held places ≡ map Some ps → pairs_held places ≡ ps
   held_pairs [] [] e = refl
   held_pairs [] (p ∷ ps) e = absurd (cc)
@@ -40,23 +40,23 @@ module _ {K V : Type 0} where
       let rest : map held places ≡ map Some ps = cc in
       All-cons IsSome (Some x) places refl (all_held places ps rest)
 
-  -- each pair that is poured takes one place
-  pub poured_count : (new old : List (Place K V)) (ps : List (K × V)) → map held new ≡ map held old ++ map Some ps → length new ≡ length old + length ps
-  poured_count new old ps e =
+  -- each pair that is pushed takes one place
+  pub pushed_count : (new old : List (Place K V)) (ps : List (K × V)) → map held new ≡ map held old ++ map Some ps → length new ≡ length old + length ps
+  pushed_count new old ps e =
       omega (arith, ap length e, length-map new held, length-append (map held old) (map Some ps), length-map old held, length-map ps Some)
 
   -- the nodes of a row up to a number, and the one there, take no more places than the row has pairs
   pub room_for_child : (row : List (Node K V)) (child : Node K V) (n : ℕ) (new old : List (Place K V)) → n < length row → child ≡ get_or row n child
       → map held new ≡ map held old ++ map Some (pairs_in (take n row)) → length new + length (entries (tree child)) ≤ length old + length (pairs_in row)
   room_for_child row child n new old below at e =
-      let poured = poured_count new old (pairs_in (take n row)) e in
+      let pushed = pushed_count new old (pairs_in (take n row)) e in
       let part = length-flat_map-take (λ node. entries (tree node)) row n child below in
-      omega (arith, poured, part, ap (λ u. length (entries (tree u))) at)
+      omega (arith, pushed, part, ap (λ u. length (entries (tree u))) at)
 
-  -- a node of a row was poured behind those before it
-  pub poured_more : (row : List (Node K V)) (child : Node K V) (n : ℕ) (es : List (K × V)) (new mid old : List (Place K V)) → n < length row → child ≡ get_or row n child → entries (tree child) ≡ es
+  -- a node of a row was pushed behind those before it
+  pub pushed_more : (row : List (Node K V)) (child : Node K V) (n : ℕ) (es : List (K × V)) (new mid old : List (Place K V)) → n < length row → child ≡ get_or row n child → entries (tree child) ≡ es
       → map held mid ≡ map held old ++ map Some (pairs_in (take n row)) → map held new ≡ map held mid ++ map Some es → map held new ≡ map held old ++ map Some (pairs_in (take (n + 1) row))
-  poured_more row child n es new mid old below at own before e =
+  pushed_more row child n es new mid old below at own before e =
       let ps = pairs_in (take n row) in
       let more : pairs_in (take (n + 1) row) ≡ ps ++ es =
       ap pairs_in (take_more row n child below ∙ ap (λ x. take n row ++ x ∷ []) (sym at)) ∙ sym (flat_map_more (λ node. entries (tree node)) [] (take n row) child) ∙ ap (λ xs. ps ++ xs) own in
@@ -90,10 +90,10 @@ module _ {K V : Type 0} where
       → pairs_held (drop i places) ≡ pair_values x.now ∷ pairs_held (drop (i + 1) places)
   next_held places i place x lt at is = ap pairs_held (drop_more places i place lt ∙ ap (λ p. p ∷ drop (i + 1) places) (sym at ∙ is))
 
-  -- the front of a bucket was poured, and the rest of it is left
-  pub front_poured : (places : List (Place K V)) (bucket front back : List (Arc K Global × Arc V Global)) (rest : List (K × V)) → map held places ≡ map Some (map pair_values front) → bucket ≡ front ++ back
+  -- the front of a bucket was pushed, and the rest of it is left
+  pub front_pushed : (places : List (Place K V)) (bucket front back : List (Arc K Global × Arc V Global)) (rest : List (K × V)) → map held places ≡ map Some (map pair_values front) → bucket ≡ front ++ back
       → map pair_values bucket ++ rest ≡ pairs_held places ++ (map pair_values back ++ rest)
-  front_poured places bucket front back rest e split =
+  front_pushed places bucket front back rest e split =
       ap (λ xs. map pair_values xs ++ rest) split ∙ ap (λ ys. ys ++ rest) (map-append pair_values front back)
       ∙ append_assoc (map pair_values front) (map pair_values back) rest
       ∙ ap (λ ys. ys ++ (map pair_values back ++ rest)) (sym (held_pairs places (map pair_values front) e))

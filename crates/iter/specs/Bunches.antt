@@ -10,9 +10,9 @@ use Rattle.trie_shape.specs.View.{pair_values, tree}
 use Rattle.trie_shape.specs.declared.node.Node.{Node}
 use Rattle.iter.specs.Subtries.{pairs_of_all}
 use Rattle.iter.specs.Stacks.{subtries}
-use Rattle.iter.specs.declared.ahead.Stop.{Stop}
-use Rattle.iter.specs.declared.ahead.Stop.TheVariants.{Few, Bucket}
-use Rattle.iter.specs.declared.unpoured.Unpoured.{Unpoured}
+use Rattle.iter.specs.declared.ahead.Chunk.{Chunk}
+use Rattle.iter.specs.declared.ahead.Chunk.TheVariants.{Few, Bucket}
+use Rattle.iter.specs.declared.unread_pairs.UnreadPairs.{UnreadPairs}
 use denote.Ref.{Bor}
 
 module _ {K V : Type 0} where
@@ -32,15 +32,15 @@ module _ {K V : Type 0} where
   nodes_in row = sum_by (λ node. node_count (tree node)) row
 
   -- the pairs where a walk stops
-  abbrev pub pairs_at : Stop K V → List (K × V)
+  abbrev pub pairs_at : Chunk K V → List (K × V)
   pairs_at (Few node) = entries (tree node.now)
   pairs_at (Bucket pairs) = map pair_values pairs.now
 
-  -- a subtrie where a walk stops has at most so many pairs
-  abbrev pub IsFew : ℕ → Stop K V → Type 0
+  -- a subtrie where a walk stops has at most `most` pairs
+  abbrev pub IsFew : ℕ → Chunk K V → Type 0
   IsFew most (Few node) = Fits (tree node.now) × (length (entries (tree node.now)) ≤ most)
   IsFew most (Bucket pairs) = Unit {0}
 
-  -- the pairs that have still to be poured into a bunch
-  abbrev pub unpoured : Unpoured K V → List (K × V)
-  unpoured u = map pair_values u.bucket.now ++ pairs_of_all (subtries u.ahead)
+  -- the pairs that are still to be read
+  abbrev pub unread_pairs : UnreadPairs K V → List (K × V)
+  unread_pairs u = map pair_values u.bucket.now ++ pairs_of_all (subtries u.ahead)

@@ -25,7 +25,7 @@ const MOST_ON_PATH: usize = WORD_DIGITS as usize + 1;
 
 /// Where a walk stops that takes many pairs at a time.
 #[derive(Drop)]
-pub(crate) enum Stop<'a, K, V> {
+pub(crate) enum Chunk<'a, K, V> {
     /// A subtrie of few pairs.
     Few(&'a Node<K, V>),
     /// The pairs of a bucket that has more.
@@ -102,7 +102,7 @@ impl<'a, K: PathKey, V> Ahead<'a, K, V> {
 
     /// Enters subtries up to the next one of at most `most` pairs, or bucket of more, and gives it, where there is one.
     /// What it enters it does not count.
-    pub(crate) fn next_few(&mut self, most: u64) -> Option<Stop<'a, K, V>>
+    pub(crate) fn next_few(&mut self, most: u64) -> Option<Chunk<'a, K, V>>
         requires sound { IsSound K.cmp K.path_of self.old }
         ensures sound { IsSound K.cmp K.path_of self.new }
         ensures some { IfSome result (λ stop. pairs_of_all (subtries self.old) ≡ pairs_at stop ++ pairs_of_all (subtries self.new)) }
@@ -122,10 +122,10 @@ impl<'a, K: PathKey, V> Ahead<'a, K, V> {
             };
             let few = size(node) <= most;
             if few {
-                return Some(Stop::Few(node));
+                return Some(Chunk::Few(node));
             }
             match look(node) {
-                Look::Pairs(pairs) => return Some(Stop::Bucket(pairs)),
+                Look::Pairs(pairs) => return Some(Chunk::Bucket(pairs)),
                 Look::Branch(bitmap) => {
                     let below = Children::between(node, 0, bitmap.count_ones());
                     self.above

@@ -10,8 +10,8 @@ ghost use Rattle.iter.specs.Subtries.{children_between, pairs_of_all};
 ghost use Rattle.iter.specs.Walks.{item};
 
 use crate::ahead::Ahead;
-use crate::pouring::Bunch;
-use crate::unpoured::Unpoured;
+use crate::bunch::Bunch;
+use crate::unread_pairs::UnreadPairs;
 use arrayvec::ArrayVec;
 use hash_path::PathKey;
 use std::alloc::Global;
@@ -28,17 +28,17 @@ use trie_node::Node;
 pub struct BunchedPairs<'a, K: PathKey, V> {
     bunch: Bunch<'a, K, V>,
     next: usize,
-    after: Unpoured<'a, K, V>,
+    after: UnreadPairs<'a, K, V>,
 }
 
 impl<'a, K: PathKey, V> Model for BunchedPairs<'a, K, V> {
     ghost use Rattle.std.specs.Prelude.{◌≤◌, ◌++◌, All, IsSome, List, drop, length};
-    ghost use Rattle.iter.specs.Bunches.{pairs_held, unpoured};
+    ghost use Rattle.iter.specs.Bunches.{pairs_held, unread_pairs};
     ghost use Rattle.iter.specs.Stacks.{IsSound};
 
     ghost Value = { List (K × V) };
 
-    ghost view = { λ a. pairs_held (drop a.next a.bunch.items) ++ unpoured a.after };
+    ghost view = { λ a. pairs_held (drop a.next a.bunch.items) ++ unread_pairs a.after };
 
     ghost invariant = { λ a. IsSound K.cmp K.path_of a.after.ahead × All IsSome a.bunch.items × (a.next ≤ length a.bunch.items) };
 }
@@ -62,7 +62,7 @@ impl<'a, K: PathKey, V> BunchedPairs<'a, K, V> {
         BunchedPairs {
             bunch: ArrayVec::new(),
             next: 0,
-            after: Unpoured {
+            after: UnreadPairs {
                 bucket: &[],
                 ahead: Ahead::below(alloc, branch, level, from, to),
             },

@@ -2,14 +2,13 @@
 #![tactic(auto)]
 
 mod ahead;
+mod bunch;
 mod bunched;
 mod children;
-mod fetching;
 mod interval;
 mod laws;
-mod pouring;
 mod start;
-mod unpoured;
+mod unread_pairs;
 mod walk;
 
 pub use bunched::BunchedPairs;

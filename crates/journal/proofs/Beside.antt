@@ -8,7 +8,7 @@ use Rattle.std.specs.FinMap.{nat_cmp-IsAntisymmetric}
 use Rattle.std.proofs.lemmas.Bool.Decides.{nat_tests}
 use Rattle.boxcar.specs.Table.{Shelves, Shows}
 use Rattle.bulk_ops.specs.Answers as plain
-use Rattle.bulk_ops.specs.Told.{told_of}
+use Rattle.bulk_ops.specs.Summaries.{summary_of}
 use Rattle.bulk_ops.specs.declared.asks.Answer.{Answer}
 use Rattle.versions.specs.Map.{Map, value_at, with_pair, without}
 use Rattle.versions.specs.Map as map
@@ -95,10 +95,10 @@ module _ {K V Q A B : Type 0} (kind : Kind K V Q A B) where
   pub abandon_keeps : (s u : State K V Q) (j q : ℕ) → Step kind s (abandon j) made u → (q == j) ≡ false → job_at u q ≡ job_at s q
   abandon_keeps s u j q step e = ap (λ x. job_at x q) step.1 ∙ at_without s.jobs j q ∙ ap (λ b. cond (not b) (job_at s q) None) (apart_back q j e)
 
-module _ {K V Q A I : Type 0} (kind : Kind K V Q A (plain.Told K V I)) where
+module _ {K V Q A I : Type 0} (kind : Kind K V Q A (plain.Summary K V I)) where
   -- what finishes an open job is its step, and tells what its part does
-  pub finishes : (s u : State K V Q) (j : ℕ) (x : Job K V Q) (p : plain.Told K V I) (b : Result (Answer K V I) Refusal) → job_at s j ≡ Some x → lacks_memory b ≡ false
-      → IfOk b (λ a. told_of a ≡ p) → IsStep kind s (finish j) finished_outcome b u → Step kind s (finish j) (finished p) u
+  pub finishes : (s u : State K V Q) (j : ℕ) (x : Job K V Q) (p : plain.Summary K V I) (b : Result (Answer K V I) Refusal) → job_at s j ≡ Some x → lacks_memory b ≡ false
+      → IfOk b (λ a. summary_of a ≡ p) → IsStep kind s (finish j) finished_outcome b u → Step kind s (finish j) (finished p) u
   finishes s u j x p (Ok a) is has told step = subst (λ y. Step kind s (finish j) (finished y) u) told step
   finishes s u j x p (Err NoHandle) is has told step = both_ways NoHandle _ step.0 (open_may_finish kind s j x is)
   finishes s u j x p (Err Taken) is has told step = both_ways Taken _ step.0 (open_may_finish kind s j x is)
@@ -125,10 +125,10 @@ module _ {K V Q A I : Type 0} (kind : Kind K V Q A (plain.Told K V I)) where
   finish_is_ok s u j x BadNumber is has step = both_ways BadNumber _ step.0 (open_may_finish kind s j x is)
 
   -- the other jobs stay where one is finished
-  pub finish_keeps : (s u : State K V Q) (j q : ℕ) (p : plain.Told K V I) → Step kind s (finish j) (finished p) u → (q == j) ≡ false → job_at u q ≡ job_at s q
+  pub finish_keeps : (s u : State K V Q) (j q : ℕ) (p : plain.Summary K V I) → Step kind s (finish j) (finished p) u → (q == j) ≡ false → job_at u q ≡ job_at s q
   finish_keeps s u j q p step e = ap (λ x. job_at x q) step.1.left ∙ at_without s.jobs j q ∙ ap (λ b. cond (not b) (job_at s q) None) (apart_back q j e)
 
-module _ {K V Q A I : Type 0} (kind : Kind K V Q A (plain.Told K V I)) (t : Shelves) where
+module _ {K V Q A I : Type 0} (kind : Kind K V Q A (plain.Summary K V I)) (t : Shelves) where
   -- the other jobs stay where one is opened
   freeze_keeps : (s u : State K V Q) (h j q : ℕ) (x : Q) (m : Map K V) → Step kind s (freeze h x) (frozen j m) u → (q == j) ≡ false → job_at u q ≡ job_at s q
   freeze_keeps s u h j q x m step e = ap (λ y. job_at y q) step.1.2 ∙ at_put s.jobs j q (record { query = x; frozen = m }) ∙ ap (λ b. cond b (Some (record { query = x; frozen = m })) (job_at s q)) (apart q j e)

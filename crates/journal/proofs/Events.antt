@@ -16,14 +16,14 @@ use Rattle.journal.specs.Kept.{Standing, Files, AllOpen, WasOpenedBy, is_other, 
 use Rattle.journal.specs.declared.frozen.Frozen.{Frozen}
 use Rattle.journal.proofs.Beside.{frozen_still}
 
-module _ {K V Q A I : Type 0} (kind : Kind K V Q A (plain.Told K V I)) (t : Shelves) where
+module _ {K V Q A I : Type 0} (kind : Kind K V Q A (plain.Summary K V I)) (t : Shelves) where
   -- one more event, as the table and its journal show it
-  pub files_event : (s u : State K V Q) (ts ts' : List (Where (Entered K V Q (plain.Told K V I)))) (a m : Where (Entered K V Q (plain.Told K V I)))
-      (seat : ℕ) (r : Request K V Q) (o : Outcome K V (plain.Told K V I)) (at : ℕ) (old : Standing K V Q (plain.Told K V I)) (os os' : Map ℕ ℕ)
+  pub files_event : (s u : State K V Q) (ts ts' : List (Where (Entered K V Q (plain.Summary K V I)))) (a m : Where (Entered K V Q (plain.Summary K V I)))
+      (seat : ℕ) (r : Request K V Q) (o : Outcome K V (plain.Summary K V I)) (at : ℕ) (old : Standing K V Q (plain.Summary K V I)) (os os' : Map ℕ ℕ)
       → record { state = s; journal = entries_of ts; openers = os } ≡ old → ts' ≡ ts ++ m ∷ [] → m ≡ a → Shows t a → entry_at a ≡ record { seat = seat; request = r; outcome = o }
       → at ≡ length ts → is_filed o ≡ true → Step kind s r o u → os' ≡ openers_after os r o a.index → Files kind t old seat r o a at (record { state = u; journal = entries_of ts'; openers = os' })
   files_event s u ts ts' a m seat r o at old os os' view is same shows entry place filed step openers =
-      subst (λ (x : Standing K V Q (plain.Told K V I)). Files kind t x seat r o a at (record { state = u; journal = entries_of ts'; openers = os' })) view record {
+      subst (λ (x : Standing K V Q (plain.Summary K V I)). Files kind t x seat r o a at (record { state = u; journal = entries_of ts'; openers = os' })) view record {
         shown = shows;
         entry = entry;
         place = place ∙ sym (length-map ts entry_at);
@@ -33,7 +33,7 @@ module _ {K V Q A I : Type 0} (kind : Kind K V Q A (plain.Told K V I)) (t : Shel
         filed = filed;
       }
 
-module _ {K V Q A I : Type 0} (kind : Kind K V Q A (plain.Told K V I)) (t : Shelves) where
+module _ {K V Q A I : Type 0} (kind : Kind K V Q A (plain.Summary K V I)) (t : Shelves) where
   -- the tokens beside open jobs after a freeze, where they stood in an equal list
   pub frozen_after : (s u : State K V Q) (h seat : ℕ) (q : Q) (answer : Result (ℕ × Map K V) Refusal) (fs mid fs' : List (Frozen K V Q I)) (f : ℕ → Frozen K V Q I)
       → FreezesOpenJobs kind → ((n : ℕ) → (f n).number ≡ n) → ((n : ℕ) → Shows t (f n).token)

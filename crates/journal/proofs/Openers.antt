@@ -60,7 +60,7 @@ module _ {K V Q I : Type 0} where
       ∙ some_without (map.is_other nat_cmp j q) (value_at nat_cmp (openers_of fs) q) (job_at s q) (each q)
       ∙ sym (ap is_some (ap (λ js. value_at nat_cmp js q) closed ∙ at_without s.jobs j q))
 
-module _ {K V Q A I : Type 0} (kind : Kind K V Q A (plain.Told K V I)) where
+module _ {K V Q A I : Type 0} (kind : Kind K V Q A (plain.Summary K V I)) where
   -- each job has its token after a freeze
   pub each_frozen : (s u : State K V Q) (h : ℕ) (q : Q) (answer : Result (ℕ × Map K V) Refusal) (fs mid fs' : List (Frozen K V Q I)) (f : ℕ → Frozen K V Q I)
       → ((n : ℕ) → (f n).number ≡ n) → Step kind s (freeze h q) (answered frozen_outcome answer) u
@@ -79,9 +79,9 @@ module _ {K V Q A I : Type 0} (kind : Kind K V Q A (plain.Told K V I)) where
       subst (EachHasItsToken u) (sym (is ∙ same)) (each_still s u fs (ap (λ x. x.jobs) step.1) each)
 
   -- where openers stand after a freeze
-  pub openers_frozen : (h : ℕ) (q : Q) (answer : Result (ℕ × Map K V) Refusal) (fs mid fs' : List (Frozen K V Q I)) (token mine : Where (Entered K V Q (plain.Told K V I)))
+  pub openers_frozen : (h : ℕ) (q : Q) (answer : Result (ℕ × Map K V) Refusal) (fs mid fs' : List (Frozen K V Q I)) (token mine : Where (Entered K V Q (plain.Summary K V I)))
       → token ≡ mine → MatchResult answer (λ x. fs' ≡ filter (is_other x.0) mid ++ record { number = x.0; token = token } ∷ []) (λ _. fs' ≡ mid) → mid ≡ fs
-      → openers_of fs' ≡ openers_after {B = plain.Told K V I} (openers_of fs) (freeze h q) (answered frozen_outcome answer) mine.index
+      → openers_of fs' ≡ openers_after {B = plain.Summary K V I} (openers_of fs) (freeze h q) (answered frozen_outcome answer) mine.index
   openers_frozen h q (Ok x) fs mid fs' token mine e is same =
       ap openers_of is ∙ openers_of-opened x.0 (record { number = x.0; token = token }) mid ∙ (λ i. without nat_cmp (openers_of (same i)) x.0 ++ (x.0, (e i).index) ∷ [])
   openers_frozen h q (Err x) fs mid fs' token mine e is same = ap openers_of (is ∙ same)

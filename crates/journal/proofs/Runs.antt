@@ -34,24 +34,24 @@ module _ {K V Q A B : Type 0} (kind : Kind K V Q A B) where
     filed = list_all-append is_filed_in es (e ∷ []) ∙ both_are (list_all is_filed_in es) (list_all is_filed_in (e ∷ [])) legal.filed (both_are (is_filed e.outcome) true filed refl);
   }
 
-module _ {K V Q A I : Type 0} (kind : Kind K V Q A (plain.Told K V I)) (t : Shelves) where
-  one_shown : (a : Where (Entered K V Q (plain.Told K V I))) → Shows t a → AllShown t (a ∷ [])
+module _ {K V Q A I : Type 0} (kind : Kind K V Q A (plain.Summary K V I)) (t : Shelves) where
+  one_shown : (a : Where (Entered K V Q (plain.Summary K V I))) → Shows t a → AllShown t (a ∷ [])
   one_shown a shows zero d h = shows
   one_shown a shows (suc k) d h = absurd (omega arith)
 
   -- what the lock keeps, after one more event
-  pub kept_more : (s u : State K V Q) (ts ts' : List (Where (Entered K V Q (plain.Told K V I)))) (fs fs' : List (Frozen K V Q I)) (a : Where (Entered K V Q (plain.Told K V I)))
-      (seat : ℕ) (r : Request K V Q) (o : Outcome K V (plain.Told K V I))
+  pub kept_more : (s u : State K V Q) (ts ts' : List (Where (Entered K V Q (plain.Summary K V I)))) (fs fs' : List (Frozen K V Q I)) (a : Where (Entered K V Q (plain.Summary K V I)))
+      (seat : ℕ) (r : Request K V Q) (o : Outcome K V (plain.Summary K V I))
       → ts' ≡ ts ++ a ∷ [] → IsKept kind t s ts fs → Shows t a → entry_at a ≡ record { seat = seat; request = r; outcome = o }
       → is_filed o ≡ true → Step kind s r o u → AllOpen t u fs' → EachHasItsToken u fs' → IsKept kind t u ts' fs'
   kept_more s u ts ts' fs fs' a seat r o is kept shows entry filed step beside each =
       let filed' : is_filed (entry_at a).outcome ≡ true = ap (λ e. is_filed e.outcome) entry ∙ filed in
-      let step' : Step kind s (entry_at a).request (entry_at a).outcome u = subst (λ (e : Entered K V Q (plain.Told K V I)). Step kind s e.request e.outcome u) (sym entry) step in
+      let step' : Step kind s (entry_at a).request (entry_at a).outcome u = subst (λ (e : Entered K V Q (plain.Summary K V I)). Step kind s e.request e.outcome u) (sym entry) step in
       let more : IsLegal kind s.limits (entries_of ts ++ entry_at a ∷ []) u = legal_more kind s.limits s u (entries_of ts) (entry_at a) kept.legal filed' step' in
-      let together : IsLegal kind s.limits (entries_of (ts ++ a ∷ [])) u = subst (λ (es : List (Entered K V Q (plain.Told K V I))). IsLegal kind s.limits es u) (sym (map-append entry_at ts (a ∷ []))) more in
+      let together : IsLegal kind s.limits (entries_of (ts ++ a ∷ [])) u = subst (λ (es : List (Entered K V Q (plain.Summary K V I))). IsLegal kind s.limits es u) (sym (map-append entry_at ts (a ∷ []))) more in
       let legal' : IsLegal kind u.limits (entries_of (ts ++ a ∷ [])) u = subst (λ l. IsLegal kind l (entries_of (ts ++ a ∷ [])) u) (sym (limits_kept kind s u r o step)) together in
-      subst (λ (x : List (Where (Entered K V Q (plain.Told K V I)))). IsKept kind t u x fs') (sym is) record {
-        shown = All-append (λ (b : Where (Entered K V Q (plain.Told K V I))). Shows t b) ts (a ∷ []) kept.shown (one_shown a shows);
+      subst (λ (x : List (Where (Entered K V Q (plain.Summary K V I)))). IsKept kind t u x fs') (sym is) record {
+        shown = All-append (λ (b : Where (Entered K V Q (plain.Summary K V I))). Shows t b) ts (a ∷ []) kept.shown (one_shown a shows);
         legal = legal';
         beside = beside;
         each = each;

@@ -72,14 +72,14 @@ module _ {K V Q I : Type 0} where
   EachHasItsToken s fs = (number : ℕ) → is_some (value_at nat_cmp (openers_of fs) number) ≡ is_some (job_at s number)
 
 -- the tokens are of the vector; the journal of their entries is legal and leads to the state; and beside each open job stands the token of its freeze
-pub record IsKept {K V Q A I : Type 0} (kind : Kind K V Q A (plain.Told K V I)) (t : Shelves) (s : State K V Q) (ts : List (Where (Entered K V Q (plain.Told K V I)))) (fs : List (Frozen K V Q I)) : Type 0 where
+pub record IsKept {K V Q A I : Type 0} (kind : Kind K V Q A (plain.Summary K V I)) (t : Shelves) (s : State K V Q) (ts : List (Where (Entered K V Q (plain.Summary K V I)))) (fs : List (Frozen K V Q I)) : Type 0 where
   pub shown : AllShown t ts
   pub legal : IsLegal kind s.limits (entries_of ts) s
   pub beside : AllOpen t s fs
   pub each : EachHasItsToken s fs
 
 -- one event under the lock: its entry is filed last, by a token of the vector, and it is a step of the machine
-pub record Files {K V Q A I : Type 0} (kind : Kind K V Q A (plain.Told K V I)) (t : Shelves) (old : Standing K V Q (plain.Told K V I)) (seat : ℕ) (r : Request K V Q) (o : Outcome K V (plain.Told K V I)) (token : Where (Entered K V Q (plain.Told K V I))) (at : ℕ) (new : Standing K V Q (plain.Told K V I)) : Type 0 where
+pub record Files {K V Q A I : Type 0} (kind : Kind K V Q A (plain.Summary K V I)) (t : Shelves) (old : Standing K V Q (plain.Summary K V I)) (seat : ℕ) (r : Request K V Q) (o : Outcome K V (plain.Summary K V I)) (token : Where (Entered K V Q (plain.Summary K V I))) (at : ℕ) (new : Standing K V Q (plain.Summary K V I)) : Type 0 where
   pub shown : Shows t token
   pub entry : entry_at token ≡ record { seat = seat; request = r; outcome = o }
   pub place : at ≡ length old.journal

@@ -11,9 +11,9 @@ pub struct Caller {
 }
 
 impl Caller {
-    /// The seat of the number, which lists its entries here. Room for one is made in the list.
+    /// The seat of the number, which lists its entries here. Space for one is made in the list.
     ///
-    /// Want of memory is not told yet: a refusal that makes no entry comes before it.
+    /// `NoMemory` is not returned yet: a refusal that makes no entry comes before it.
     pub fn new<T: Drop>(seat: u32, list: &mut Vec<T>) -> Caller
         ensures seat { result.seat ≡ seat }
         ensures items { list.new.items ≡ list.old.items }

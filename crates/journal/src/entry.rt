@@ -1,36 +1,44 @@
 //! The entries of a journal.
 ghost use Rattle.std.specs.Prelude.{◌≡◌};
-ghost use Rattle.journal.specs.Answers.{asked_of, outcome_told};
+ghost use Rattle.journal.specs.Answers.{asked_of, response_outcome};
 
 use crate::asked::Asked;
-use crate::told::Told;
+use crate::response::Response;
 use hash_path::PathKey;
 use std::marker::Model;
 
-/// An entry of a journal: the number of a seat, what it asked, and what it was told. It never changes.
+/// An entry of a journal: the number of a seat, what it asked, and what was returned. It never changes.
 #[derive(Drop)]
 pub struct Entry<K: PathKey, V, Q, I> {
     seat: u32,
     asked: Asked<K, V, Q>,
-    told: Told<K, V, I>,
+    response: Response<K, V, I>,
 }
 
 impl<K: PathKey, V, Q, I> Model for Entry<K, V, Q, I> {
     ghost use Rattle.bulk_ops.specs.Answers as plain;
-    ghost use Rattle.journal.specs.Answers.{asked_of, outcome_told};
+    ghost use Rattle.journal.specs.Answers.{asked_of, response_outcome};
     ghost use Rattle.journal.specs.Journals.{Entered};
 
-    ghost Value = { Entered K V Q (plain.Told K V I) };
+    ghost Value = { Entered K V Q (plain.Summary K V I) };
 
-    ghost view = { λ e. record { seat = e.seat; request = asked_of e.asked; outcome = outcome_told e.told } };
+    ghost view = { λ e. record { seat = e.seat; request = asked_of e.asked; outcome = response_outcome e.response } };
 }
 
 impl<K: PathKey, V, Q, I> Entry<K, V, Q, I> {
-    /// The entry of a seat that asked this and was told this.
-    pub(crate) fn new(seat: u32, asked: Asked<K, V, Q>, told: Told<K, V, I>) -> Entry<K, V, Q, I>
-        ensures { result ≡ record { seat = seat; request = asked_of asked; outcome = outcome_told told } }
+    /// The entry of a seat that asked this, with what was returned.
+    pub(crate) fn new(
+        seat: u32,
+        asked: Asked<K, V, Q>,
+        response: Response<K, V, I>,
+    ) -> Entry<K, V, Q, I>
+        ensures { result ≡ record { seat = seat; request = asked_of asked; outcome = response_outcome response } }
     {
-        Entry { seat, asked, told }
+        Entry {
+            seat,
+            asked,
+            response,
+        }
     }
 
     /// The number of the seat.
@@ -47,10 +55,10 @@ impl<K: PathKey, V, Q, I> Entry<K, V, Q, I> {
         &self.asked
     }
 
-    /// What the seat was told.
-    pub fn told(&self) -> &Told<K, V, I>
-        ensures { outcome_told result.now ≡ self.now.outcome }
+    /// What was returned to the seat.
+    pub fn response(&self) -> &Response<K, V, I>
+        ensures { response_outcome result.now ≡ self.now.outcome }
     {
-        &self.told
+        &self.response
     }
 }

@@ -3,17 +3,17 @@ ghost use Rattle.std.specs.Prelude.{◌≡◌, ◌<◌, Err, IfErr, IfOk, IsTrue
 ghost use Rattle.boxcar.specs.Table.{Shows};
 ghost use Rattle.bulk_ops.specs.Answers as plain;
 ghost use Rattle.handles.specs.Machine.{Job, finish, finished, is_entry, job_at};
-ghost use Rattle.handles.specs.Views.{is_counted, lacks_memory};
-ghost use Rattle.journal.specs.Answers.{asked_of, outcome_told};
+ghost use Rattle.handles.specs.Views.{is_counted};
+ghost use Rattle.journal.specs.Answers.{asked_of, response_outcome};
 ghost use Rattle.journal.specs.Tokens.{entry_at};
 
 use crate::asked::Asked;
 use crate::caller::Caller;
 use crate::entry::Entry;
-use crate::room::{Entries, Token};
-use crate::told::Told;
+use crate::journal_name::{Entries, Token};
+use crate::response::Response;
 use bulk_ops::Asks;
-use handles::Table;
+use handles::{Table, is_entry};
 use hash_path::PathKey;
 use std::sync::Wait;
 use versions::{NoMemory, Refusal, View};
@@ -51,40 +51,24 @@ pub(crate) fn to_be_filed<T: Drop>(
     }
 }
 
-// Whether a refusal is an entry of the journal.
-fn is_entry(refusal: Refusal) -> bool
-    ensures { result ≡ is_entry refusal }
-{
-    !matches!(
-        refusal,
-        Refusal::NoJob | Refusal::Unfinished | Refusal::JournalFull | Refusal::NoMemory
-    )
-}
-
-/// Whether the call ran out of memory.
-pub(crate) fn lacks_memory<T>(answer: &Result<T, Refusal>) -> bool
-    ensures { result ≡ lacks_memory answer.now }
-{
-    matches!(answer, Err(Refusal::NoMemory))
-}
-
 /// The token of an entry, for the journal and for the seat.
 pub(crate) type Twice<K, V, Q, I> = (Token<K, V, Q, I>, Token<K, V, Q, I>);
 
-/// Places the entry of what the caller asked and was told, and gives its token twice, with room for one in the journal.
+/// Places the entry of what the caller asked and was answered, and returns its token twice, with room for one in the
+/// journal.
 pub(crate) fn entered<K: PathKey + Drop, V: Drop, Q: Drop, I: Drop, R: Wait>(
     rt: &R,
     entries: &Entries<K, V, Q, I>,
     journal: &mut Vec<Token<K, V, Q, I>>,
     caller: Caller,
     asked: Asked<K, V, Q>,
-    told: Told<K, V, I>,
+    told: Response<K, V, I>,
 ) -> Result<Twice<K, V, Q, I>, NoMemory>
     ensures room { OnOk result (IsTrue caller.has_room) }
     ensures spare { OnOk result (vec_len journal.new < vec_capacity journal.new) }
     ensures items { journal.new.items ≡ journal.old.items }
     ensures shown { IfOk result (λ r. Shows entries.now r.0) }
-    ensures entry { IfOk result (λ r. entry_at r.0 ≡ record { seat = caller.seat; request = asked_of asked; outcome = outcome_told told }) }
+    ensures entry { IfOk result (λ r. entry_at r.0 ≡ record { seat = caller.seat; request = asked_of asked; outcome = response_outcome told }) }
     ensures same { IfOk result (λ r. r.1 ≡ r.0) }
 {
     caller.room()?;
@@ -112,13 +96,13 @@ pub(crate) fn entered_finish<K: PathKey + Drop, V: Eq + Drop, Q: Asks<K, V> + Dr
     ensures spare { OnOk result (vec_len journal.new < vec_capacity journal.new) }
     ensures items { journal.new.items ≡ journal.old.items }
     ensures shown { IfOk result (λ r. Shows entries.now r.0) }
-    ensures entry { IfOk result (λ r. entry_at r.0 ≡ record { seat = caller.seat; request = finish job; outcome = finished (plain.told (Q.answer_of part.now)) }) }
+    ensures entry { IfOk result (λ r. entry_at r.0 ≡ record { seat = caller.seat; request = finish job; outcome = finished (plain.summary (Q.answer_of part.now)) }) }
     ensures same { IfOk result (λ r. r.1 ≡ r.0) }
 {
     // the job is open: only memory can run out
     let Ok(answer) = table.foresee_finish(job, part) else {
         return Err(NoMemory);
     };
-    let (asked, told) = (Asked::Finish(job), Told::Answer(answer));
+    let (asked, told) = (Asked::Finish(job), Response::Answer(answer));
     entered(rt, entries, journal, caller, asked, told)
 }

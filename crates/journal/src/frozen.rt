@@ -4,7 +4,7 @@ ghost use Rattle.std.specs.Ordering.{nat_cmp};
 ghost use Rattle.journal.specs.Kept.{is_other, openers_of};
 ghost use Rattle.versions.specs.Map.{value_at};
 
-use crate::room::Token;
+use crate::journal_name::Token;
 use hash_path::PathKey;
 
 /// The number of an open job, and the token of the entry that opened it.

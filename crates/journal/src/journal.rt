@@ -3,7 +3,7 @@ ghost use Rattle.std.specs.Prelude.{◌≡◌, ◌↔◌, [], IsTrue, length, op
 ghost use Rattle.journal.specs.Tokens.{AllShown, entries_of};
 
 use crate::entry::Entry;
-use crate::room::{Entries, Token};
+use crate::journal_name::{Entries, Token};
 use hash_path::PathKey;
 use std::marker::Model;
 
@@ -20,7 +20,7 @@ impl<K: PathKey, V, Q, I> Model for Journal<K, V, Q, I> {
     ghost use Rattle.journal.specs.Journals.{Entered};
     ghost use Rattle.journal.specs.Tokens.{AllShown, entries_of};
 
-    ghost Value = { List (Entered K V Q (plain.Told K V I)) };
+    ghost Value = { List (Entered K V Q (plain.Summary K V I)) };
 
     ghost view = { λ j. entries_of j.tokens.items };
 

@@ -2,7 +2,7 @@
 ghost use Rattle.std.specs.Prelude.{◌≡◌, ◌↔◌, ◌≤◌, ◌<◌, ◌+◌, ◌^◌, ◌⊎◌, ◌++◌, ◌∷◌, [], IfErr, IfOk, IfSome, IsErrAnd, IsTrue, MatchResult, OnErr, OnOk, Some, false, filter, vec_capacity, vec_len};
 ghost use Rattle.boxcar.specs.Table.{Shows};
 ghost use Rattle.bulk_ops.specs.Answers as plain;
-ghost use Rattle.bulk_ops.specs.Told.{told_of};
+ghost use Rattle.bulk_ops.specs.Summaries.{summary_of};
 ghost use Rattle.handles.specs.Machine.{Job, abandon, finish, freeze, let_go, made, nothing, view};
 ghost use Rattle.handles.specs.Views.{call_outcome, finished_outcome, frozen_outcome, machine, request_of, view_outcome};
 ghost use Rattle.journal.specs.Answers.{IsUnfiled, answered};
@@ -16,8 +16,8 @@ use crate::asked::Asked;
 use crate::caller::Caller;
 use crate::filing::{Event, Opened, entered, entered_finish, to_be_filed};
 use crate::frozen::{Frozen, beside, close};
-use crate::room::{Entries, Room, Token};
-use crate::told::Told;
+use crate::journal_name::{Entries, JournalName, Token};
+use crate::response::Response;
 use bulk_ops::{Answer, Asks};
 use handles::{Call, CallReply, Limits, MOST_ENTRIES, Table};
 use hash_path::PathKey;
@@ -33,27 +33,32 @@ use versions::{MOST_PAIRS, NoMemory, Refusal, View};
 ///
 /// The vector of entries, which is given to each call, is the one that `J` names.
 #[derive(Drop)]
-pub struct JournaledTable<K: PathKey, V: Eq, Q: Asks<K, V>, J: Room> {
+pub struct JournaledTable<K: PathKey, V: Eq, Q: Asks<K, V>, J: JournalName> {
     table: Table<K, V, Q>,
     journal: Vec<Token<K, V, Q, Q::Item>>,
     freezes: Vec<Frozen<K, V, Q, Q::Item>>,
     room: PhantomData<J>,
 }
 
-impl<K: PathKey, V: Eq, Q: Asks<K, V>, J: Room> Model for JournaledTable<K, V, Q, J> {
+impl<K: PathKey, V: Eq, Q: Asks<K, V>, J: JournalName> Model for JournaledTable<K, V, Q, J> {
     ghost use Rattle.bulk_ops.specs.Answers as plain;
     ghost use Rattle.handles.specs.Views.{machine};
     ghost use Rattle.journal.specs.Kept.{IsKept, Standing, openers_of};
     ghost use Rattle.journal.specs.Tokens.{entries_of};
 
-    ghost Value = { Standing K V Q (plain.Told K V Q.Item) };
+    ghost Value = { Standing K V Q (plain.Summary K V Q.Item) };
 
     ghost view = { λ l. record { state = l.table; journal = entries_of l.journal.items; openers = openers_of l.freezes.items } };
 
     ghost invariant = { λ l. IsKept (machine K.cmp V.eq Q.target_of Q.answered) J.table l.table l.journal.items l.freezes.items };
 }
 
-impl<K: PathKey + Drop, V: Eq + Drop, Q: Asks<K, V> + Drop, J: Room> JournaledTable<K, V, Q, J> {
+impl<K: PathKey + Drop, V: Eq + Drop, Q: Asks<K, V> + Drop, J: JournalName> JournaledTable<
+    K,
+    V,
+    Q,
+    J,
+> {
     /// A table with no handles, and an empty journal.
     pub fn new(alloc: Global, limits: Limits) -> Result<JournaledTable<K, V, Q, J>, NoMemory>
         requires least_pairs { 1 ≤ limits.pairs }
@@ -70,14 +75,14 @@ impl<K: PathKey + Drop, V: Eq + Drop, Q: Asks<K, V> + Drop, J: Room> JournaledTa
         })
     }
 
-    /// The map that the call is about to let go: that of a live handle which it drops or clears. Where the view is kept
+    /// The map that the call would release: that of a live handle which it drops or clears. Where the view is kept
     /// until the call was made, the nodes of the map are freed with the view, and not by the call.
     ///
     /// It makes no entry and no request for memory. It is none too where the clone of a handle is refused.
-    pub fn taken_out(&self, call: &Call<K, V>) -> Option<View<K, V>>
+    pub fn discarded_map(&self, call: &Call<K, V>) -> Option<View<K, V>>
         ensures { IfSome result (λ map. let_go self.now.state (request_of call.now) ≡ Some map) }
     {
-        self.table.taken_out(call)
+        self.table.discarded_map(call)
     }
 
     /// Makes the call, and files it.
@@ -188,7 +193,7 @@ impl<K: PathKey + Drop, V: Eq + Drop, Q: Asks<K, V> + Drop, J: Room> JournaledTa
         if !self.was_opened_by(entries, job, opener) {
             return Err(Refusal::NoJob);
         }
-        let (asked, told) = (Asked::Abandon(job), Told::Abandoned);
+        let (asked, told) = (Asked::Abandon(job), Response::Abandoned);
         let place = self.journal.len() as u64;
         let journal = &mut self.journal;
         let (token, mine) = entered(rt, entries, journal, caller, asked, told)?;
@@ -224,7 +229,7 @@ impl<K: PathKey + Drop, V: Eq + Drop, Q: Asks<K, V> + Drop, J: Room> JournaledTa
         ensures fits { IfOk result (λ e. e.place + 1 < 2 ^ 64) }
         ensures opened { OnOk result (WasOpenedBy self.old.state job opener.now.value) }
         ensures room { OnOk result (IsTrue caller.has_room) }
-        ensures told { IfOk result (λ e. told_of e.answer ≡ plain.told (Q.answer_of part)) }
+        ensures told { IfOk result (λ e. summary_of e.answer ≡ plain.summary (Q.answer_of part)) }
         ensures unfiled { IfErr result (λ e. (e.0 ≡ Refusal.NoJob) ⊎ (e.0 ≡ Refusal.NoMemory)) }
         ensures exact { IsErrAnd result (λ e. e.0 ≡ Refusal.NoJob) ↔ IsAnothers self.old job opener.now.index }
         ensures due { IfErr result (λ e. e.0 ≡ Refusal.NoMemory → WasOpenedBy self.old.state job opener.now.value) }

@@ -14,7 +14,7 @@ line_of n call reply seat =
 abbrev pub line_data : ℕ → List ℕ → List ℕ → ℕ → Data
 line_data n call reply seat = object (member (codes "call") (string call) (member (codes "entry") (number (unsigned n)) (member (codes "reply") (string reply) (member (codes "seat") (number (unsigned seat)) no_members))))
 
--- the line behind the last of so many entries
+-- the line behind the last of that many entries
 abbrev pub end_line : ℕ → List ℕ
 end_line count = codes "{\"entries\":" ++ (decimal count ++ codes "}")
 

@@ -3,7 +3,7 @@
 ghost use Rattle.std.specs.Prelude.{◌≡◌, ℕ, ◌<◌, ◌^◌, ◌∷◌, ◌++◌, List};
 ghost use Rattle.journal_lines.specs.Lines.{end_line, ended, line_of, lines_in};
 
-/// The line of an entry tells its number, both its texts and its seat.
+/// The line of an entry determines its number, both its texts and its seat.
 pub fn law_of_lines()
     ensures { (m n : ℕ) (call reply calls replies : List ℕ) (seat seats : ℕ) → m < 2 ^ 64 → n < 2 ^ 64 → seat < 2 ^ 64 → seats < 2 ^ 64 → line_of m call reply seat ≡ line_of n calls replies seats → (m ≡ n) × (call ≡ calls) × (reply ≡ replies) × (seat ≡ seats) }
 {}

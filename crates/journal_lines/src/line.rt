@@ -13,7 +13,7 @@ use std::alloc::{AllocError, Global};
 pub struct Line {
     /// What was asked.
     pub call: String,
-    /// What was told.
+    /// What was answered.
     pub reply: String,
     /// The number of the seat.
     pub seat: u64,
@@ -50,7 +50,7 @@ fn line_value(
     json!(in alloc; {"call": call, "entry": number, "reply": reply, "seat": seat})
 }
 
-/// The line behind the last of so many entries.
+/// The line behind the last of `entries` entries.
 ///
 /// # Errors
 ///

@@ -1,4 +1,4 @@
--- How what is asked, and what is told, are written.
+-- How what is asked, and what is answered, are written.
 use Rattle.std.specs.Prelude.{◌≡◌, ℕ, ℤ, ◌<◌, ◌^◌, ◌++◌, List, [], ◌∷◌, Option, Some, None, codes}
 use Rattle.std.specs.List.{join_with_byte}
 use Rattle.std.specs.Fmt.{decimal}
@@ -44,8 +44,8 @@ abbrev pub reply_text : Option LineReply → List ℕ
 reply_text None = []
 reply_text (Some reply) = text_of reply
 
--- the text of what is told: of a job that was opened its number, of one that made a map of images that map, and else that of a script's reply
+-- the text of what is answered: of a job that was opened its number, of one that made a map of images that map, and else that of a script's reply
 abbrev pub outcome_text : ProgramOutcome → List ℕ
 outcome_text (frozen j m) = codes "job " ++ decimal j
-outcome_text (finished (plain.Told.images m)) = text_of (replies.Pairs m)
+outcome_text (finished (plain.Summary.images m)) = text_of (replies.Pairs m)
 outcome_text o = reply_text (reply_to o)

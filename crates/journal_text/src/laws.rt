@@ -4,7 +4,7 @@ ghost use Rattle.std.specs.Prelude.{◌≡◌};
 ghost use Rattle.questions.specs.Program.{ProgramRequest};
 ghost use Rattle.journal_text.specs.Calls.{IsLawfulRequest, call_text};
 
-/// The text of what is asked tells what is asked.
+/// The text of a lawful request determines the request.
 pub fn law_of_calls()
     ensures { (r q : ProgramRequest) → IsLawfulRequest r → IsLawfulRequest q → call_text r ≡ call_text q → r ≡ q }
 {}

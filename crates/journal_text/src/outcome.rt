@@ -1,15 +1,15 @@
-//! The text of what is told.
+//! The text of what is answered.
 
 ghost use Rattle.std.specs.Prelude.{◌≡◌, ◌++◌, IfOk, OnOk};
-ghost use Rattle.bulk_ops.specs.Told.{told_of};
+ghost use Rattle.bulk_ops.specs.Summaries.{summary_of};
 ghost use Rattle.handles.specs.Machine.{finished};
 ghost use Rattle.script.specs.Replies.{text_of};
-ghost use Rattle.journal.specs.Answers.{outcome_told};
+ghost use Rattle.journal.specs.Answers.{response_outcome};
 ghost use Rattle.journal_text.specs.Calls.{outcome_text};
 
 use arguments::MapKey;
 use bulk_ops::Answer;
-use journal::Told;
+use journal::Response;
 use keys::ByteText;
 use questions::{listing_of, reply_shown};
 use script::{LineReply, push_reply};
@@ -18,20 +18,20 @@ use std::io::Write;
 use std::sync::Arc;
 use versions::NoMemory;
 
-/// What is told of the table of a program.
-pub type ProgramTold = Told<ByteText, i64, Option<i128>>;
+/// What the table of a program answers.
+pub type ProgramResponse = Response<ByteText, i64, Option<i128>>;
 
-/// Appends the text of what is told.
-pub fn push_told(alloc: Global, out: &mut Vec<u8>, told: &ProgramTold) -> Result<(), NoMemory>
-    ensures { OnOk result (out.new.items ≡ out.old.items ++ outcome_text (outcome_told told.now)) }
+/// Appends the text of what is answered.
+pub fn push_told(alloc: Global, out: &mut Vec<u8>, told: &ProgramResponse) -> Result<(), NoMemory>
+    ensures { OnOk result (out.new.items ≡ out.old.items ++ outcome_text (response_outcome told.now)) }
 {
     let done = match told {
-        Told::Frozen(job, _) => write!(out, "job {job}"),
-        Told::Reply(reply) => push_reply(out, &reply_shown(reply)),
-        Told::View(view) => push_reply(out, &LineReply::Pairs(listing_of(alloc, view)?)),
-        Told::Answer(answer) => push_reply(out, &answer_shown(alloc, answer)?),
-        Told::Abandoned => push_reply(out, &LineReply::Done),
-        Told::Refused(refusal) => push_reply(out, &LineReply::Refused(*refusal)),
+        Response::Frozen(job, _) => write!(out, "job {job}"),
+        Response::Reply(reply) => push_reply(out, &reply_shown(reply)),
+        Response::View(view) => push_reply(out, &LineReply::Pairs(listing_of(alloc, view)?)),
+        Response::Answer(answer) => push_reply(out, &answer_shown(alloc, answer)?),
+        Response::Abandoned => push_reply(out, &LineReply::Done),
+        Response::Refused(refusal) => push_reply(out, &LineReply::Refused(*refusal)),
     };
     match done {
         Ok(()) => Ok(()),
@@ -39,12 +39,12 @@ pub fn push_told(alloc: Global, out: &mut Vec<u8>, told: &ProgramTold) -> Result
     }
 }
 
-/// The reply that tells the answer, or lists the map that was made of images.
+/// The reply that reports the answer, or lists the map that was made of images.
 fn answer_shown(
     alloc: Global,
     answer: &Answer<ByteText, i64, Option<i128>>,
 ) -> Result<LineReply, NoMemory>
-    ensures { IfOk result (λ reply. text_of reply ≡ outcome_text (finished (told_of answer.now))) }
+    ensures { IfOk result (λ reply. text_of reply ≡ outcome_text (finished (summary_of answer.now))) }
 {
     Ok(match answer {
         Answer::Count(number) => LineReply::Count(*number),

@@ -17,7 +17,7 @@ use versions::NoMemory;
 /// The journal of a program.
 pub type ProgramJournal = Journal<ByteText, i64, ScriptQuery, Option<i128>>;
 
-/// The text of the journal: a line for each entry, and a last one that tells how many there are.
+/// The text of the journal: a line for each entry, and a last one that says how many there are.
 ///
 /// The entries have to be lawful, as those of a script's run are. So their calls and replies are text, as JSON wants it.
 ///
@@ -41,7 +41,7 @@ pub fn journal_text(alloc: Global, journal: &ProgramJournal) -> Result<Vec<u8>, 
     Ok(text)
 }
 
-/// Appends the line of the entry of this number. What it asked and was told is written as text.
+/// Appends the line of the entry of this number. What it asked and was answered is written as text.
 fn push_entry(
     alloc: Global,
     text: &mut Vec<u8>,
@@ -57,7 +57,7 @@ fn push_entry(
         return Err(NoMemory);
     }
     let mut reply = Vec::new(alloc);
-    push_told(alloc, &mut reply, entry.told())?;
+    push_told(alloc, &mut reply, entry.response())?;
     let call = as_text(&call);
     let reply = as_text(&reply);
     let line = line_text(alloc, number, call, reply, u64::from(entry.seat()))?;

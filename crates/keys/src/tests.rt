@@ -48,7 +48,7 @@ fn byte_text_has_four_words(rt: HostRuntime) {
     assert_eq!(rt; size_of::<Short>(), 31usize);
 }
 
-/// A text of so many bytes: each way to make it gives one key, and each reads it back.
+/// A text of these bytes: each way to make it gives one key, and each reads it back.
 fn assert_whole(rt: &impl Abort, alloc: Global, bytes: &[u8]) {
     let text = ByteText::from_slice(alloc, bytes).expect(rt, "no text");
     let owned = ByteText::new(bytes.to_vec(alloc).expect(rt, "no bytes"));

@@ -32,7 +32,7 @@ impl Model for ByteText {
 
     ghost Value = { List ℕ };
 
-    ghost use Rattle.keys.specs.Held.{held, IsPlaced};
+    ghost use Rattle.keys.specs.KeyBytes.{held, IsPlaced};
 
     ghost view = { λ text. held text.bytes };
 

@@ -62,23 +62,23 @@ module _ {K V Q I : Type 0} where
   all_of_more t fs fs' f is all shows = subst (AllOf t) (sym is) (All-push (λ (x : Filed K V Q I). Shows t x.token) fs f all shows)
 
   -- a seat with one entry more, as its parts show it
-  pub seat_with_entry : (n floor : ℕ) (full : Bool) (unknown : Option ℕ) (fs fs' : List (Filed K V Q I)) (f : Filed K V Q I) (r : Request K V Q) (o : Outcome K V (plain.Told K V I))
+  pub seat_with_entry : (n floor : ℕ) (full : Bool) (unknown : Option ℕ) (fs fs' : List (Filed K V Q I)) (f : Filed K V Q I) (r : Request K V Q) (o : Outcome K V (plain.Summary K V I))
       → fs' ≡ fs ++ f ∷ [] → f.floor ≡ floor → entry_at f.token ≡ record { seat = n; request = r; outcome = o }
-      → (let new : Seated K V Q (plain.Told K V I) = record { number = n; floor = f.place + 1; list = placed_all fs'; full = full; unknown = unknown } in
+      → (let new : Seated K V Q (plain.Summary K V I) = record { number = n; floor = f.place + 1; list = placed_all fs'; full = full; unknown = unknown } in
       new ≡ with_entry (record { number = n; floor = floor; list = placed_all fs; full = full; unknown = unknown }) r o f.place)
   seat_with_entry n floor full unknown fs fs' f r o is beside entry =
-      let seated : List (Placed K V Q (plain.Told K V I)) → Seated K V Q (plain.Told K V I) = λ l. record { number = n; floor = f.place + 1; list = l; full = full; unknown = unknown } in
+      let seated : List (Placed K V Q (plain.Summary K V I)) → Seated K V Q (plain.Summary K V I) = λ l. record { number = n; floor = f.place + 1; list = l; full = full; unknown = unknown } in
       ap seated (ap placed_all is ∙ map-append placed fs (f ∷ [])
       ∙ ap (λ x. placed_all fs ++ record { place = f.place; floor = x; entry = entry_at f.token } ∷ []) beside
       ∙ ap (λ e. placed_all fs ++ record { place = f.place; floor = floor; entry = e } ∷ []) entry)
 
-module _ {K V Q A I : Type 0} (kind : Kind K V Q A (plain.Told K V I)) (t : Shelves) where
+module _ {K V Q A I : Type 0} (kind : Kind K V Q A (plain.Summary K V I)) (t : Shelves) where
   -- an event that was filed under the lock is what its call adds to the seat
-  pub event_adds : (x y : Standing K V Q (plain.Told K V I)) (caller n floor next : ℕ) (full : Bool) (unknown : Option ℕ) (fs fs' : List (Filed K V Q I)) (f : Filed K V Q I) (r : Request K V Q) (o told : Outcome K V (plain.Told K V I)) (old : Seated K V Q (plain.Told K V I))
+  pub event_adds : (x y : Standing K V Q (plain.Summary K V I)) (caller n floor next : ℕ) (full : Bool) (unknown : Option ℕ) (fs fs' : List (Filed K V Q I)) (f : Filed K V Q I) (r : Request K V Q) (o told : Outcome K V (plain.Summary K V I)) (old : Seated K V Q (plain.Summary K V I))
       → record { number = n; floor = floor; list = placed_all fs; full = full; unknown = unknown } ≡ old → fs' ≡ fs ++ f ∷ [] → f.floor ≡ floor → next ≡ f.place + 1
       → caller ≡ n → Files kind t x caller r o f.token f.place y → told ≡ o → Adds old r told (record { number = n; floor = next; list = placed_all fs'; full = full; unknown = unknown })
   event_adds x y caller n floor next full unknown fs fs' f r o told old view is beside behind same files is_told =
-      let at : ℕ → Seated K V Q (plain.Told K V I) = λ k. record { number = n; floor = k; list = placed_all fs'; full = full; unknown = unknown } in
-      let was : Seated K V Q (plain.Told K V I) = record { number = n; floor = floor; list = placed_all fs; full = full; unknown = unknown } in
-      subst (λ (s : Seated K V Q (plain.Told K V I)). Adds s r told (at next)) view
+      let at : ℕ → Seated K V Q (plain.Summary K V I) = λ k. record { number = n; floor = k; list = placed_all fs'; full = full; unknown = unknown } in
+      let was : Seated K V Q (plain.Summary K V I) = record { number = n; floor = floor; list = placed_all fs; full = full; unknown = unknown } in
+      subst (λ (s : Seated K V Q (plain.Summary K V I)). Adds s r told (at next)) view
       (subst (λ p. Adds was r p (at next)) (sym is_told) (filed_adds was (at next) r o f.place (step_has_worker kind x.state y.state r o files.step) files.filed (ap at behind ∙ seat_with_entry n floor full unknown fs fs' f r o is beside (files.entry ∙ ap (λ k. record { seat = k; request = r; outcome = o }) same))))

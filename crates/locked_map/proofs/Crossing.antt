@@ -10,11 +10,11 @@ use Rattle.std.specs.declared.cmp.PartialOrd as PartialOrd
 use Rattle.hash_path.specs.declared.key.PathKey as PathKey
 use Rattle.bulk_ops.specs.declared.asks.Asks as Asks
 use Rattle.combiner.specs.declared.bulk.Bulk as Bulk
-use Rattle.journal.specs.declared.room.Room as Room
+use Rattle.journal.specs.declared.journal_name.JournalName as JournalName
 use Rattle.journal.proofs.Crossing.{entry_send, entry_sync, journaled_send}
 use Rattle.locked_map.specs.contracts.shared_map.SharedMap as SharedMap
 
-module _ (K V Q J I P : RattleType) (key : PathKey.Ghosts K.Denot) (order : Ord.Ghosts K.Denot) (keq : PartialEq.Ghosts K.Denot) (kord : PartialOrd.Ghosts K.Denot) (veq : PartialEq.Ghosts V.Denot) (asks : Asks.Ghosts Q.Denot K.Denot V.Denot I.Denot P.Denot) (bulk : Bulk.Ghosts Q.Denot K.Denot V.Denot P.Denot) (room : Room.Ghosts J.Denot) where
+module _ (K V Q J I P : RattleType) (key : PathKey.Ghosts K.Denot) (order : Ord.Ghosts K.Denot) (keq : PartialEq.Ghosts K.Denot) (kord : PartialOrd.Ghosts K.Denot) (veq : PartialEq.Ghosts V.Denot) (asks : Asks.Ghosts Q.Denot K.Denot V.Denot I.Denot P.Denot) (bulk : Bulk.Ghosts Q.Denot K.Denot V.Denot P.Denot) (room : JournalName.Ghosts J.Denot) where
   pub shared_sync : IsSend K → IsSync K → IsSend V → IsSync V → IsSend Q → IsSync Q → IsSend J → IsSync J → IsSend I → IsSync I → IsSync (Declared.row (SharedMap.the_type K V Q J I P key order keq kord veq asks bulk room))
   shared_sync ks ky vs vy qs qy js jy is iy =
       let T = SharedMap.the_type K V Q J I P key order keq kord veq asks bulk room in

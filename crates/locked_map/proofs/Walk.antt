@@ -11,7 +11,7 @@ use Rattle.journal.specs.Tokens.{entry_at, entries_of}
 use Rattle.locked_map.specs.Seats.{placed_all, AllOf, AboveFloors, pairs}
 
 abbrev Entry : Type 0 → Type 0 → Type 0 → Type 0 → Type 0
-Entry K V Q I = Entered K V Q (plain.Told K V I)
+Entry K V Q I = Entered K V Q (plain.Summary K V I)
 
 module _ {K V Q I : Type 0} where
   -- what one entry adds

@@ -15,7 +15,7 @@ abbrev pub MayBeTold : {K V Q A B : Type 0} → Kind K V Q A B → Request K V Q
 MayBeTold {K} {V} {Q} kind r o = (s : State K V Q) × (t : State K V Q) × Step kind s r o t
 
 module _ {V : Type 0} where
-  -- a call was told of this value that a key had, or of none
+  -- the reply of a call has this value that a key had, or none
   abbrev pub TellsValue : CallReply V → Option V → Type 0
   TellsValue (call_replies.Reply (replies.Old found)) o = option_map arc_value found ≡ o
   TellsValue reply o = ⊥
@@ -26,7 +26,7 @@ module _ {V Z : Type 0} where
   Gives v answer = IsOkAnd answer (λ (a : Arc V Z). arc_value a ≡ v)
 
 module _ {K V B Z : Type 0} where
-  -- what is answered where a put_if_absent of the caller's own value was told this: its refusal, else the value that was found, else the own value
+  -- what is answered where a put_if_absent of the caller's own value was answered this: its refusal, else the value that was found, else the own value
   abbrev pub AnswersPut : V → Outcome K V B → Result (Arc V Z) Refusal → Type 0
   AnswersPut own (refused e) answer = answer ≡ Err e
   AnswersPut own (replied (old (Some v))) answer = Gives v answer
@@ -38,7 +38,7 @@ module _ {K V Q B Z : Type 0} where
   abbrev pub PutsOrFinds : ℕ → K → V → Seated K V Q B → Result (Arc V Z) Refusal → Seated K V Q B → Type 0
   PutsOrFinds h k own s answer t = (o : Outcome K V B) × Adds s (on h (put_if_absent k own)) o t × AnswersPut own o answer
 
-  -- what follows where a get was told this: its refusal is the answer, or the value that it found; else a value is made, and a put_if_absent of it follows
+  -- what follows where a get was answered this: its refusal is the answer, or the value that it found; else a value is made, and a put_if_absent of it follows
   abbrev pub AnswersGet : (V → Type 0) → ℕ → K → Seated K V Q B → Outcome K V B → Result (Arc V Z) Refusal → Seated K V Q B → Type 0
   AnswersGet makes h k s (refused e) answer t = (answer ≡ Err e) × (t ≡ s)
   AnswersGet makes h k s (replied (old (Some v))) answer t = Gives v answer × (t ≡ s)

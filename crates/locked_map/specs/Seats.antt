@@ -25,10 +25,10 @@ pub record Seated (K V Q B : Type 0) : Type 0 where
 
 module _ {K V Q I : Type 0} where
   -- what is filed, as the token of its entry shows it
-  abbrev pub placed : Filed K V Q I → Placed K V Q (plain.Told K V I)
+  abbrev pub placed : Filed K V Q I → Placed K V Q (plain.Summary K V I)
   placed f = record { place = f.place; floor = f.floor; entry = entry_at f.token }
 
-  abbrev pub placed_all : List (Filed K V Q I) → List (Placed K V Q (plain.Told K V I))
+  abbrev pub placed_all : List (Filed K V Q I) → List (Placed K V Q (plain.Summary K V I))
   placed_all fs = map placed fs
 
   -- the tokens are of this vector
@@ -78,7 +78,7 @@ module _ {K V Q B : Type 0} where
   marked_by s NoJob j = marked_unknown s j
   marked_by s e j = s
 
-  -- what a call adds to the seat that makes it: its entry; or a mark, where it needs room and is answered JournalFull, or ends a job and is answered NoJob; or nothing, where memory was wanting. No call is answered as unfinished, as of no worker, or as a worker's step
+  -- what a call adds to the seat that makes it: its entry; or a mark, where it needs room and is answered JournalFull, or ends a job and is answered NoJob; or nothing, where memory ran out. No call is answered as unfinished, as of no worker, or as a worker's step
   abbrev pub Adds : Seated K V Q B → Request K V Q → Outcome K V B → Seated K V Q B → Type 0
   Adds s r (refused JournalFull) t = (needs_room r ≡ true) × (t ≡ marked_full s)
   Adds s r (refused NoJob) t = IsSome (job_of r) × (t ≡ marked_unknown s (job_of r))

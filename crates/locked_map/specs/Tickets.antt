@@ -19,6 +19,6 @@ abbrev pub ticket_outcome : {K V Q B : Type 0} → Ticketed K V Q → Outcome K 
 ticket_outcome t = frozen t.job t.frozen
 
 -- the token is of this vector, and its entry is the freeze of the query that opened the job of this number and showed this map
-pub record IsTicket {K V Q I : Type 0} (t : Shelves) (number : ℕ) (query : Q) (map : Map K V) (token : Where (Entered K V Q (plain.Told K V I))) : Type 0 where
+pub record IsTicket {K V Q I : Type 0} (t : Shelves) (number : ℕ) (query : Q) (map : Map K V) (token : Where (Entered K V Q (plain.Summary K V I))) : Type 0 where
   pub shown : Shows t token
   pub opened : opened_by (entry_at token) ≡ Some (number, record { query = query; frozen = map })

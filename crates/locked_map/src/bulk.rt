@@ -7,11 +7,11 @@ use crate::shared_map::SharedMap;
 use crate::ticket::Ticket;
 use bulk_ops::{Answer, Asks};
 use hash_path::PathKey;
-use journal::Room;
+use journal::JournalName;
 use std::alloc::Global;
 use std::sync::{Arc, Wait};
 use std::thread::Threads;
-use task_pool::{Crew, Gate, run_crew};
+use task_pool::{Crew, Gate, MOST_GRAIN, MOST_WORKERS, run_crew};
 use versions::{NoMemory, Refusal};
 
 impl<K, V, Q, J> SharedMap<K, V, Q, J>
@@ -20,7 +20,7 @@ where
     V: Eq + Drop + Send + Sync,
     Q: Asks<K, V> + Drop + Sync,
     Q::Part: Send,
-    J: Room,
+    J: JournalName,
 {
     /// What the query is answered for the handle's map as it stands now.
     ///
@@ -34,7 +34,7 @@ where
     /// `finish` closes it by a part of the ticket's view, which `bulk_ops::work` makes, and `abandon` closes it without
     /// an answer.
     ///
-    /// The contract allows `NoMemory` whatever memory there is. Tests show that it is answered for want of memory alone.
+    /// The contract allows `NoMemory` whatever memory there is. Tests show that it is answered only if memory runs out.
     pub fn bulk<G: Gate + Sync, R: Threads + Wait + Sync>(
         &self,
         rt: &R,
@@ -45,9 +45,9 @@ where
         gate: &G,
     ) -> Result<Answer<K, V, Q::Item>, (Refusal, Option<Ticket<K, V, Q, J>>)>
         requires least_workers { 1 ≤ crew.workers }
-        requires most_workers { crew.workers ≤ 16 }
+        requires most_workers { crew.workers ≤ MOST_WORKERS }
         requires least_grain { 1 ≤ crew.grain }
-        requires most_grain { crew.grain ≤ 65536 }
+        requires most_grain { crew.grain ≤ MOST_GRAIN }
         requires ready { Q.ready query.value }
         ensures { AddsBulk Q.answers Q.answer_of handle query.value seat.old result seat.new }
     {
@@ -79,13 +79,13 @@ where
     V: Drop + Send + Sync,
     Q: Asks<K, V> + Sync,
     Q::Part: Send,
-    J: Room,
+    J: JournalName,
     G: Gate + Sync,
     R: Threads + Wait + Sync,
     requires least_workers { 1 ≤ crew.workers }
-    requires most_workers { crew.workers ≤ 16 }
+    requires most_workers { crew.workers ≤ MOST_WORKERS }
     requires least_grain { 1 ≤ crew.grain }
-    requires most_grain { crew.grain ≤ 65536 }
+    requires most_grain { crew.grain ≤ MOST_GRAIN }
     requires ready { Q.ready ticket.now.query }
     ensures { IfOk result (λ part. Q.answers ticket.now.query ticket.now.frozen part) }
 {

@@ -13,7 +13,7 @@ use crate::shared_map::SharedMap;
 use bulk_ops::Asks;
 use handles::{Limits, MOST_ENTRIES};
 use hash_path::PathKey;
-use journal::{Entries, Room};
+use journal::{Entries, JournalName};
 use sized_threads::{Work, map_vec};
 use std::alloc::{AllocError, Global};
 use std::marker::{Brand, PhantomData};
@@ -40,11 +40,11 @@ pub trait Client<K: PathKey, V: Eq, Q: Asks<K, V>> {
     /// What it asks of its caller.
     ghost needs: { Self → Type 0 };
 
-    /// What it tells its caller of the seat that it leaves, with its entries, floors and marks, and of what it comes to.
-    ghost gives: { Self → Seated K V Q (plain.Told K V Q.Item) → Self.Out → Type 0 };
+    /// What it guarantees of the seat that it leaves, with its entries, floors and marks, and of what it comes to.
+    ghost gives: { Self → Seated K V Q (plain.Summary K V Q.Item) → Self.Out → Type 0 };
 
     /// Makes its calls on its seat, which has filed nothing yet.
-    fn run<J: Room, R: Threads + Wait + Sync>(
+    fn run<J: JournalName, R: Threads + Wait + Sync>(
         self,
         rt: &R,
         alloc: Global,
@@ -84,7 +84,7 @@ impl From<AllocError> for NoJournal {
 
 /// Runs the clients over a new map, each on a thread of its own and with the seat of its number, and closes the map
 /// once all have ended. It gives what each came to, in their order, and the journal with the table that it leads to.
-/// What a client tells of the seat that it leaves holds, and the journal and the table bear that seat out.
+/// What a client guarantees of the seat that it leaves holds, and the journal and the table bear that seat out.
 ///
 /// A client whose thread cannot be started is run by the caller's thread when those before it have ended.
 ///
@@ -122,14 +122,14 @@ where
 
 // A client that has not begun, with its seat.
 #[derive(Drop)]
-struct Begun<K: PathKey, V, Q: Asks<K, V>, C, J: Room> {
+struct Begun<K: PathKey, V, Q: Asks<K, V>, C, J: JournalName> {
     client: C,
     seat: Seat<K, V, Q, J>,
 }
 
 // What a client came to, with its seat.
 #[derive(Drop)]
-struct Ended<K: PathKey, V, Q: Asks<K, V>, O, J: Room> {
+struct Ended<K: PathKey, V, Q: Asks<K, V>, O, J: JournalName> {
     out: O,
     seat: Seat<K, V, Q, J>,
 }
@@ -148,7 +148,7 @@ where
     Q: Asks<K, V> + Drop + Send + Sync,
     Q::Item: Drop + Send + Sync,
     Q::Part: Drop + Send + Sync,
-    J: Room + Send + Sync,
+    J: JournalName + Send + Sync,
     C: Client<K, V, Q> + Drop + Send + Sync,
     C::Out: Drop + Send,
     R: Threads + Wait + Sync,
@@ -183,7 +183,7 @@ where
     K: PathKey + Drop,
     V: Drop,
     Q: Asks<K, V> + Drop,
-    J: Room,
+    J: JournalName,
     C: Drop,
     requires { vec_len clients ≤ MOST_SEATS }
     ensures clients { IfOk result (λ v. map (λ b. b.client) v.items ≡ clients.items) }
@@ -203,7 +203,7 @@ where
     K: PathKey + Drop,
     V: Drop,
     Q: Asks<K, V> + Drop,
-    J: Room,
+    J: JournalName,
     C: Drop,
     ensures client { result.client ≡ client }
     ensures seat { result.seat ≡ fresh number }
@@ -226,7 +226,7 @@ where
     Q: Asks<K, V> + Drop + Send + Sync,
     Q::Item: Drop + Send + Sync,
     Q::Part: Drop + Send + Sync,
-    J: Room + Send + Sync,
+    J: JournalName + Send + Sync,
     C: Client<K, V, Q> + Drop + Send + Sync,
     C::Out: Drop + Send,
     R: Threads + Wait + Sync,
@@ -244,7 +244,7 @@ where
 
 // The run of a client on its seat.
 #[derive(Drop)]
-struct Running<'a, K: PathKey, V: Eq, Q: Asks<K, V>, C, J: Room, R> {
+struct Running<'a, K: PathKey, V: Eq, Q: Asks<K, V>, C, J: JournalName, R> {
     rt: &'a R,
     map: &'a SharedMap<K, V, Q, J>,
     client: PhantomData<C>,
@@ -255,7 +255,7 @@ where
     K: PathKey + Drop,
     V: Eq + Drop,
     Q: Asks<K, V> + Drop,
-    J: Room,
+    J: JournalName,
     C: Client<K, V, Q>,
     R: Threads + Wait + Sync,
 {
@@ -281,7 +281,7 @@ where
     K: PathKey + Drop,
     V: Eq + Drop,
     Q: Asks<K, V> + Drop,
-    J: Room,
+    J: JournalName,
     C: Client<K, V, Q>,
     R: Threads + Wait + Sync,
     requires sync { IsSync R.row }
@@ -302,7 +302,7 @@ where
     K: PathKey + Drop,
     V: Drop,
     Q: Asks<K, V> + Drop,
-    J: Room,
+    J: JournalName,
     O: Drop,
     ensures outs { IfOk result (λ r. r.0.items ≡ map (λ e. e.out) ended.items) }
     ensures seats { IfOk result (λ r. r.1.items ≡ map (λ e. e.seat) ended.items) }

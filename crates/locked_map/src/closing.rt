@@ -10,12 +10,12 @@ use crate::seat::Seat;
 use bulk_ops::Asks;
 use handles::Table;
 use hash_path::PathKey;
-use journal::{Entries, Room, Token};
+use journal::{Entries, JournalName, Token};
 use versions::Refusal;
 
 /// Whether the entries of the seat's number are, in order and at their places, those that it has filed, none of them
 /// below the floor beside it.
-pub(crate) fn is_borne_out<K: PathKey + Drop, V: Drop, Q: Asks<K, V> + Drop, J: Room>(
+pub(crate) fn is_borne_out<K: PathKey + Drop, V: Drop, Q: Asks<K, V> + Drop, J: JournalName>(
     entries: &Entries<K, V, Q, Q::Item>,
     tokens: &Vec<Token<K, V, Q, Q::Item>>,
     seat: &Seat<K, V, Q, J>,
@@ -56,7 +56,7 @@ fn is_above_floor<K: PathKey, V, Q, I>(filed: &Filed<K, V, Q, I>) -> bool
 
 /// Whether the seats have the numbers from 0, in order, and the journal bears out each one's list, and their marks
 /// hold.
-pub(crate) fn are_borne_out<K: PathKey + Drop, V: Eq + Drop, Q: Asks<K, V> + Drop, J: Room>(
+pub(crate) fn are_borne_out<K: PathKey + Drop, V: Eq + Drop, Q: Asks<K, V> + Drop, J: JournalName>(
     entries: &Entries<K, V, Q, Q::Item>,
     tokens: &Vec<Token<K, V, Q, Q::Item>>,
     table: &Table<K, V, Q>,
@@ -101,7 +101,7 @@ pub(crate) fn are_of_seats<K: PathKey + Drop, V: Drop, Q: Drop, I: Drop>(
 
 /// Whether the vector holds no entry but those of the tokens and, for each time that a seat was answered `NoMemory`, at
 /// most one that such a call had placed.
-pub(crate) fn are_all<K: PathKey, V, Q: Asks<K, V>, J: Room>(
+pub(crate) fn are_all<K: PathKey, V, Q: Asks<K, V>, J: JournalName>(
     entries: &Entries<K, V, Q, Q::Item>,
     tokens: &Vec<Token<K, V, Q, Q::Item>>,
     seats: &Vec<Seat<K, V, Q, J>>,
@@ -113,9 +113,9 @@ pub(crate) fn are_all<K: PathKey, V, Q: Asks<K, V>, J: Room>(
     entries.count() as u64 <= most
 }
 
-// Whether the seat was told the truth where it was answered `JournalFull` or `NoJob`: the journal is full, and the job
-// is not open.
-fn marks_hold<K: PathKey + Drop, V: Eq + Drop, Q: Asks<K, V> + Drop, J: Room>(
+// Whether the marks of the seat hold: where it was answered `JournalFull` the journal is full, and where it was
+// answered `NoJob` the job is not open.
+fn marks_hold<K: PathKey + Drop, V: Eq + Drop, Q: Asks<K, V> + Drop, J: JournalName>(
     table: &Table<K, V, Q>,
     seat: &Seat<K, V, Q, J>,
 ) -> bool

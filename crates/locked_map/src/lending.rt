@@ -11,7 +11,7 @@ use crate::shared_map::SharedMap;
 use bulk_ops::Asks;
 use handles::{Limits, MOST_ENTRIES};
 use hash_path::PathKey;
-use journal::{Entries, Room};
+use journal::{Entries, JournalName};
 use std::alloc::Global;
 use std::marker::Brand;
 use std::sync::Wait;
@@ -31,12 +31,12 @@ pub trait Use<K: PathKey, V: Eq, Q: Asks<K, V>> {
     /// What it asks of its caller, with this number of seats.
     ghost needs: { Self → ℕ → Type 0 };
 
-    /// What it tells its caller of the seats that it leaves, and of what it comes to.
-    ghost gives: { Self → List (Seated K V Q (plain.Told K V Q.Item)) → Self.Out → Type 0 };
+    /// What it guarantees of the seats that it leaves, and of what it comes to.
+    ghost gives: { Self → List (Seated K V Q (plain.Summary K V Q.Item)) → Self.Out → Type 0 };
 
     /// Does it, with the map and all its seats, which have filed nothing yet. The map is closed with the seats that it
     /// leaves.
-    fn run<J: Room + Send + Sync, R: Threads + Wait + Sync>(
+    fn run<J: JournalName + Send + Sync, R: Threads + Wait + Sync>(
         self,
         rt: &R,
         alloc: Global,
@@ -53,7 +53,7 @@ pub trait Use<K: PathKey, V: Eq, Q: Asks<K, V>> {
 /// gives what the user came to, and the journal with the table that it leads to; that is `Torn` where
 /// `SharedMap::close` is.
 ///
-/// For want of memory the user comes back, and has done nothing.
+/// If memory runs out, the user comes back, and has done nothing.
 pub fn with<K, V, Q, U, R>(
     rt: &R,
     alloc: Global,
@@ -96,7 +96,7 @@ where
     K: PathKey + Drop,
     V: Eq + Drop,
     Q: Asks<K, V> + Drop,
-    J: Room + Send + Sync,
+    J: JournalName + Send + Sync,
     U: Use<K, V, Q>,
     R: Threads + Wait + Sync,
     requires table { entries ≡ J.table }
@@ -128,11 +128,11 @@ where
     K: PathKey + Drop,
     V: Eq + Drop,
     Q: Asks<K, V> + Drop,
-    J: Room,
+    J: JournalName,
     ensures { IfOk result (λ c. IsClosedWith (machine K.cmp V.eq Q.target_of Q.answered) limits seats.items c.journal c.table) }
 {
     let closed = map.close(seats)?;
-    // A lock's type tells nothing of the limits of what lies under it, so they are looked at here.
+    // A lock's type says nothing of the limits of what lies under it, so they are looked at here.
     if closed.table.limits() != limits {
         return Err(Torn);
     }
@@ -145,7 +145,7 @@ where
     K: PathKey + Drop,
     V: Drop,
     Q: Asks<K, V> + Drop,
-    J: Room,
+    J: JournalName,
     ensures len { IfOk result (λ seats. vec_len seats ≡ count) }
     ensures fresh { IfOk result (λ seats. AllFresh seats.items) }
 {

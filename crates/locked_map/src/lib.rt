@@ -2,8 +2,8 @@
 //!
 //! Each call of a seat is one step of the machine of handles, made under the lock, and one entry of the journal. The
 //! journal is legal whenever the lock is free: a run of that machine, which leads to the table under the lock. A seat
-//! keeps its own list of what it asked and was told, each with a token of its entry. `close` ends the map where each
-//! seat's list is what the journal has of the seat, and gives the journal. Views are read with no lock.
+//! keeps its own list of what it asked and was answered, each with a token of its entry. `close` ends the map where
+//! each seat's list is what the journal has of the seat, and gives the journal. Views are read with no lock.
 #![tactic(auto)]
 
 mod bulk;
@@ -19,7 +19,7 @@ mod ticket;
 pub use clients::{CLIENT_STACK, Client, NoJournal, with_clients};
 pub use closed::{Closed, Torn};
 pub use filed::Filed;
-pub use journal::{Asked, Entry, Journal, Room, Told};
+pub use journal::{Asked, Entry, Journal, JournalName, Response};
 pub use lending::{MOST_SEATS, Use, with};
 pub use seat::Seat;
 pub use shared_map::SharedMap;

@@ -5,7 +5,7 @@ ghost use Rattle.locked_map.specs.Seats.{fresh, marked_by, met};
 use crate::filed::Filed;
 use bulk_ops::Asks;
 use hash_path::PathKey;
-use journal::Room;
+use journal::JournalName;
 use std::alloc::Global;
 use std::marker::{Model, PhantomData};
 use versions::Refusal;
@@ -17,7 +17,7 @@ use versions::Refusal;
 /// answered `NoJob`, so that `close` can see whether that was true. It counts how often it was answered `NoMemory`, since
 /// such a call may have placed an entry that no list has.
 #[derive(Drop)]
-pub struct Seat<K: PathKey, V, Q: Asks<K, V>, J: Room> {
+pub struct Seat<K: PathKey, V, Q: Asks<K, V>, J: JournalName> {
     pub(crate) number: u32,
     pub(crate) floor: u64,
     pub(crate) list: Vec<Filed<K, V, Q, Q::Item>>,
@@ -27,18 +27,18 @@ pub struct Seat<K: PathKey, V, Q: Asks<K, V>, J: Room> {
     pub(crate) room: PhantomData<J>,
 }
 
-impl<K: PathKey, V, Q: Asks<K, V>, J: Room> Model for Seat<K, V, Q, J> {
+impl<K: PathKey, V, Q: Asks<K, V>, J: JournalName> Model for Seat<K, V, Q, J> {
     ghost use Rattle.bulk_ops.specs.Answers as plain;
     ghost use Rattle.locked_map.specs.Seats.{AllOf, Seated, placed_all};
 
-    ghost Value = { Seated K V Q (plain.Told K V Q.Item) };
+    ghost Value = { Seated K V Q (plain.Summary K V Q.Item) };
 
     ghost view = { λ s. record { number = s.number; floor = s.floor; list = placed_all s.list.items; full = s.full; unknown = s.unknown } };
 
     ghost invariant = { λ s. AllOf J.table s.list.items };
 }
 
-impl<K: PathKey + Drop, V: Drop, Q: Asks<K, V> + Drop, J: Room> Seat<K, V, Q, J> {
+impl<K: PathKey + Drop, V: Drop, Q: Asks<K, V> + Drop, J: JournalName> Seat<K, V, Q, J> {
     /// A seat that has filed nothing.
     pub(crate) fn new(alloc: Global, number: u32) -> Seat<K, V, Q, J>
         ensures { result ≡ fresh number }
@@ -61,7 +61,7 @@ impl<K: PathKey + Drop, V: Drop, Q: Asks<K, V> + Drop, J: Room> Seat<K, V, Q, J>
         self.number
     }
 
-    /// Marks the seat, or counts want of memory, where a call on this job made no entry for this reason.
+    /// Marks the seat, or counts a `NoMemory`, where a call on this job made no entry for this reason.
     pub(crate) fn mark(&mut self, refusal: Refusal, job: Option<u64>)
         ensures { self.new ≡ marked_by self.old refusal job }
     {

@@ -1,7 +1,7 @@
 //! The map that seats share.
 ghost use Rattle.std.specs.Prelude.{◌≡◌, ◌<◌, ◌≤◌, ◌⊎◌, ℕ, All, IfErr, IfOk, None, Some, slice_index_or, true, vec_len};
 ghost use Rattle.bulk_ops.specs.Answers as plain;
-ghost use Rattle.bulk_ops.specs.Told.{told_of};
+ghost use Rattle.bulk_ops.specs.Summaries.{summary_of};
 ghost use Rattle.handles.specs.Machine.{abandon, finish, freeze, job_at, room, view};
 ghost use Rattle.handles.specs.Views.{call_outcome, finished_outcome, machine, request_of, unit_outcome, view_outcome};
 ghost use Rattle.journal.specs.Answers.{answered, answered_or};
@@ -20,7 +20,7 @@ use crate::ticket::Ticket;
 use bulk_ops::{Answer, Asks};
 use handles::{Call, CallReply, Limits, MOST_ENTRIES};
 use hash_path::PathKey;
-use journal::{Caller, Entries, Journal, JournaledTable, Room};
+use journal::{Caller, Entries, Journal, JournalName, JournaledTable};
 use std::alloc::Global;
 use std::marker::PhantomData;
 use std::sync::{Arc, Mutex, Wait};
@@ -32,14 +32,14 @@ use versions::{MOST_PAIRS, NoMemory, Refusal, View};
 /// that entry to the seat's list. A call that is refused as `JournalFull`, `NoJob` or `NoMemory` makes no entry. Only
 /// `finish`, `abandon` and `bulk` are refused as `NoJob`; `finish` and `abandon` are never refused as `JournalFull`.
 #[derive(Drop)]
-pub struct SharedMap<K: PathKey, V: Eq, Q: Asks<K, V>, J: Room> {
+pub struct SharedMap<K: PathKey, V: Eq, Q: Asks<K, V>, J: JournalName> {
     pub(crate) alloc: Global,
     entries: Entries<K, V, Q, Q::Item>,
     table: Mutex<JournaledTable<K, V, Q, J>>,
     pub ghost named: { entries ≡ J.table },
 }
 
-impl<K: PathKey + Drop, V: Eq + Drop, Q: Asks<K, V> + Drop, J: Room> SharedMap<K, V, Q, J> {
+impl<K: PathKey + Drop, V: Eq + Drop, Q: Asks<K, V> + Drop, J: JournalName> SharedMap<K, V, Q, J> {
     /// A map with no handles, over the vector that the name is of.
     pub(crate) fn new(
         alloc: Global,
@@ -71,7 +71,7 @@ impl<K: PathKey + Drop, V: Eq + Drop, Q: Asks<K, V> + Drop, J: Room> SharedMap<K
     {
         let caller = Caller::new(seat.number, &mut seat.list);
         let mut table = self.table.lock(rt);
-        let let_go = table.taken_out(&call);
+        let let_go = table.discarded_map(&call);
         let made = table.call(rt, self.alloc, &self.entries, caller, call);
         drop(table);
         // The nodes of a map that is dropped or cleared are freed here, with no lock held.
@@ -187,7 +187,7 @@ impl<K: PathKey + Drop, V: Eq + Drop, Q: Asks<K, V> + Drop, J: Room> SharedMap<K
     ) -> Result<Answer<K, V, Q::Item>, (Refusal, Ticket<K, V, Q, J>, Q::Part)>
         requires { Q.answers ticket.query ticket.frozen part }
         ensures adds { Adds seat.old (finish ticket.job) (answered_or finished_outcome (λ e. e.0) result) seat.new }
-        ensures told { IfOk result (λ answer. told_of answer ≡ plain.told (Q.answer_of part)) }
+        ensures told { IfOk result (λ answer. summary_of answer ≡ plain.summary (Q.answer_of part)) }
         ensures ticket { IfErr result (λ e. e.1 ≡ ticket) }
         ensures part { IfErr result (λ e. e.2 ≡ part) }
         ensures why { IfErr result (λ e. (e.0 ≡ Refusal.NoJob) ⊎ (e.0 ≡ Refusal.NoMemory)) }

@@ -4,7 +4,7 @@ ghost use Rattle.locked_map.specs.Tickets.{Ticketed};
 
 use bulk_ops::Asks;
 use hash_path::PathKey;
-use journal::{Room, Token};
+use journal::{JournalName, Token};
 use std::marker::{Model, PhantomData};
 use std::sync::Arc;
 use versions::View;
@@ -14,7 +14,7 @@ use versions::View;
 /// Its view, its query and its number are those of the freeze's entry, whose token it has. A ticket that is dropped
 /// leaves its job open.
 #[derive(Drop)]
-pub struct Ticket<K: PathKey, V, Q: Asks<K, V>, J: Room> {
+pub struct Ticket<K: PathKey, V, Q: Asks<K, V>, J: JournalName> {
     pub(crate) job: u64,
     pub(crate) query: Arc<Q>,
     pub(crate) view: View<K, V>,
@@ -22,7 +22,7 @@ pub struct Ticket<K: PathKey, V, Q: Asks<K, V>, J: Room> {
     pub(crate) room: PhantomData<J>,
 }
 
-impl<K: PathKey, V, Q: Asks<K, V>, J: Room> Model for Ticket<K, V, Q, J> {
+impl<K: PathKey, V, Q: Asks<K, V>, J: JournalName> Model for Ticket<K, V, Q, J> {
     ghost use Rattle.std.specs.Arc.{arc_value};
     ghost use Rattle.locked_map.specs.Tickets.{IsTicket, Ticketed};
 
@@ -33,7 +33,7 @@ impl<K: PathKey, V, Q: Asks<K, V>, J: Room> Model for Ticket<K, V, Q, J> {
     ghost invariant = { λ t. IsTicket J.table t.job (arc_value t.query) t.view t.token };
 }
 
-impl<K: PathKey, V, Q: Asks<K, V>, J: Room> Ticket<K, V, Q, J> {
+impl<K: PathKey, V, Q: Asks<K, V>, J: JournalName> Ticket<K, V, Q, J> {
     /// The number of the job.
     pub fn job(&self) -> u64
         ensures { result ≡ self.now.job }

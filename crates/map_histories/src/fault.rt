@@ -37,7 +37,7 @@ impl From<NoMemory> for Fault {
     }
 }
 
-// A map of four keys is never full, so that a refusal is want of memory.
+// A map of four keys is never full, so the only error is `NoMemory`.
 impl From<PutError> for Fault {
     fn from(_: PutError) -> Fault {
         Fault::Memory

@@ -58,7 +58,7 @@ pub fn history<R: AllocGlobal + Threads + Wait + Sync>(
     Ok(threads)
 }
 
-// Makes so many calls of one thread, once all threads have come.
+// Makes `calls` calls of one thread, once all threads have come.
 fn calls_of<R: Wait>(
     rt: &R,
     alloc: Global,

@@ -55,7 +55,7 @@ fn told(seed: &str, threads: &str, calls: &str, histories: &str) -> Option<Load>
     })
 }
 
-/// The number that the word tells, none where it tells none from `least` to `most`.
+/// The number that the word spells, none where it spells none from `least` to `most`.
 fn number(word: &str, least: u64, most: u64) -> Option<u64> {
     match word.parse::<u64>() {
         Ok(number) if least <= number && number <= most => Some(number),

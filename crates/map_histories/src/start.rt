@@ -16,7 +16,7 @@ pub struct Start {
 }
 
 impl Start {
-    /// A place where so many threads are to meet.
+    /// A place where `threads` threads are to meet.
     pub fn new(threads: u64) -> Start {
         Start {
             come: AtomicU64::new(0),

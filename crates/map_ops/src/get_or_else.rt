@@ -16,8 +16,8 @@ use versions::{Refusal, Version, law_of_put};
 /// The value that the key has then: the one that it had, else the one that `make` made, to which it is now mapped.
 /// `make` is called exactly where the key is absent.
 ///
-/// It is refused as `Full` where the key is new and there are as many pairs as there may be, and as `NoMemory` for
-/// want of memory. The map is then as before.
+/// The error is `Full` where the key is new and there are as many pairs as there may be, and `NoMemory` if memory runs
+/// out. The map is then as before.
 pub fn get_or_else_update<K: PathKey + Drop, V: Eq + Drop, F: FnOnce() -> V>(
     version: &mut Version<K, V>,
     alloc: Global,

@@ -1,6 +1,6 @@
 //! The operations of Scala's `concurrent.Map` on one map.
 //!
-//! Each operation is one command of the table in `versions`' `specs/Commands.antt`: its reply tells of the map before
+//! Each operation is one command of the table in `versions`' `specs/Commands.antt`: its reply describes the map before
 //! it, and the map afterwards is the command's. An operation that changes nothing copies no node.
 #![tactic(auto)]
 

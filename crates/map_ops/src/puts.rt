@@ -16,8 +16,8 @@ use versions::{Refusal, Version};
 
 /// Maps the key to the value, and answers the value before, or none.
 ///
-/// It is refused as `Full` where the key is new and there are as many pairs as there may be, and as `NoMemory` for
-/// want of memory. The map is then as before.
+/// The error is `Full` where the key is new and there are as many pairs as there may be, and `NoMemory` if memory runs
+/// out. The map is then as before.
 pub fn put<K: PathKey + Drop, V: Eq + Drop>(
     version: &mut Version<K, V>,
     alloc: Global,
@@ -37,8 +37,8 @@ pub fn put<K: PathKey + Drop, V: Eq + Drop>(
 
 /// Maps the key to the value where the key is absent, and answers the value before, or none.
 ///
-/// It is refused as `Full` where the key is new and there are as many pairs as there may be, and as `NoMemory` for
-/// want of memory. The map is then as before.
+/// The error is `Full` where the key is new and there are as many pairs as there may be, and `NoMemory` if memory runs
+/// out. The map is then as before.
 pub fn put_if_absent<K: PathKey + Drop, V: Eq + Drop>(
     version: &mut Version<K, V>,
     alloc: Global,
@@ -58,7 +58,7 @@ pub fn put_if_absent<K: PathKey + Drop, V: Eq + Drop>(
 
 /// Maps the key to the value where the key is present, and answers the value before, or none.
 ///
-/// It is refused as `NoMemory` alone, for want of memory. The map is then as before.
+/// The only error is `NoMemory`, if memory runs out. The map is then as before.
 pub fn replace<K: PathKey + Drop, V: Eq + Drop>(
     version: &mut Version<K, V>,
     alloc: Global,
@@ -78,7 +78,7 @@ pub fn replace<K: PathKey + Drop, V: Eq + Drop>(
 
 /// Maps the key to the value where it is mapped to a value equal to `old`, and answers whether it was.
 ///
-/// It is refused as `NoMemory` alone, for want of memory. The map is then as before.
+/// The only error is `NoMemory`, if memory runs out. The map is then as before.
 pub fn replace_if<K: PathKey + Drop, V: Eq + Drop>(
     version: &mut Version<K, V>,
     alloc: Global,
@@ -94,5 +94,5 @@ pub fn replace_if<K: PathKey + Drop, V: Eq + Drop>(
     ensures full { FullExactly result (commands.is_full K.cmp version.old.limit version.old.entries (commands.replace_if key.value old.now value.value)) }
     ensures err { OnErr result (version.new ≡ version.old) }
 {
-    Ok(version.put_where(alloc, key, value, &IfEqual(old))?.done)
+    Ok(version.put_where(alloc, key, value, &IfEqual(old))?.written)
 }

@@ -15,7 +15,7 @@ use versions::{Refusal, Version};
 
 /// Removes the key, and answers the value before, or none.
 ///
-/// It is refused as `NoMemory` alone, for want of memory. The map is then as before.
+/// The only error is `NoMemory`, if memory runs out. The map is then as before.
 pub fn remove<K: PathKey + Drop, V: Eq + Drop>(
     version: &mut Version<K, V>,
     alloc: Global,
@@ -34,7 +34,7 @@ pub fn remove<K: PathKey + Drop, V: Eq + Drop>(
 
 /// Removes the key where it is mapped to a value equal to `value`, and answers whether it was.
 ///
-/// It is refused as `NoMemory` alone, for want of memory. The map is then as before.
+/// The only error is `NoMemory`, if memory runs out. The map is then as before.
 pub fn remove_if<K: PathKey + Drop, V: Eq + Drop>(
     version: &mut Version<K, V>,
     alloc: Global,
@@ -49,5 +49,5 @@ pub fn remove_if<K: PathKey + Drop, V: Eq + Drop>(
     ensures full { FullExactly result (commands.is_full K.cmp version.old.limit version.old.entries (commands.remove_if key.now value.now)) }
     ensures err { OnErr result (version.new ≡ version.old) }
 {
-    Ok(version.remove_where(alloc, key, &IfEqual(value))?.done)
+    Ok(version.remove_where(alloc, key, &IfEqual(value))?.written)
 }

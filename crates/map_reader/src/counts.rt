@@ -3,20 +3,20 @@
 /// The fewest misses after which a new base is tried.
 const LEAST_MISSES: u64 = 64;
 
-/// For so many pairs of the map one miss more is waited for.
+/// One more miss is waited for per this many pairs of the map.
 const PAIRS_A_MISS: u64 = 32;
 
-/// A base was worth it where it had so many times as many hits as misses.
+/// A base was worth it where it had this many times as many hits as misses.
 const HITS_A_MISS: u64 = 16;
 
 /// How many reads of a reader were hits, which found their key in its base, and how many were misses, since the reader
 /// took the base; and when it tries a new one.
 ///
 /// A base costs some microseconds, and then each write copies the nodes of its path that the base still has. So it has
-/// to be worth it. The least number of misses is 64, and one more for each 32 pairs. After so many a new base is tried
-/// if the one before had 16 hits for each miss. Else it is tried after twice as many misses as the time
-/// before. So where bases are of no use, n misses try about log2(n / 64) of them. Where the writes end, one is tried
-/// after at most as many misses as there were until then.
+/// to be worth it. The least number of misses is 64, and one more for each 32 pairs. After that many a new base is
+/// tried if the one before had 16 hits for each miss. Else it is tried after twice as many misses as the time before.
+/// So where bases are of no use, n misses try about log2(n / 64) of them. Where the writes end, one is tried after at
+/// most as many misses as there were until then.
 #[derive(Clone, Copy)]
 pub struct Counts {
     hits: u64,
@@ -54,7 +54,7 @@ impl Counts {
             && (self.was_worth_it() || self.misses >= self.least.saturating_mul(self.patience))
     }
 
-    /// The same where the map has so many pairs.
+    /// The same where the map has `pairs` pairs.
     pub fn are_due_for(&mut self, pairs: u64) -> bool {
         self.least = (pairs / PAIRS_A_MISS).saturating_add(LEAST_MISSES);
         self.are_due()

@@ -9,7 +9,7 @@ use std::alloc::Global;
 use std::mem;
 use std::sync::atomic::{AtomicU64, Ordering};
 use std::sync::{Arc, Mutex, Wait};
-use stripes::{Anything, Keeps, Marking, Marks, Row, joined};
+use stripes::{Anything, Keeps, Marking, Marks, Stripes, joined};
 use trie_node::NoMemory;
 use united_roots::RootRow;
 
@@ -31,14 +31,14 @@ pub type Latest<K, V, P> = (Option<Arc<Base<K, V, P>>>, u64);
 #[derive(Drop)]
 pub struct Readers<'m, K: PathKey, V, P: Keeps<K, V> = Anything> {
     alloc: Global,
-    row: &'m Row<K, V, P>,
+    row: &'m Stripes<K, V, P>,
     latest: LatestBase<K, V, P>,
     made: AtomicU64,
 }
 
 impl<'m, K: PathKey + Drop, V: Drop, P: Keeps<K, V>> Readers<'m, K, V, P> {
     /// Readers of the map that has these stripes, with no base yet.
-    pub fn new(alloc: Global, row: &'m Row<K, V, P>) -> Readers<'m, K, V, P> {
+    pub fn new(alloc: Global, row: &'m Stripes<K, V, P>) -> Readers<'m, K, V, P> {
         Readers {
             alloc,
             row,
@@ -53,7 +53,7 @@ impl<'m, K: PathKey + Drop, V: Drop, P: Keeps<K, V>> Readers<'m, K, V, P> {
     }
 
     /// The stripes of the map.
-    pub(crate) fn row(&self) -> &Row<K, V, P> {
+    pub(crate) fn row(&self) -> &Stripes<K, V, P> {
         self.row
     }
 
@@ -62,7 +62,7 @@ impl<'m, K: PathKey + Drop, V: Drop, P: Keeps<K, V>> Readers<'m, K, V, P> {
         self.made.load(Ordering::SeqCst)
     }
 
-    /// The latest base, unless it has ended: then it is let go. None is answered where another thread is at it, and
+    /// The latest base, unless it has ended: then it is dropped. None is answered where another thread is at it, and
     /// nobody waits.
     pub(crate) fn latest(&self) -> Option<Latest<K, V, P>> {
         let mut latest = self.latest.as_lock().try_lock()?;
@@ -75,7 +75,7 @@ impl<'m, K: PathKey + Drop, V: Drop, P: Keeps<K, V>> Readers<'m, K, V, P> {
         Some((base, made))
     }
 
-    /// A new base for about so many pairs, or the latest one where others than `seen` were made. None is answered where
+    /// A new base for about `pairs` pairs, or the latest one where others than `seen` were made. None is answered where
     /// another thread is at it, and if memory runs out.
     pub(crate) fn next<R: Wait>(&self, rt: &R, pairs: u64, seen: u64) -> Option<Latest<K, V, P>> {
         let mut latest = self.latest.as_lock().try_lock()?;

@@ -8,10 +8,10 @@ use hash_path::PathKey;
 use std::fmt::Debug;
 use std::process::Abort;
 use std::sync::{Arc, MutexGuard, Wait};
-use stripes::{Anything, Row, Stripe, blanks, clear_all, empties};
+use stripes::{Anything, Stripe, Stripes, clear_all, empties, empty_maps};
 
 // The stripes of a map of the tests.
-type Stripes = Row<u64, u64, Anything>;
+type TestStripes = Stripes<u64, u64, Anything>;
 
 // A key that no test writes.
 const ABSENT: u64 = u64::MAX;
@@ -22,13 +22,13 @@ fn assert_is<T: PartialEq + Debug + Drop>(rt: &impl Abort, seen: T, want: T) {
 }
 
 // The stripes of a map with no pairs. A step that fails ends its test.
-fn empty<R: AllocGlobal + Abort>(rt: &R) -> Stripes {
+fn empty<R: AllocGlobal + Abort>(rt: &R) -> TestStripes {
     let stripes = empties(rt.alloc()).expect(rt, "no stripes");
-    Row::new(rt.alloc(), stripes).expect(rt, "no locks")
+    Stripes::new(rt.alloc(), stripes).expect(rt, "no locks")
 }
 
 // The stripes of a map in which each key below `pairs` has itself as its value.
-fn filled<R: AllocGlobal + Wait + Abort>(rt: &R, pairs: u64) -> Stripes {
+fn filled<R: AllocGlobal + Wait + Abort>(rt: &R, pairs: u64) -> TestStripes {
     let row = empty(rt);
     for key in 0..pairs {
         put(rt, &row, key, key);
@@ -38,13 +38,13 @@ fn filled<R: AllocGlobal + Wait + Abort>(rt: &R, pairs: u64) -> Stripes {
 
 fn locked<'m, R: Wait>(
     rt: &R,
-    row: &'m Stripes,
+    row: &'m TestStripes,
     key: u64,
 ) -> MutexGuard<'m, Stripe<u64, u64, Anything>> {
     row.stripe_at(rt, key.path())
 }
 
-fn put<R: AllocGlobal + Wait + Abort>(rt: &R, row: &Stripes, key: u64, value: u64) {
+fn put<R: AllocGlobal + Wait + Abort>(rt: &R, row: &TestStripes, key: u64, value: u64) {
     let path = key.path();
     let key = Arc::new(rt.alloc(), key).expect(rt, "no key");
     let value = Arc::new(rt.alloc(), value).expect(rt, "no value");
@@ -53,7 +53,7 @@ fn put<R: AllocGlobal + Wait + Abort>(rt: &R, row: &Stripes, key: u64, value: u6
     assert!(rt; done.is_ok(), "not put");
 }
 
-fn remove<R: AllocGlobal + Wait + Abort>(rt: &R, row: &Stripes, key: u64) {
+fn remove<R: AllocGlobal + Wait + Abort>(rt: &R, row: &TestStripes, key: u64) {
     let path = key.path();
     let mut stripe = row.stripe_at(rt, path);
     let done = stripe.remove(rt.alloc(), &key, path);
@@ -61,7 +61,7 @@ fn remove<R: AllocGlobal + Wait + Abort>(rt: &R, row: &Stripes, key: u64) {
 }
 
 // Adds 100 to the value of the key.
-fn update<R: AllocGlobal + Wait + Abort>(rt: &R, row: &Stripes, key: u64) {
+fn update<R: AllocGlobal + Wait + Abort>(rt: &R, row: &TestStripes, key: u64) {
     let path = key.path();
     let key = Arc::new(rt.alloc(), key).expect(rt, "no key");
     let mut stripe = row.stripe_at(rt, path);
@@ -74,10 +74,10 @@ fn update<R: AllocGlobal + Wait + Abort>(rt: &R, row: &Stripes, key: u64) {
     assert!(rt; done.is_ok(), "not updated");
 }
 
-fn clear<R: AllocGlobal + Wait + Abort>(rt: &R, row: &Stripes) {
-    let blanks = blanks(rt.alloc()).expect(rt, "no blanks");
+fn clear<R: AllocGlobal + Wait + Abort>(rt: &R, row: &TestStripes) {
+    let empty_maps = empty_maps(rt.alloc()).expect(rt, "no empty_maps");
     let held = row.all(rt, rt.alloc()).expect(rt, "not held");
-    clear_all(held, blanks);
+    clear_all(held, empty_maps);
 }
 
 // Reads the absent key so often.

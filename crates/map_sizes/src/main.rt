@@ -1,5 +1,5 @@
-//! Calls of a map that threads share and that has two million pairs: nothing is refused for want of memory that is
-//! there, however many pairs, nodes or bytes a call takes.
+//! Calls of a map that threads share and that has two million pairs: no call fails with `NoMemory` while there is
+//! memory, however many pairs, nodes or bytes it takes.
 //!
 //! It prints a line for each number that comes of them. All are known beforehand.
 #![tactic(auto)]
@@ -48,10 +48,10 @@ const NAMES: [&str; 23] = [
 ];
 
 /// The number that came of each.
-type Told = [u64; 23];
+type Figures = [u64; 23];
 
 /// Makes the calls, one after another.
-fn numbers<R: AllocGlobal + Threads + Wait + Sync>(rt: &R) -> Result<Told, PutError> {
+fn numbers<R: AllocGlobal + Threads + Wait + Sync>(rt: &R) -> Result<Figures, PutError> {
     let map = writing::filled(rt)?;
     let [got, present] = writing::found(rt, &map)?;
     let [walked, counted, some, all, found, sum] = asking::asked(rt, &map)?;
@@ -69,7 +69,7 @@ fn numbers<R: AllocGlobal + Threads + Wait + Sync>(rt: &R) -> Result<Told, PutEr
 }
 
 /// Prints a line for each number.
-fn print_lines<R: Runtime>(rt: &R, numbers: &Told) -> io::Result<()> {
+fn print_lines<R: Runtime>(rt: &R, numbers: &Figures) -> io::Result<()> {
     for (name, number) in NAMES.iter().zip(numbers.iter()) {
         println!(rt; "{name}: {number}")?;
     }

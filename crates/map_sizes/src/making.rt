@@ -20,8 +20,8 @@ fn together(
     Ok(merge(alloc, left, right)?.len())
 }
 
-/// How many pairs the map of the even numbers has; the map that tells of each number whether it is even; and the map of
-/// the even numbers and of the odd ones together.
+/// How many pairs the map of the even numbers has; the map from each number to whether it is even; and the map of the
+/// even numbers and of the odd ones together.
 pub fn made<R: AllocGlobal + Wait>(rt: &R, map: &Numbers) -> Result<[u64; 3], NoMemory> {
     let even = map.filter(rt, |_, value| *value % 2 == 0)?;
     let odd = map.filter(rt, |_, value| *value % 2 == 1)?;

@@ -43,8 +43,8 @@ pub fn keep<R: Files, E: Write>(
     }
 }
 
-/// Whether the journal would be written over the script, as far as the file system tells. A file that cannot be looked
-/// at is no other's, since it cannot be read or written either.
+/// Whether the journal would be written over the script, as far as the file system reports. A file that cannot be
+/// looked at is no other's, since it cannot be read or written either.
 pub(crate) fn is_journal_the_script<R: Files>(rt: &R, options: &Options) -> bool {
     match &options.journal {
         Some(journal) => are_one_file(rt, journal, script_name(options)).unwrap_or(false),

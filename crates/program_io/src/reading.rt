@@ -11,7 +11,7 @@ use std::io;
 use std::io::{Input, Read, Write};
 
 /// The most bytes that are read of a script: those of 65,536 lines of 256 bytes and their newlines, and one more.
-/// A text that has so many has a fault among them, and further bytes change neither that fault nor its line.
+/// A text that has this many bytes has a fault among them, and further bytes change neither that fault nor its line.
 const MOST_BYTES: u64 = 16_842_753;
 
 /// The bytes of the file that the options name, or of standard input where they name none; or the status of the program

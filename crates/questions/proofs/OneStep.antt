@@ -14,7 +14,7 @@ use Rattle.arguments.specs.declared.pair_mapping.PairMapping.{PairMapping}
 use Rattle.questions.specs.Folds.{Item, combined, item_of, item_of_none}
 use Rattle.questions.specs.Queries.{ScriptQuestion, count, exists, for_all, find, filtered, mapped, paired, fold, answers, target_of}
 use Rattle.questions.specs.Laws.{is_settled_at_once, FinishesLeaveOne, FinishesTellOne, HaveOneOutcome}
-use Rattle.questions.specs.Program.{asks_choice, program, ProgramAnswer, ProgramTold, ProgramState, ProgramRequest, ProgramOutcome}
+use Rattle.questions.specs.Program.{asks_choice, program, ProgramAnswer, ProgramSummary, ProgramState, ProgramRequest, ProgramOutcome}
 
 -- the state behind a refusal
 abbrev pub refused_in : ProgramState → Refusal → ProgramState
@@ -189,7 +189,7 @@ abbrev finished_in : ProgramState → ℕ → ScriptJob → ProgramAnswer → Pr
 finished_in s j job answer = record s { live = live_after program s (target_of job.query) answer; jobs = without nat_cmp s.jobs j; entries = s.entries + 1 }
 
 -- an open job that has one answer is finished in one way
-one_finished : (s t u : ProgramState) (j : ℕ) (job : ScriptJob) (b c : ProgramTold) → job_at s j ≡ Some job → asks_choice job.query ≡ false → Finishes program s j b t → Finishes program s j c u → (b ≡ c) × (t ≡ u)
+one_finished : (s t u : ProgramState) (j : ℕ) (job : ScriptJob) (b c : ProgramSummary) → job_at s j ≡ Some job → asks_choice job.query ≡ false → Finishes program s j b t → Finishes program s j c u → (b ≡ c) × (t ≡ u)
 one_finished s t u j job b c is_open never f k =
     let first_named : Some f.job ≡ Some job = sym f.named ∙ is_open in
     let second_named : Some k.job ≡ Some job = sym k.named ∙ is_open in
@@ -199,23 +199,23 @@ one_finished s t u j job b c is_open never f k =
     let other : k.answer ≡ the_answer job.query job.frozen = is_the_answer job.query job.frozen k.answer never (subst (λ (x : ScriptJob). answers x.query x.frozen k.answer) second k.is_answer.0) in
     let same : f.answer ≡ k.answer = one ∙ sym other in
     let jobs : f.job ≡ k.job = first ∙ sym second in
-    (f.told ∙ ap (λ (a : ProgramAnswer). plain.told a) same ∙ sym k.told, f.left ∙ (λ i. finished_in s j (jobs i) (same i)) ∙ sym k.left)
+    (f.told ∙ ap (λ (a : ProgramAnswer). plain.summary a) same ∙ sym k.told, f.left ∙ (λ i. finished_in s j (jobs i) (same i)) ∙ sym k.left)
 
 -- maps of images of which the same is told are one
-same_images : (mapping : PairMapping) (to : ℕ) (m : Map (List ℕ) ℤ) (a b : ProgramAnswer) → answers (paired mapping to) m a → answers (paired mapping to) m b → plain.told a ≡ plain.told b → a ≡ b
+same_images : (mapping : PairMapping) (to : ℕ) (m : Map (List ℕ) ℤ) (a b : ProgramAnswer) → answers (paired mapping to) m a → answers (paired mapping to) m b → plain.summary a ≡ plain.summary b → a ≡ b
 same_images mapping to m (plain.Answer.images n) (plain.Answer.images k) x y told = let same : n ≡ k = cc in ap (λ (l : Map (List ℕ) ℤ). plain.Answer.images l) same
 same_images mapping to m (plain.Answer.images n) b x y told = absurd y
 same_images mapping to m a b x y told = absurd x
 
 -- what a finish that is told the same leaves is one: a pair that is found makes no map
-leaves_one : (s : ProgramState) (j : ℕ) (q : ScriptQuestion) (m : Map (List ℕ) ℤ) (a b : ProgramAnswer) → answers q m a → answers q m b → plain.told a ≡ plain.told b
+leaves_one : (s : ProgramState) (j : ℕ) (q : ScriptQuestion) (m : Map (List ℕ) ℤ) (a b : ProgramAnswer) → answers q m a → answers q m b → plain.summary a ≡ plain.summary b
     → finished_in s j (record { query = q; frozen = m }) a ≡ finished_in s j (record { query = q; frozen = m }) b
 leaves_one s j (find test) m a b x y told = refl
 leaves_one s j (paired mapping to) m a b x y told = ap (finished_in s j (record { query = paired mapping to; frozen = m })) (same_images mapping to m a b x y told)
 leaves_one s j q m a b x y told = let one = is_the_answer q m a refl x in let other = is_the_answer q m b refl y in ap (finished_in s j (record { query = q; frozen = m })) (one ∙ sym other)
 
 -- an open job that is told the same is finished in one state
-pub finishes_leave_one : (s t u : ProgramState) (j : ℕ) (b : ProgramTold) → Finishes program s j b t → Finishes program s j b u → t ≡ u
+pub finishes_leave_one : (s t u : ProgramState) (j : ℕ) (b : ProgramSummary) → Finishes program s j b t → Finishes program s j b u → t ≡ u
 finishes_leave_one s t u j b f k =
     let named : Some f.job ≡ Some k.job = sym f.named ∙ k.named in
     let same : f.job ≡ k.job = cc in
@@ -229,10 +229,10 @@ granted_leave_one s t u j unfinished g k = g ∙ sym k
 granted_leave_one s t u j o g k = absurd g
 
 -- a finish that is made
-abbrev Told : ProgramState → ℕ → ProgramOutcome → ProgramState → Type 0
-Told s j o t = (b : ProgramTold) × (o ≡ finished b) × Finishes program s j b t
+abbrev IsTold : ProgramState → ℕ → ProgramOutcome → ProgramState → Type 0
+IsTold s j o t = (b : ProgramSummary) × (o ≡ finished b) × Finishes program s j b t
 
-finish_told : (s : ProgramState) (j : ℕ) (o : ProgramOutcome) (t : ProgramState) → o ≢ unfinished → Granted program s (finish j) o t → Told s j o t
+finish_told : (s : ProgramState) (j : ℕ) (o : ProgramOutcome) (t : ProgramState) → o ≢ unfinished → Granted program s (finish j) o t → IsTold s j o t
 finish_told s j (finished b) t is_made g = (b, refl, g)
 finish_told s j unfinished t is_made g = absurd (is_made refl)
 finish_told s j made t is_made g = absurd g
@@ -265,5 +265,5 @@ tell_one j job s t u o p is_open never is_made too step trod =
     let f = finish_told s j o t is_made g in
     let h = finish_told s j p u too k in
     let same = one_finished s t u j job f.0 h.0 is_open never f.2 h.2 in
-    (f.1 ∙ ap (λ (x : ProgramTold). finished x) same.0 ∙ sym h.1, same.1))
+    (f.1 ∙ ap (λ (x : ProgramSummary). finished x) same.0 ∙ sym h.1, same.1))
     (settled s (finish j) o t step) (settled s (finish j) p u trod)

@@ -14,10 +14,10 @@ is_settled_at_once request = true
 abbrev pub HaveOneOutcome : Type 0
 HaveOneOutcome = (r : ProgramRequest) (s t u : ProgramState) (o p : ProgramOutcome) → is_settled_at_once r ≡ true → Step program s r o t → Step program s r p u → (o ≡ p) × (t ≡ u)
 
--- a finish that is told the same leaves one state
+-- a finish with a given outcome leaves one state
 abbrev pub FinishesLeaveOne : Type 0
 FinishesLeaveOne = (j : ℕ) (s t u : ProgramState) (o : ProgramOutcome) → Step program s (finish j) o t → Step program s (finish j) o u → t ≡ u
 
--- where the open job has one answer, one thing is told
+-- where the open job has one answer, a finish that is not `unfinished` has one outcome and leaves one state
 abbrev pub FinishesTellOne : Type 0
 FinishesTellOne = (j : ℕ) (job : Job (List ℕ) ℤ ScriptQuestion) (s t u : ProgramState) (o p : ProgramOutcome) → job_at s j ≡ Some job → asks_choice job.query ≡ false → o ≢ unfinished → p ≢ unfinished → Step program s (finish j) o t → Step program s (finish j) p u → (o ≡ p) × (t ≡ u)

@@ -22,12 +22,12 @@ use Rattle.questions.specs.Queries.{ScriptQuestion, count, exists, for_all, find
 abbrev pub ProgramAnswer : Type 0
 ProgramAnswer = plain.Answer (List ℕ) ℤ Item
 
--- what is told of that
-abbrev pub ProgramTold : Type 0
-ProgramTold = plain.Told (List ℕ) ℤ Item
+-- what is returned of that
+abbrev pub ProgramSummary : Type 0
+ProgramSummary = plain.Summary (List ℕ) ℤ Item
 
 -- the machine of the program: its keys are in the order of their bytes, its values are numbers, and a question has its answers
-abbrev pub program : Kind (List ℕ) ℤ ScriptQuestion ProgramAnswer ProgramTold
+abbrev pub program : Kind (List ℕ) ℤ ScriptQuestion ProgramAnswer ProgramSummary
 program = machine bytes_cmp int_eq target_of answers_in_order
 
 -- a state of that machine
@@ -40,22 +40,22 @@ ProgramRequest = Request (List ℕ) ℤ ScriptQuestion
 
 -- what it is answered
 abbrev pub ProgramOutcome : Type 0
-ProgramOutcome = Outcome (List ℕ) ℤ ProgramTold
+ProgramOutcome = Outcome (List ℕ) ℤ ProgramSummary
 
 -- how much the maps and the journal of a program may hold
 abbrev pub largest : Limits
 largest = record { pairs = 16777216; entries = 1048576 }
 
--- the reply that tells an answer: of a map that was made its number of pairs
-abbrev pub told_reply : ProgramTold → LineReply
-told_reply (plain.Told.number n) = replies.Count n
-told_reply (plain.Told.truth b) = replies.Truth b
-told_reply (plain.Told.found None) = replies.Absent
-told_reply (plain.Told.found (Some pair)) = replies.Pair pair.0 pair.1
-told_reply (plain.Told.made pairs) = replies.Count pairs
-told_reply (plain.Told.images m) = replies.Count (length m)
-told_reply (plain.Told.item None) = replies.Absent
-told_reply (plain.Told.item (Some n)) = replies.Item n
+-- the reply that shows an answer: of a map that was made, its number of pairs
+abbrev pub told_reply : ProgramSummary → LineReply
+told_reply (plain.Summary.number n) = replies.Count n
+told_reply (plain.Summary.truth b) = replies.Truth b
+told_reply (plain.Summary.found None) = replies.Absent
+told_reply (plain.Summary.found (Some pair)) = replies.Pair pair.0 pair.1
+told_reply (plain.Summary.made pairs) = replies.Count pairs
+told_reply (plain.Summary.images m) = replies.Count (length m)
+told_reply (plain.Summary.item None) = replies.Absent
+told_reply (plain.Summary.item (Some n)) = replies.Item n
 
 -- the reply that shows the outcome of a request
 abbrev pub reply_to : ProgramOutcome → Option LineReply

@@ -7,12 +7,12 @@ pub fn requests_have_one_outcome()
     ensures { HaveOneOutcome }
 {}
 
-/// A finish that is told the same leaves one state.
+/// A finish with a given outcome leaves one state.
 pub fn finishes_leave_one_state()
     ensures { FinishesLeaveOne }
 {}
 
-/// Of a job that has one answer, a finish tells that one and leaves one state.
+/// A finish of a job that has one answer has one outcome and leaves one state, unless it is `unfinished`.
 pub fn finishes_tell_one_answer()
     ensures { FinishesTellOne }
 {}

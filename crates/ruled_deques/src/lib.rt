@@ -10,7 +10,7 @@ mod worker_ends;
 
 pub use closing::close;
 pub use ends::Deques;
-pub use opening::open_all;
+pub use opening::{MOST_DEQUES, open_all};
 pub use rule::{DequeRule, DequeView, Owner};
 pub use sharing::share_out;
 pub use worker_ends::WorkerEnds;

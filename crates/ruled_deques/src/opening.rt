@@ -7,6 +7,9 @@ ghost use Rattle.ruled_deques.specs.EndsView.{given};
 use crate::rule::{Owner, Push};
 use std::alloc::{AllocError, Global};
 
+/// The most deques that may be shared out.
+pub const MOST_DEQUES: u32 = 16;
+
 // How many items a deque has room for at first.
 const FIRST_ROOM: usize = 64;
 

@@ -6,6 +6,7 @@ ghost use Rattle.ruled_deques.specs.EndsView.{given};
 ghost use Rattle.ruled_deques.specs.Rule.{deque_view};
 
 use crate::ends::{Deques, OwnEnd, StealEnd};
+use crate::opening::MOST_DEQUES;
 use crate::rule::Owner;
 use crate::worker_ends::WorkerEnds;
 use std::alloc::{AllocError, Global};
@@ -87,7 +88,7 @@ fn ends_of<T: Drop, D: Deques>(
     bundle: Bundle<T, D>,
     _first: &Snapshot<T>,
 ) -> WorkerEnds<T, D>
-    requires small { D.count ≤ 16 }
+    requires small { D.count ≤ MOST_DEQUES }
     requires view { worker_view own.owner ≡ deque_view (17 - D.count) (given _first.now.value own.place) [] }
     ensures { result ≡ record { place = own.place; pushed = given _first.now.value own.place; taken = [] } }
 {
@@ -103,7 +104,7 @@ pub fn share_out<T: Drop, D: Deques>(
     owners: Vec<Owner<T>>,
     first: &Snapshot<T>,
 ) -> Result<Vec<WorkerEnds<T, D>>, AllocError>
-    requires count { (length owners.items ≡ D.count) × (D.count ≤ 16) }
+    requires count { (length owners.items ≡ D.count) × (D.count ≤ MOST_DEQUES) }
     requires each { (i : ℕ) (d : _) → i < length owners.items → IsOpened (D.deque i) (given first.now.value i) (slice_index_or owners.items i d) }
     ensures len { IfOk result (λ all. length all.items ≡ length owners.items) }
     ensures each { IfOk result (λ all. (i : ℕ) (d : _) → i < length all.items → slice_index_or all.items i d ≡ record { place = i; pushed = given first.now.value i; taken = [] }) }
@@ -125,7 +126,7 @@ fn pair_up<T: Drop, D: Deques>(
     mut bundles: Vec<Bundle<T, D>>,
     first: &Snapshot<T>,
 ) -> Result<Vec<WorkerEnds<T, D>>, AllocError>
-    requires count { (length owns.items ≡ D.count) × (length bundles.items ≡ D.count) × (D.count ≤ 16) }
+    requires count { (length owns.items ≡ D.count) × (length bundles.items ≡ D.count) × (D.count ≤ MOST_DEQUES) }
     requires each { (i : ℕ) (d : _) → i < length owns.items → ((slice_index_or owns.items i d).place ≡ i) × (worker_view (slice_index_or owns.items i d).owner ≡ deque_view (17 - D.count) (given first.now.value (slice_index_or owns.items i d).place) []) }
     ensures len { IfOk result (λ all. length all.items ≡ length owns.items) }
     ensures each { IfOk result (λ all. (i : ℕ) (d : _) → i < length all.items → slice_index_or all.items i d ≡ record { place = i; pushed = given first.now.value i; taken = [] }) }

@@ -11,20 +11,20 @@ use Rattle.script.specs.Statements.{Argument, place_of, spelling_of, IsInRange}
 use Rattle.script.specs.Faults.{Suits, Faulty, IsClient, CommandFault, LineFault, StopsBy}
 use Rattle.script.specs.declared.fault.Reason.{Reason}
 use Rattle.script.specs.declared.fault.Reason.TheVariants.{BadClient}
-use Rattle.script.specs.declared.stop.Stop.{Stop}
-use Rattle.script.specs.declared.stop.Stop.TheVariants.{Memory, Fault}
+use Rattle.script.specs.declared.parse_error.ParseError.{ParseError}
+use Rattle.script.specs.declared.parse_error.ParseError.TheVariants.{Memory, Fault}
 
 -- an argument in its range suits its place
 pub suited : (argument : Argument) → IsInRange argument → Suits (place_of argument) (spelling_of argument)
 suited argument in_range = record { argument = argument; placed = refl; in_range = in_range; spelled = refl }
 
 -- the first field suits the first place
-pub later : (argument : Argument) (places : List Place) (fields rest : List (List ℕ)) (stop : Stop) → IsInRange argument → fields ≡ spelling_of argument ∷ rest → StopsBy (Faulty places rest) stop → StopsBy (Faulty (place_of argument ∷ places) fields) stop
+pub later : (argument : Argument) (places : List Place) (fields rest : List (List ℕ)) (stop : ParseError) → IsInRange argument → fields ≡ spelling_of argument ∷ rest → StopsBy (Faulty places rest) stop → StopsBy (Faulty (place_of argument ∷ places) fields) stop
 later argument places fields rest Memory in_range e h = tt
 later argument places fields rest (Fault reason) in_range e h = rw e (inr (suited argument in_range, h))
 
 -- a `?` passes the stop on
-pub passed : {X : Type 0} (r : Result X Stop) (P : Stop → Type 0) (stop : Stop) → IsErrAnd r (λ e. e ≡ stop) → P stop → IfErr r P
+pub passed : {X : Type 0} (r : Result X ParseError) (P : ParseError → Type 0) (stop : ParseError) → IsErrAnd r (λ e. e ≡ stop) → P stop → IfErr r P
 passed (Ok x) P stop h p = tt
 passed (Err e) P stop h p = rw h p
 
@@ -42,7 +42,7 @@ at_fields n line reason few short good command fault =
     let b : nat_lt 256 (length line) ≡ false = grind (arith, nat_tests) in
     rw (a, b, good, command) at fault
 
-pub from_fields : (n : ℕ) (line : List ℕ) (stop : Stop) → n ≤ 65536 → length line ≤ 256 → list_any is_bad_byte line ≡ false → is_skipped line ≡ false → StopsBy (CommandFault (fields_of line)) stop → StopsBy (LineFault n line) stop
+pub from_fields : (n : ℕ) (line : List ℕ) (stop : ParseError) → n ≤ 65536 → length line ≤ 256 → list_any is_bad_byte line ≡ false → is_skipped line ≡ false → StopsBy (CommandFault (fields_of line)) stop → StopsBy (LineFault n line) stop
 from_fields n line Memory few short good command fault = tt
 from_fields n line (Fault reason) few short good command fault =
     let a : nat_lt 65536 n ≡ false = grind (arith, nat_tests) in

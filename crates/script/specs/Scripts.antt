@@ -2,6 +2,7 @@
 use Rattle.std.specs.Prelude.{◌≡◌, ℕ, ◌+◌, ◌≤◌, ◌⊎◌, false, List, [], ◌∷◌, ◌++◌, length, if◌then◌else◌, Option, Some, None, All, map}
 use Rattle.std.specs.List.{list_any}
 use Rattle.std.specs.Fmt.{decimal}
+use Rattle.script.specs.declared.limits.TheConstants.{MOST_LINES, MOST_LINE_BYTES}
 use Rattle.script.specs.Lines.{lines_of, fields_of, is_skipped, is_bad_byte}
 use Rattle.script.specs.Statements.{words_of, IsLawfulLine}
 use Rattle.script.specs.Faults.{LineFault}
@@ -35,11 +36,11 @@ IsLawfulIfAny (Some line) = IsLawfulLine line
 
 -- at most 256 bytes, none of them bad
 abbrev pub IsPlain : List ℕ → Type 0
-IsPlain line = (length line ≤ 256) × (list_any is_bad_byte line ≡ false)
+IsPlain line = (length line ≤ MOST_LINE_BYTES) × (list_any is_bad_byte line ≡ false)
 
 -- the text spells these command lines: the fields of its lines, the skipped ones left out, are their words in their order
 pub record Spells (text : List ℕ) (script : List CommandLine) : Type 0 where
-  pub few : length (lines_of text) ≤ 65536
+  pub few : length (lines_of text) ≤ MOST_LINES
   pub plain : All IsPlain (lines_of text)
   pub words : numbered 1 (lines_of text) ≡ map words_on script
   pub lawful : All IsLawfulLine script
@@ -57,7 +58,7 @@ IsFirstFault text at reason = FirstFault 1 (lines_of text) at reason
 abbrev pub HasFault : List ℕ → Type 0
 HasFault text = (at : ℕ) × (reason : Reason) × IsFirstFault text at reason
 
--- a text is refused for its first fault, or for want of memory
+-- a text is refused for its first fault, or if memory runs out
 abbrev pub IsFaultOf : List ℕ → ScriptFault → Type 0
 IsFaultOf text (faults.Line number reason) = IsFirstFault text number reason
 IsFaultOf text faults.Memory = Unit {0}

@@ -4,6 +4,7 @@ use Rattle.std.specs.Int.{w64}
 use Rattle.std.specs.Fmt.{decimal, signed_decimal}
 use Rattle.arguments.specs.Keys.{IsKey}
 use Rattle.arguments.specs.Questions.{IsMapping, IsPairMapping, IsTest, folding_text, mapping_text, pair_mapping_text, test_text}
+use Rattle.script.specs.declared.limits.TheConstants.{MOST_CLIENTS}
 use Rattle.script.specs.Grammar.{Place, handle_place, key_place, value_place, test_place, map_place, pair_map_place, fold_place}
 use Rattle.arguments.specs.declared.passing.Test.{Test}
 use Rattle.arguments.specs.declared.mapping.Mapping.{Mapping}
@@ -98,4 +99,4 @@ IsLawful statement = AreInRange (phrase_of statement).arguments
 
 -- a client is a number from 0 to 63, and its statement is lawful
 abbrev pub IsLawfulLine : CommandLine → Type 0
-IsLawfulLine line = (line.client < 64) × IsLawful line.statement
+IsLawfulLine line = (line.client < MOST_CLIENTS) × IsLawful line.statement

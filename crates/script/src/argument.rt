@@ -9,7 +9,7 @@ ghost use Rattle.script.specs.Faults.{Faulty, StopsBy, Suits, reason_at};
 
 use crate::fault::Reason;
 use crate::fields::Fields;
-use crate::stop::Stop;
+use crate::parse_error::ParseError;
 use arguments::{
     Folding, Key, Mapping, PairMapping, Test, folding_of, mapping_of, number_of, pair_mapping_of,
     test_of, value_of,
@@ -26,7 +26,7 @@ pub trait Argument: Drop {
     ghost argument: { Self → spec.Argument };
 
     /// Reads the field.
-    fn read(alloc: Global, field: &[u8]) -> Result<Self, Stop>
+    fn read(alloc: Global, field: &[u8]) -> Result<Self, ParseError>
         ensures ok { IfOk result (λ x. IsInRange (argument x) × (field.now ≡ spelling_of (argument x))) }
         ensures place { IfOk result (λ x. spec.place_of (argument x) ≡ place) }
         ensures err { IfErr result (StopsBy (λ reason. ¬ (Suits place field.now) × (reason ≡ reason_at place))) };
@@ -43,7 +43,7 @@ pub trait Arguments {
     ghost arguments: { Self → List spec.Argument };
 
     /// Reads the fields.
-    fn read(alloc: Global, fields: Fields<'_>) -> Result<Self, Stop>
+    fn read(alloc: Global, fields: Fields<'_>) -> Result<Self, ParseError>
         ensures lawful { IfOk result (λ x. AreInRange (arguments x)) }
         ensures ok { IfOk result (λ x. fields_of fields.entry.0.now ≡ map spelling_of (arguments x)) }
         ensures err { IfErr result (StopsBy (Faulty places (fields_of fields.entry.0.now))) };
@@ -57,10 +57,10 @@ impl Argument for u32 {
 
     ghost argument = { handle_argument };
 
-    fn read(_alloc: Global, field: &[u8]) -> Result<u32, Stop> {
+    fn read(_alloc: Global, field: &[u8]) -> Result<u32, ParseError> {
         match number_of(field) {
             Some(handle) => Ok(handle),
-            None => Err(Stop::Fault(Reason::BadHandle)),
+            None => Err(ParseError::Fault(Reason::BadHandle)),
         }
     }
 }
@@ -73,10 +73,10 @@ impl Argument for Key {
 
     ghost argument = { key_argument };
 
-    fn read(alloc: Global, field: &[u8]) -> Result<Key, Stop> {
+    fn read(alloc: Global, field: &[u8]) -> Result<Key, ParseError> {
         match Key::new(alloc, field)? {
             Some(key) => Ok(key),
-            None => Err(Stop::Fault(Reason::BadKey)),
+            None => Err(ParseError::Fault(Reason::BadKey)),
         }
     }
 }
@@ -89,10 +89,10 @@ impl Argument for i64 {
 
     ghost argument = { value_argument };
 
-    fn read(_alloc: Global, field: &[u8]) -> Result<i64, Stop> {
+    fn read(_alloc: Global, field: &[u8]) -> Result<i64, ParseError> {
         match value_of(field) {
             Some(value) => Ok(value),
-            None => Err(Stop::Fault(Reason::BadValue)),
+            None => Err(ParseError::Fault(Reason::BadValue)),
         }
     }
 }
@@ -105,10 +105,10 @@ impl Argument for Test {
 
     ghost argument = { test_argument };
 
-    fn read(alloc: Global, field: &[u8]) -> Result<Test, Stop> {
+    fn read(alloc: Global, field: &[u8]) -> Result<Test, ParseError> {
         match test_of(alloc, field)? {
             Some(test) => Ok(test),
-            None => Err(Stop::Fault(Reason::BadTest)),
+            None => Err(ParseError::Fault(Reason::BadTest)),
         }
     }
 }
@@ -121,10 +121,10 @@ impl Argument for Mapping {
 
     ghost argument = { map_argument };
 
-    fn read(_alloc: Global, field: &[u8]) -> Result<Mapping, Stop> {
+    fn read(_alloc: Global, field: &[u8]) -> Result<Mapping, ParseError> {
         match mapping_of(field) {
             Some(mapping) => Ok(mapping),
-            None => Err(Stop::Fault(Reason::BadMap)),
+            None => Err(ParseError::Fault(Reason::BadMap)),
         }
     }
 }
@@ -137,10 +137,10 @@ impl Argument for PairMapping {
 
     ghost argument = { pair_map_argument };
 
-    fn read(alloc: Global, field: &[u8]) -> Result<PairMapping, Stop> {
+    fn read(alloc: Global, field: &[u8]) -> Result<PairMapping, ParseError> {
         match pair_mapping_of(alloc, field)? {
             Some(mapping) => Ok(mapping),
-            None => Err(Stop::Fault(Reason::BadMap)),
+            None => Err(ParseError::Fault(Reason::BadMap)),
         }
     }
 }
@@ -153,10 +153,10 @@ impl Argument for Folding {
 
     ghost argument = { fold_argument };
 
-    fn read(_alloc: Global, field: &[u8]) -> Result<Folding, Stop> {
+    fn read(_alloc: Global, field: &[u8]) -> Result<Folding, ParseError> {
         match folding_of(field) {
             Some(folding) => Ok(folding),
-            None => Err(Stop::Fault(Reason::BadFold)),
+            None => Err(ParseError::Fault(Reason::BadFold)),
         }
     }
 }
@@ -168,9 +168,9 @@ impl Arguments for () {
 
     ghost arguments = { λ _. [] };
 
-    fn read(_alloc: Global, mut fields: Fields<'_>) -> Result<(), Stop> {
+    fn read(_alloc: Global, mut fields: Fields<'_>) -> Result<(), ParseError> {
         match fields.next() {
-            Some(_) => Err(Stop::Fault(Reason::ExtraField)),
+            Some(_) => Err(ParseError::Fault(Reason::ExtraField)),
             None => Ok(()),
         }
     }
@@ -183,9 +183,9 @@ impl<A: Argument, B: Arguments> Arguments for (A, B) {
 
     ghost arguments = { λ x. A.argument x.0 ∷ B.arguments x.1 };
 
-    fn read(alloc: Global, mut fields: Fields<'_>) -> Result<(A, B), Stop> {
+    fn read(alloc: Global, mut fields: Fields<'_>) -> Result<(A, B), ParseError> {
         let Some(field) = fields.next() else {
-            return Err(Stop::Fault(Reason::MissingField));
+            return Err(ParseError::Fault(Reason::MissingField));
         };
         let first = A::read(alloc, field)?;
         let rest = B::read(alloc, fields)?;

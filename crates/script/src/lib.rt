@@ -10,13 +10,14 @@ mod argument;
 mod fault;
 mod fields;
 mod laws;
+mod limits;
 mod line;
 mod lines;
 mod listing;
 mod parse;
+mod parse_error;
 mod reply;
 mod statement;
-mod stop;
 
 pub use fault::{Reason, ScriptFault};
 pub use laws::{spelled_text_has_no_fault, text_has_one_fault, text_has_one_script};

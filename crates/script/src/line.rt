@@ -10,14 +10,15 @@ ghost use Rattle.script.specs.Faults.{StatementFault, CommandFault, StopsBy};
 use crate::argument::Arguments;
 use crate::fault::Reason;
 use crate::fields::Fields;
+use crate::limits::MOST_CLIENTS;
+use crate::parse_error::ParseError;
 use crate::statement::Statement;
-use crate::stop::Stop;
 use arguments::number_of;
 use std::alloc::Global;
 
 /// The client and the statement of a line that is not skipped.
-pub fn command_of(alloc: Global, line: &[u8]) -> Result<(u32, Statement), Stop>
-    ensures lawful { IfOk result (λ x. (x.0 < 64) × IsLawful x.1) }
+pub fn command_of(alloc: Global, line: &[u8]) -> Result<(u32, Statement), ParseError>
+    ensures lawful { IfOk result (λ x. (x.0 < MOST_CLIENTS) × IsLawful x.1) }
     ensures ok { IfOk result (λ x. fields_of line.now ≡ decimal x.0 ∷ words_of x.1) }
     ensures err { IfErr result (StopsBy (CommandFault (fields_of line.now))) }
 {
@@ -27,21 +28,21 @@ pub fn command_of(alloc: Global, line: &[u8]) -> Result<(u32, Statement), Stop>
     Ok((client, statement))
 }
 
-fn client_at(fields: &mut Fields<'_>) -> Result<u32, Stop>
-    ensures ok { IfOk result (λ n. (n < 64) × (fields_of fields.old.0.now ≡ decimal n ∷ fields_of fields.new.0.now)) }
+fn client_at(fields: &mut Fields<'_>) -> Result<u32, ParseError>
+    ensures ok { IfOk result (λ n. (n < MOST_CLIENTS) × (fields_of fields.old.0.now ≡ decimal n ∷ fields_of fields.new.0.now)) }
     ensures err { IfErr result (StopsBy (CommandFault (fields_of fields.old.0.now))) }
 {
     let Some(field) = fields.next() else {
-        return Err(Stop::Fault(Reason::MissingField));
+        return Err(ParseError::Fault(Reason::MissingField));
     };
     match number_of(field) {
-        Some(n) if n < 64 => Ok(n),
-        Some(_) => Err(Stop::Fault(Reason::BadClient)),
-        None => Err(Stop::Fault(Reason::BadClient)),
+        Some(n) if n < MOST_CLIENTS => Ok(n),
+        Some(_) => Err(ParseError::Fault(Reason::BadClient)),
+        None => Err(ParseError::Fault(Reason::BadClient)),
     }
 }
 
-pub fn statement_at(alloc: Global, mut fields: Fields<'_>) -> Result<Statement, Stop>
+pub fn statement_at(alloc: Global, mut fields: Fields<'_>) -> Result<Statement, ParseError>
     ensures lawful { IfOk result IsLawful }
     ensures ok { IfOk result (λ s. words_of s ≡ fields_of fields.entry.0.now) }
     ensures err { IfErr result (StopsBy (StatementFault (fields_of fields.entry.0.now))) }
@@ -49,9 +50,9 @@ pub fn statement_at(alloc: Global, mut fields: Fields<'_>) -> Result<Statement, 
     match fields.next() {
         Some(verb) => match str::from_utf8(verb) {
             Ok(verb) => statement_of(alloc, verb, fields),
-            Err(_) => Err(Stop::Fault(Reason::UnknownVerb)),
+            Err(_) => Err(ParseError::Fault(Reason::UnknownVerb)),
         },
-        None => Err(Stop::Fault(Reason::MissingField)),
+        None => Err(ParseError::Fault(Reason::MissingField)),
     }
 }
 
@@ -76,7 +77,7 @@ macro_rules! statement {
 }
 
 /// The statement of the verb with these arguments.
-fn statement_of(alloc: Global, verb: &str, fields: Fields<'_>) -> Result<Statement, Stop>
+fn statement_of(alloc: Global, verb: &str, fields: Fields<'_>) -> Result<Statement, ParseError>
     ensures lawful { IfOk result IsLawful }
     ensures ok { IfOk result (λ s. words_of s ≡ verb.now ∷ fields_of fields.entry.0.now) }
     ensures err { IfErr result (StopsBy (StatementFault (verb.now ∷ fields_of fields.entry.0.now))) }
@@ -101,7 +102,7 @@ fn statement_of(alloc: Global, verb: &str, fields: Fields<'_>) -> Result<Stateme
 }
 
 /// The statement of a verb that is no command's: of a question about a whole map.
-fn question_of(alloc: Global, verb: &str, fields: Fields<'_>) -> Result<Statement, Stop>
+fn question_of(alloc: Global, verb: &str, fields: Fields<'_>) -> Result<Statement, ParseError>
     requires { IsUnnamed commands verb.now }
     ensures lawful { IfOk result IsLawful }
     ensures ok { IfOk result (λ s. words_of s ≡ verb.now ∷ fields_of fields.entry.0.now) }
@@ -116,6 +117,6 @@ fn question_of(alloc: Global, verb: &str, fields: Fields<'_>) -> Result<Statemen
         "mapvalues" => statement!(alloc, fields, MapValues(handle, map, to)),
         "mappairs" => statement!(alloc, fields, MapPairs(handle, map, to)),
         "fold" => statement!(alloc, fields, Fold(handle, folding)),
-        _ => Err(Stop::Fault(Reason::UnknownVerb)),
+        _ => Err(ParseError::Fault(Reason::UnknownVerb)),
     }
 }

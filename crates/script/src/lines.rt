@@ -6,9 +6,9 @@ ghost use Rattle.script.specs.Lines.{lines_of};
 
 /// The lines of a script that are still to come.
 #[derive(Drop)]
-pub struct Lines<'a>(pub &'a [u8]);
+pub struct ScriptLines<'a>(pub &'a [u8]);
 
-impl<'a> Iterator for Lines<'a> {
+impl<'a> Iterator for ScriptLines<'a> {
     type Item = &'a [u8];
 
     ghost next_gives = { YieldsFirstBy (λ x. x.now) (λ s. lines_of s.0.now) };

@@ -10,10 +10,11 @@ ghost use Rattle.script.specs.Scripts.{Spells, IsPlain, IsFaultOf, fields_on, wo
 
 use crate::fault::{Reason, ScriptFault};
 use crate::fields::Fields;
+use crate::limits::{MOST_LINE_BYTES, MOST_LINES};
 use crate::line::{command_of, statement_at};
-use crate::lines::Lines;
+use crate::lines::ScriptLines;
+use crate::parse_error::ParseError;
 use crate::statement::{CommandLine, Statement};
-use crate::stop::Stop;
 use std::alloc::{AllocError, Global};
 use std::marker::Model;
 
@@ -50,14 +51,14 @@ impl Script {
 ///
 /// # Errors
 ///
-/// The first fault of the first line that has one, or want of memory.
+/// The first fault of the first line that has one, or `Memory` if memory runs out.
 pub fn parse_script(alloc: Global, text: &[u8]) -> Result<Script, ScriptFault>
     ensures ok { IfOk result (Spells text.now) }
     ensures fault { IfErr result (IsFaultOf text.now) }
 {
     let mut lines = Vec::new(alloc);
     let mut number = 0;
-    for line in Lines(text) {
+    for line in ScriptLines(text) {
         number += 1;
         match line_of(alloc, number, line) {
             Ok(Some(line)) => {
@@ -66,8 +67,8 @@ pub fn parse_script(alloc: Global, text: &[u8]) -> Result<Script, ScriptFault>
                 }
             }
             Ok(None) => {}
-            Err(Stop::Memory) => return Err(ScriptFault::Memory),
-            Err(Stop::Fault(reason)) => return Err(ScriptFault::Line { number, reason }),
+            Err(ParseError::Memory) => return Err(ScriptFault::Memory),
+            Err(ParseError::Fault(reason)) => return Err(ScriptFault::Line { number, reason }),
         }
     }
     Ok(Script { lines })
@@ -83,27 +84,27 @@ pub fn statement_in(alloc: Global, text: &[u8]) -> Result<Option<Statement>, All
 {
     match statement_at(alloc, Fields(text)) {
         Ok(statement) => Ok(Some(statement)),
-        Err(Stop::Memory) => Err(AllocError),
-        Err(Stop::Fault(_)) => Ok(None),
+        Err(ParseError::Memory) => Err(AllocError),
+        Err(ParseError::Fault(_)) => Ok(None),
     }
 }
 
 /// The command line that stands on the line with this number, or none where it is skipped.
-fn line_of(alloc: Global, number: u32, line: &[u8]) -> Result<Option<CommandLine>, Stop>
+fn line_of(alloc: Global, number: u32, line: &[u8]) -> Result<Option<CommandLine>, ParseError>
     ensures ok { IfOk result (λ read. words_read read ≡ fields_on number line.now) }
-    ensures few { OnOk result (number ≤ 65536) }
+    ensures few { OnOk result (number ≤ MOST_LINES) }
     ensures plain { OnOk result (IsPlain line.now) }
     ensures lawful { IfOk result IsLawfulIfAny }
     ensures err { IfErr result (StopsBy (LineFault number line.now)) }
 {
-    if number > 65_536 {
-        return Err(Stop::Fault(Reason::TooManyLines));
+    if number > MOST_LINES {
+        return Err(ParseError::Fault(Reason::TooManyLines));
     }
-    if line.len() > 256 {
-        return Err(Stop::Fault(Reason::LineTooLong));
+    if line.len() > MOST_LINE_BYTES {
+        return Err(ParseError::Fault(Reason::LineTooLong));
     }
     if has_bad_byte(line) {
-        return Err(Stop::Fault(Reason::BadByte));
+        return Err(ParseError::Fault(Reason::BadByte));
     }
     if is_skipped(line) {
         return Ok(None);

@@ -7,7 +7,7 @@ pub use Rattle.reply_order.specs.Order.{AreMerged, AreRepliesTo, IsNext, beside,
 use Rattle.script.specs.Scripts.{Spells}
 use Rattle.journal_text.specs.Entries.{text_of_journal}
 use Rattle.script_runs.specs.Events.{Event, Makes}
-use Rattle.questions.specs.Program.{largest, program, ProgramState, ProgramTold}
+use Rattle.questions.specs.Program.{largest, program, ProgramState, ProgramSummary}
 use Rattle.questions.specs.Queries.{ScriptQuestion}
 use Rattle.script.specs.declared.statement.Statement.{Statement}
 use Rattle.script.specs.declared.statement.Statement.TheVariants.{Find, MapPairs}
@@ -35,7 +35,7 @@ replies_in answers = map (λ a. a.reply) answers
 
 -- an entry of the journal of a program
 abbrev pub ProgramEntry : Type 0
-ProgramEntry = Entered (List ℕ) ℤ ScriptQuestion ProgramTold
+ProgramEntry = Entered (List ℕ) ℤ ScriptQuestion ProgramSummary
 
 -- what entries asked and were told, each beside its place in the journal
 abbrev pub events_in : List (ℕ × ProgramEntry) → List Event

@@ -2,7 +2,7 @@
 
 use bench_kit::{Fault, MOST_PAIRS_OF_A_BENCHMARK, number};
 
-/// What the program is told to do.
+/// How the program is called.
 const USAGE: &str =
     "shared_bench [mixed PAIRS ROUNDS | one_key PAIRS ROUNDS | views PAIRS | locked PAIRS ROUNDS | crew PAIRS WORKERS | puts PAIRS], PAIRS from 1 to 10000000, ROUNDS from 1, WORKERS from 0 to 16";
 
@@ -23,11 +23,11 @@ pub enum Part {
     Mixed(Load),
     /// Reads and puts of one key.
     OneKey(Load),
-    /// Views of a map of so many pairs.
+    /// Views of a map of `pairs` pairs.
     Views { pairs: u32 },
     /// Calls on the map with a journal, and gets on views of it.
     Locked(Load),
-    /// Questions by a crew of so many workers. No workers stand for the caller alone.
+    /// Questions by a crew of `workers` workers. No workers stand for the caller alone.
     Crew { pairs: u32, workers: u32 },
     /// Puts, alone and beside a crew.
     Puts { pairs: u32 },

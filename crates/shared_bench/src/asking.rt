@@ -14,7 +14,7 @@ use trie_map::{Answer, ByteText, Crew, Version, View};
 /// How often each question is asked.
 const ROUNDS: u32 = 15;
 
-/// Asks each question of a view of a map, which has so many pairs.
+/// Asks each question of a view of a map of `pairs` pairs.
 pub fn ask_all<R: Runtime + AllocGlobal + Threads + Wait + Sync>(
     rt: &R,
     pairs: u32,
@@ -88,10 +88,10 @@ fn one_round<R: Clock + Threads + Wait + Sync>(
     Ok(told(&reply))
 }
 
-/// What is told of a whole view, and the map that was made where the question makes one.
+/// The answer for a whole view, and the map that was made where the question makes one.
 type Reply = (Answer<ByteText, i64, i128>, Option<Version<ByteText, i64>>);
 
-/// The answer for all pairs of the view, by a crew of so many workers, or by the caller alone where there are none.
+/// The answer for all pairs of the view, by a crew of `workers` workers, or by the caller alone where there are none.
 fn ask<R: Threads + Wait + Sync>(
     rt: &R,
     view: &View<ByteText, i64>,

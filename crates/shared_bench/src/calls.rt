@@ -48,7 +48,7 @@ pub fn put(alloc: Global, key: Arc<ByteText>, value: i64) -> Result<MapCall, Fau
     Ok(Call::On(MAP, Command::Put(key, Arc::new(alloc, value)?)))
 }
 
-/// The value that a call was told, 0 where it was told none.
+/// The value in the reply, 0 where it has none.
 pub fn value_in(reply: &CallReply<i64>) -> i64 {
     match reply {
         CallReply::Reply(Reply::Old(Some(value))) => **value,

@@ -5,7 +5,7 @@ use crate::calls::{MapCall, filling, load, value_in};
 use bench_kit::{Best, Fault};
 use handles::{Limits, MOST_ENTRIES, NoQuery, Table};
 use keys::ByteText;
-use locked_map::{Client, Room, Seat, SharedMap, with_clients};
+use locked_map::{Client, JournalName, Seat, SharedMap, with_clients};
 use std::alloc::Global;
 use std::rt::Runtime;
 use std::sync::{Arc, Wait};
@@ -117,7 +117,7 @@ impl<C: Clock> Client<ByteText, i64, NoQuery> for Caller<'_, C> {
 
     ghost gives = { λ _ _ _. ⊤ };
 
-    fn run<J: Room, R: Threads + Wait + Sync>(
+    fn run<J: JournalName, R: Threads + Wait + Sync>(
         self,
         rt: &R,
         alloc: Global,
@@ -137,7 +137,7 @@ impl<C: Clock> Client<ByteText, i64, NoQuery> for Caller<'_, C> {
 }
 
 /// Makes the calls on a shared map, and answers the sum of the values that they were told.
-fn call_all<J: Room, R: Wait>(
+fn call_all<J: JournalName, R: Wait>(
     rt: &R,
     map: &SharedMap<ByteText, i64, NoQuery, J>,
     seat: &mut Seat<ByteText, i64, NoQuery, J>,

@@ -6,7 +6,7 @@
 //! The words tell what is measured:
 //!
 //! - `mixed PAIRS ROUNDS`: nine gets for each put, by 1, 2 and 4 threads;
-//! - `one_key PAIRS ROUNDS`: gets, copies and reads by readers, of one key of a map of so many pairs, by 1, 2 and 4
+//! - `one_key PAIRS ROUNDS`: gets, copies and reads by readers, of one key of a map of `PAIRS` pairs, by 1, 2 and 4
 //!   threads, and then puts of it by 1 and 4;
 //! - `views PAIRS`: views with nobody writing, and while four threads write;
 //! - `locked PAIRS ROUNDS`: calls on a table, on the map with a journal, and gets on views of it by 1, 2 and 4 threads;

@@ -7,7 +7,7 @@ use trie_map::{ByteText, TrieMap};
 /// A map that threads share.
 pub type Map = TrieMap<ByteText, i64>;
 
-/// A map of so many pairs: of the keys `k0000000`, `k0000001` and so on, each with its number.
+/// A map of `pairs` pairs: of the keys `k0000000`, `k0000001` and so on, each with its number.
 pub fn filled<R: AllocGlobal + Wait>(rt: &R, pairs: u32) -> Result<Map, Fault> {
     let map: Map = TrieMap::new(rt)?;
     for number in 0..pairs {

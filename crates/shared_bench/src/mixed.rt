@@ -41,7 +41,7 @@ pub fn mixed<R: Runtime + AllocGlobal + Threads + Wait + Sync>(
     Ok(())
 }
 
-/// The same by so many threads.
+/// The same by `threads` threads.
 fn calls_by<R: Runtime + AllocGlobal + Threads + Wait + Sync>(
     rt: &R,
     map: &Map,

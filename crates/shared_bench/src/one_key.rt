@@ -43,7 +43,7 @@ pub fn one_key<R: Runtime + AllocGlobal + Threads + Wait + Sync>(
     calls_by(rt, &map, &key, number, load.rounds, 4, Call::Put)
 }
 
-/// Times the calls by so many threads.
+/// Times the calls by `threads` threads.
 fn calls_by<R: Runtime + AllocGlobal + Threads + Wait + Sync>(
     rt: &R,
     map: &Map,

@@ -122,7 +122,7 @@ fn count_until<R: Threads + Wait + Sync>(
     Ok(())
 }
 
-/// Prints the lines of the times beside a crew of so many workers, and the checksum.
+/// Prints the lines of the times beside a crew of `workers` workers, and the checksum.
 fn show<R: Runtime>(rt: &R, workers: u32, written: Written) -> Result<(), Fault> {
     let Written { spread, sum } = written;
     let Spread {

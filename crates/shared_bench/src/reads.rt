@@ -41,8 +41,8 @@ pub fn view_reads<R: Runtime + AllocGlobal + Threads + Wait + Sync>(
     reads_of(rt, rounds, keys, 4)
 }
 
-/// The same of so many threads. Each makes as many gets as the journal has entries for the writer. A put takes several
-/// times as long as a get, so the writer has entries left when the last of them ends.
+/// The same of `readers` threads. Each makes as many gets as the journal has entries for the writer. A put takes
+/// several times as long as a get, so the writer has entries left when the last of them ends.
 fn reads_of<R: Runtime + AllocGlobal + Threads + Wait + Sync>(
     rt: &R,
     rounds: u32,
@@ -74,7 +74,7 @@ fn reads_of<R: Runtime + AllocGlobal + Threads + Wait + Sync>(
     best.show_of(rt, "view_reads", readers, left * readers, i128::from(sum))
 }
 
-/// One round with so many readers.
+/// One round with `readers` readers.
 fn one_round<R: Runtime + AllocGlobal + Threads + Wait + Sync>(
     rt: &R,
     meeting: &Meeting<'_, R>,
@@ -113,7 +113,7 @@ fn round_of(outs: Vec<Result<Did, Fault>>) -> Result<Round, Fault> {
     })
 }
 
-/// A client that writes, and so many that read.
+/// A client that writes, and `readers` clients that read.
 fn visitors<'a, C>(
     alloc: Global,
     meeting: &'a Meeting<'a, C>,

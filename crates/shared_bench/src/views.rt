@@ -19,7 +19,7 @@ const VIEWS: usize = 1_001;
 /// How many calls a writer makes before it looks whether the views are taken.
 const CALLS_AT_A_TIME: u32 = 100;
 
-/// Times views with nobody writing, and while four threads write, and tells the median of each.
+/// Times views with nobody writing, and while four threads write, and prints the median of each.
 pub fn views<R: Runtime + Clock + AllocGlobal + Threads + Wait + Sync>(
     rt: &R,
     pairs: u32,
@@ -95,7 +95,7 @@ fn write_until<R: AllocGlobal + Wait>(
     Ok(())
 }
 
-/// Prints the median beside so many writers, and the number of pairs.
+/// Prints the median for `threads` threads, and the number of pairs.
 fn show<R: Runtime + Wait>(
     rt: &R,
     name: &str,

@@ -6,7 +6,7 @@ use crate::mixed::next;
 use bench_kit::{Fault, copied};
 use handles::{Call, NoQuery};
 use keys::ByteText;
-use locked_map::{Client, Room, Seat, SharedMap};
+use locked_map::{Client, JournalName, Seat, SharedMap};
 use std::alloc::Global;
 use std::sync::atomic::{AtomicBool, AtomicU32, Ordering};
 use std::sync::{Arc, Wait};
@@ -78,7 +78,7 @@ pub enum Did {
 /// The map, whichever it is, and the seat of a client.
 type Shared<J> = SharedMap<ByteText, i64, NoQuery, J>;
 
-type Desk<J> = Seat<ByteText, i64, NoQuery, J>;
+type ClientSeat<J> = Seat<ByteText, i64, NoQuery, J>;
 
 impl<C: Clock> Client<ByteText, i64, NoQuery> for Visitor<'_, C> {
     type Out = Result<Did, Fault>;
@@ -87,12 +87,12 @@ impl<C: Clock> Client<ByteText, i64, NoQuery> for Visitor<'_, C> {
 
     ghost gives = { λ _ _ _. ⊤ };
 
-    fn run<J: Room, R: Threads + Wait + Sync>(
+    fn run<J: JournalName, R: Threads + Wait + Sync>(
         self,
         rt: &R,
         alloc: Global,
         map: &Shared<J>,
-        seat: &mut Desk<J>,
+        seat: &mut ClientSeat<J>,
     ) -> Result<Did, Fault> {
         let Visitor { meeting, part } = self;
         match part {
@@ -110,11 +110,11 @@ impl<C: Clock> Client<ByteText, i64, NoQuery> for Visitor<'_, C> {
 }
 
 /// Opens and fills the map where no other client has begun to, and else waits until it is filled.
-fn prepare<J: Room, R: Wait, C>(
+fn prepare<J: JournalName, R: Wait, C>(
     rt: &R,
     alloc: Global,
     map: &Shared<J>,
-    seat: &mut Desk<J>,
+    seat: &mut ClientSeat<J>,
     meeting: &Meeting<'_, C>,
 ) -> Result<(), Fault> {
     match map.call(rt, seat, Call::Open(MAP)) {
@@ -132,11 +132,11 @@ fn prepare<J: Room, R: Wait, C>(
 }
 
 /// Maps each key to its number.
-fn fill<J: Room, R: Wait>(
+fn fill<J: JournalName, R: Wait>(
     rt: &R,
     alloc: Global,
     map: &Shared<J>,
-    seat: &mut Desk<J>,
+    seat: &mut ClientSeat<J>,
     keys: &[Arc<ByteText>],
 ) -> Result<(), Fault> {
     for (number, key) in keys.iter().enumerate() {
@@ -157,11 +157,11 @@ fn wait_until<R: Wait>(rt: &R, so: &AtomicBool) {
 
 /// Makes puts until all readers have ended, or the journal has no more entries for them. A put gives a random key
 /// the value that it has.
-fn write<J: Room, R: Wait, C>(
+fn write<J: JournalName, R: Wait, C>(
     rt: &R,
     alloc: Global,
     map: &Shared<J>,
-    seat: &mut Desk<J>,
+    seat: &mut ClientSeat<J>,
     meeting: &Meeting<'_, C>,
 ) -> Result<(), Fault> {
     prepare(rt, alloc, map, seat, meeting)?;
@@ -182,11 +182,11 @@ fn write<J: Room, R: Wait, C>(
 }
 
 /// Takes a view and makes the gets on it, at random keys.
-fn read<J: Room, R: Wait, C: Clock>(
+fn read<J: JournalName, R: Wait, C: Clock>(
     rt: &R,
     alloc: Global,
     map: &Shared<J>,
-    seat: &mut Desk<J>,
+    seat: &mut ClientSeat<J>,
     meeting: &Meeting<'_, C>,
     order: u64,
 ) -> Result<Reading, Fault> {
@@ -198,7 +198,7 @@ fn read<J: Room, R: Wait, C: Clock>(
     Ok(Reading { began, ended, sum })
 }
 
-/// The sum of the values that so many gets give.
+/// The sum of the values that `gets` gets return.
 fn get_all(view: &View<ByteText, i64>, keys: &[Arc<ByteText>], gets: u32, order: u64) -> i64 {
     let mut sum = 0i64;
     let mut state = order.wrapping_add(1);

@@ -12,9 +12,9 @@ use std::thread::{Promise, Scope, Threads};
 
 /// Does the work with each job, and gives what it came to in the order of the jobs.
 ///
-/// Each job has a thread of its own, with a stack of so many bytes, rounded up to a multiple of 128 KiB; the first is
-/// done by the caller's thread. A job whose thread cannot be started, or for whose thread there is not the address space,
-/// is done by the caller's thread after those before it.
+/// Each job has a thread of its own, with a stack of `stack` bytes, rounded up to a multiple of 128 KiB; the first is
+/// done by the caller's thread. A job whose thread cannot be started, or for whose thread there is not the address
+/// space, is done by the caller's thread after those before it.
 ///
 /// On `Err`, which means that memory ran out, the results are dropped, and some jobs may have been dropped with no call.
 /// The caller's stack grows by some hundred bytes for each job.

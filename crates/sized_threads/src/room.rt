@@ -7,7 +7,7 @@ use std::alloc::{AllocError, Global};
 // multiple of that.
 const HEAP: usize = 128 << 20;
 
-/// How many threads with a stack of so many bytes there is address space for, up to so many.
+/// How many threads with a stack of `stack` bytes there is address space for, at most `most`.
 ///
 /// It asks for a block of the stack's size and 128 MiB for each thread, and for one more, which is left to all else. It
 /// counts the blocks that it gets, and gives all of them back. No byte of them is touched, so they take address space and

@@ -16,7 +16,7 @@ const TOO_LARGE: usize = usize::MAX;
 // A small one.
 const SMALL: usize = 128 * 1024;
 
-// Tells how often it was done, and gives the job's number with a one behind it.
+// Counts how often it was done, and returns the job's number with a one behind it.
 #[derive(Drop)]
 struct Counted<'a>(&'a AtomicU64);
 
@@ -59,7 +59,7 @@ impl<R: Wait> Work for Met<'_, R> {
     }
 }
 
-// What comes of so many jobs with such stacks, and how often the work was done.
+// The results of the jobs, each with a stack of `stack` bytes, and how often the work was done.
 fn done_of<R: Threads + Wait + Sync>(
     rt: &R,
     alloc: Global,

@@ -11,7 +11,7 @@ pub trait Work {
     /// What it asks of its caller.
     ghost needs: { Self → Self.Job → Type 0 };
 
-    /// What it tells its caller of what it comes to.
+    /// What it guarantees its caller of the result.
     ghost gives: { Self → Self.Job → Self.Out → Type 0 };
 
     /// Does it with this job.

@@ -10,7 +10,7 @@ use Rattle.std.specs.FinMap.{find}
 use Rattle.hash_path.specs.Digits.{fan_out, last_level}
 use Rattle.trie_shape.specs.Tree.{Tree, branch, more_trees, no_trees, entries, AreTries, IsTrie, HasTwoWords, KeysHaveDigit}
 use Rattle.trie_shape.proofs.Finds.{tied}
-use Rattle.trie_node.proofs.Splits.{one_digit, digits_of_one}
+use Rattle.trie_copy.proofs.Splits.{one_digit, digits_of_one}
 
 module _ {K V : Type 0} (R : K → K → Ordering) (path : K → ℕ) where
   -- what is true of all keys is true of each that is found

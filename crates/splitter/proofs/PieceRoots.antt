@@ -18,7 +18,7 @@ use Rattle.iter.specs.Intervals.{part}
 use Rattle.iter.specs.Subtries.{children_between, pairs_of_all}
 use Rattle.iter.specs.declared.interval.Interval.{Interval}
 use Rattle.splitter.specs.Places.{IsPlace}
-use Rattle.trie_node.proofs.Splits.{one_digit}
+use Rattle.trie_copy.proofs.Splits.{one_digit}
 use Rattle.splitter.proofs.Divisions.{all_between}
 use Rattle.splitter.proofs.OneChild.{above_trie, all_found}
 

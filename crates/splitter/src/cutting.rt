@@ -7,7 +7,7 @@ use crate::outcome::Cut;
 use crate::piece::Piece;
 use hash_path::PathKey;
 
-/// Cuts a piece at its cut point, where it has one. For want of memory the piece comes back.
+/// Cuts a piece at its cut point, where it has one. If memory runs out, the piece is returned as the error.
 pub fn cut<K: PathKey + Drop, V: Drop>(
     piece: Piece<K, V>,
     grain: u64,

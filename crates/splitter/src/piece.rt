@@ -31,19 +31,14 @@ pub struct Piece<K: PathKey, V> {
 }
 
 impl<K: PathKey, V> Model for Piece<K, V> {
-    ghost use Rattle.std.specs.Prelude.{◌≡◌, ◌≤◌, ◌^◌, length, MatchOption};
-    ghost use Rattle.hash_path.specs.Digits.{word_bits};
-    ghost use Rattle.trie_shape.specs.Map.{IsMap};
-    ghost use Rattle.trie_shape.specs.View.{tree};
-    ghost use Rattle.iter.specs.Intervals.{part, whole};
-    ghost use Rattle.splitter.specs.Places.{IsPlace};
     ghost use Rattle.splitter.specs.Portion.{Portion};
+    ghost use Rattle.splitter.specs.Spots.{IsPortion};
 
     ghost Value = { Portion K V };
 
     ghost view = { λ a. record { map = a.view; interval = a.interval } };
 
-    ghost invariant = { λ a. (a.interval.lo ≤ a.interval.hi) × (a.interval.hi ≤ 2 ^ word_bits) × IsMap K.cmp a.view × (a.count ≡ length (part K.path_of a.view a.interval)) × MatchOption a.place (a.interval ≡ whole) (λ p. IsPlace K.cmp K.path_of a.view a.interval (tree p.branch) p.bitmap p.level p.base p.from p.to) };
+    ghost invariant = { λ a. IsPortion K.cmp K.path_of a.view a.interval a.count a.place };
 }
 
 /// The piece of all pairs of the view. It makes no request for memory.

@@ -24,7 +24,7 @@ Belongs path H d k v = H k v × (first_digit path k ≡ d)
 abbrev pub IsStripe : {K V : Type 0} → (K → K → Ordering) → (K → ℕ) → (K → V → Type 0) → ℕ → Contents K V → Type 0
 IsStripe R path H d c = (c.limit ≡ MOST_PAIRS_OF_STRIPE) × AllKeep R (Belongs path H d) c.entries
 
--- why a put may be refused: there are as many pairs as there may be, or memory is wanting
+-- why a put may be refused: there are as many pairs as there may be, or memory runs out
 abbrev pub IsPutRefusal : Refusal → Type 0
 IsPutRefusal Full = Unit {0}
 IsPutRefusal NoMemory = Unit {0}

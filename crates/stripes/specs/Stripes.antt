@@ -23,8 +23,8 @@ all_differ (n ∷ ns) = not (list_any (λ other. n == other) ns) && all_differ n
 
 module _ {K V : Type 0} where
   -- the map has no pairs and the limit of a stripe
-  abbrev pub IsBlank : Contents K V → Type 0
-  IsBlank c = (c.entries ≡ []) × (c.limit ≡ MOST_PAIRS_OF_STRIPE)
+  abbrev pub IsEmptyMap : Contents K V → Type 0
+  IsEmptyMap c = (c.entries ≡ []) × (c.limit ≡ MOST_PAIRS_OF_STRIPE)
 
   -- the first digits of stripes
   abbrev pub digits_of : List (Content K V) → List ℕ

@@ -6,14 +6,14 @@ ghost use Rattle.stripes.specs.Stripes.{digits_of, up_to};
 
 use crate::keeps::Keeps;
 use crate::marks::Marks;
-use crate::row::{Held, Row, pushed};
 use crate::stripe::{STRIPES, Stripe};
+use crate::stripes::{Guards, Stripes, pushed};
 use hash_path::PathKey;
 use std::alloc::Global;
 use std::sync::{Arc, MutexGuard, Wait};
 use trie_node::NoMemory;
 
-/// New marks, with room for the marks that stripes had before: what `Row::all_marked` needs.
+/// New marks, with room for the marks that stripes had before: what `Stripes::all_marked` needs.
 ///
 /// It has to be dropped when no stripe is held, since the marks before may be dropped with it.
 #[derive(Drop)]
@@ -51,7 +51,7 @@ impl Marking {
     }
 }
 
-impl<K: PathKey + Drop, V: Drop, P: Keeps<K, V>> Row<K, V, P> {
+impl<K: PathKey + Drop, V: Drop, P: Keeps<K, V>> Stripes<K, V, P> {
     /// All stripes, as by `all`. Each is marked by the new marks from then on. The marks that it had before have ended
     /// once it is held: they tell of no later write.
     ///
@@ -61,7 +61,7 @@ impl<K: PathKey + Drop, V: Drop, P: Keeps<K, V>> Row<K, V, P> {
         rt: &R,
         alloc: Global,
         marking: &mut Marking,
-    ) -> Result<Held<'_, K, V, P>, NoMemory>
+    ) -> Result<Guards<'_, K, V, P>, NoMemory>
         ensures { IfOk result (λ held. digits_of (map mutex_guard_value held.items) ≡ up_to fan_out) }
     {
         let mut held = Vec::with_capacity(alloc, STRIPES as usize)?;

@@ -9,16 +9,16 @@ ghost use Rattle.versions.specs.Map.{union, value_at};
 ghost use Rattle.versions.specs.declared.version.TheConstants.{MOST_PAIRS};
 
 use crate::keeps::Keeps;
-use crate::row::Held;
 use crate::stripe::{MOST_PAIRS_OF_STRIPE, Stripe};
+use crate::stripes::Guards;
 use hash_path::PathKey;
 use std::alloc::Global;
 use trie_node::{NoMemory, union_of_maps};
 use united_roots::RootRow;
 use versions::{MOST_PAIRS, Version, law_of_equal_maps};
 
-/// The map of the pairs of all stripes that are held, which are let go before its root is made. At each key it has
-/// exactly what the stripe of the key's first digit has. Each pair keeps the rule.
+/// The map of the pairs of all stripes that are held. Their locks are released before its root is made. At each key it
+/// has exactly what the stripe of the key's first digit has. Each pair keeps the rule.
 ///
 /// Stripes of different digits share no subtrie below the root, so their map's root has the children of their roots:
 /// this makes one branch, however many pairs there are. While the stripes are held it makes no request for memory, since
@@ -26,7 +26,7 @@ use versions::{MOST_PAIRS, Version, law_of_equal_maps};
 pub fn joined<K: PathKey + Drop, V: Drop, P: Keeps<K, V>>(
     alloc: Global,
     room: RootRow<K, V>,
-    held: Held<'_, K, V, P>,
+    held: Guards<'_, K, V, P>,
 ) -> Result<Version<K, V>, NoMemory>
     requires empty { room.entries ≡ [] }
     requires few { length held.items ≤ fan_out }
@@ -45,7 +45,7 @@ pub fn joined<K: PathKey + Drop, V: Drop, P: Keeps<K, V>>(
 // The children of the roots of all stripes that are held.
 fn children<K: PathKey + Drop, V: Drop, P: Keeps<K, V>>(
     mut row: RootRow<K, V>,
-    held: &Held<'_, K, V, P>,
+    held: &Guards<'_, K, V, P>,
 ) -> Result<RootRow<K, V>, NoMemory>
     requires empty { row.entries ≡ [] }
     requires few { length held.now.items ≤ fan_out }

@@ -11,7 +11,7 @@ mod deciding;
 mod marking;
 mod reading;
 
-use crate::blank::Blank;
+use crate::empty_map::EmptyMap;
 use crate::keeps::{Anything, Keeps};
 use crate::marks::{Marks, mark};
 use hash_path::{FAN_OUT, Path, PathKey, Sought};
@@ -93,8 +93,8 @@ impl<K: PathKey + Drop, V: Drop, P: Keeps<K, V>> Stripe<K, V, P> {
     /// Maps the key to the value where the condition holds of the value that the key has, and answers that value and
     /// whether the stripe was written.
     ///
-    /// It is refused as `Full` where the condition holds, the key is new and there are as many pairs as there may be,
-    /// and as `NoMemory` for want of memory. The stripe is then as before.
+    /// The error is `Full` where the condition holds, the key is new and there are as many pairs as there may be, and
+    /// `NoMemory` if memory runs out. The stripe is then as before.
     pub fn put_where<C: Condition<V>>(
         &mut self,
         alloc: Global,
@@ -107,8 +107,8 @@ impl<K: PathKey + Drop, V: Drop, P: Keeps<K, V>> Stripe<K, V, P> {
         requires path { path.0 ≡ K.path_of key.value }
         requires place { digit_of K.path_of key.value ≡ self.old.digit }
         ensures before { IfOk result (λ change. option_map arc_value change.previous ≡ value_at K.cmp self.old.entries key.value) }
-        ensures done { IfOk result (λ change. change.done ≡ C.holds condition.now (value_at K.cmp self.old.entries key.value)) }
-        ensures entries { IfOk result (λ change. self.new.entries ≡ (if change.done then with_pair K.cmp self.old.entries key.value value.value else self.old.entries)) }
+        ensures written { IfOk result (λ change. change.written ≡ C.holds condition.now (value_at K.cmp self.old.entries key.value)) }
+        ensures entries { IfOk result (λ change. self.new.entries ≡ (if change.written then with_pair K.cmp self.old.entries key.value value.value else self.old.entries)) }
         ensures digit { self.new.digit ≡ self.old.digit }
         ensures full { FullExactly result (C.holds condition.now None && is_full_for K.cmp MOST_PAIRS_OF_STRIPE self.old.entries key.value) }
         ensures err { OnErr result (self.new ≡ self.old) }
@@ -118,14 +118,14 @@ impl<K: PathKey + Drop, V: Drop, P: Keeps<K, V>> Stripe<K, V, P> {
         let change = self
             .version
             .put_where_along(alloc, key, path, value, condition)?;
-        mark(&self.marks, path, change.done);
+        mark(&self.marks, path, change.written);
         Ok(change)
     }
 
     /// Removes the key where it is there and the condition holds of its value, and answers the value that it had and
     /// whether the stripe was written.
     ///
-    /// It is refused for want of memory alone, and the stripe is then as before.
+    /// The only error is `NoMemory`, if memory runs out. The stripe is then as before.
     pub fn remove_where<Q: Sought<K>, C: Condition<V>>(
         &mut self,
         alloc: Global,
@@ -136,8 +136,8 @@ impl<K: PathKey + Drop, V: Drop, P: Keeps<K, V>> Stripe<K, V, P> {
         requires path { path.0 ≡ K.path_of (Q.key_of key) }
         requires place { digit_of K.path_of (Q.key_of key) ≡ self.old.digit }
         ensures before { IfOk result (λ change. option_map arc_value change.previous ≡ value_at K.cmp self.old.entries (Q.key_of key)) }
-        ensures done { IfOk result (λ change. change.done ≡ (is_some (value_at K.cmp self.old.entries (Q.key_of key)) && C.holds condition.now (value_at K.cmp self.old.entries (Q.key_of key)))) }
-        ensures entries { IfOk result (λ change. self.new.entries ≡ (if change.done then without K.cmp self.old.entries (Q.key_of key) else self.old.entries)) }
+        ensures written { IfOk result (λ change. change.written ≡ (is_some (value_at K.cmp self.old.entries (Q.key_of key)) && C.holds condition.now (value_at K.cmp self.old.entries (Q.key_of key)))) }
+        ensures entries { IfOk result (λ change. self.new.entries ≡ (if change.written then without K.cmp self.old.entries (Q.key_of key) else self.old.entries)) }
         ensures digit { self.new.digit ≡ self.old.digit }
         ensures err { OnErr result (self.new ≡ self.old) }
         ensures kept { IfOk result (λ change. IfSome change.previous (λ value. P.holds (Q.key_of key) value.value)) }
@@ -146,7 +146,7 @@ impl<K: PathKey + Drop, V: Drop, P: Keeps<K, V>> Stripe<K, V, P> {
         let change = self
             .version
             .remove_where_along(alloc, key, path, condition)?;
-        mark(&self.marks, path, change.done);
+        mark(&self.marks, path, change.written);
         Ok(change)
     }
 
@@ -172,8 +172,8 @@ impl<K: PathKey + Drop, V: Drop, P: Keeps<K, V>> Stripe<K, V, P> {
         Ok(self.put_where(alloc, key, path, value, &Always)?.previous)
     }
 
-    /// Removes the key, and answers the value before, or none. It is refused for want of memory alone, and the stripe
-    /// is then as before.
+    /// Removes the key, and answers the value before, or none. The only error is `NoMemory`, if memory runs out. The
+    /// stripe is then as before.
     pub fn remove<Q: Sought<K>>(
         &mut self,
         alloc: Global,
@@ -194,13 +194,13 @@ impl<K: PathKey + Drop, V: Drop, P: Keeps<K, V>> Stripe<K, V, P> {
         Ok(before)
     }
 
-    /// Removes all pairs. The stripe's marks end before, and are let go.
-    pub fn clear(&mut self, blank: Blank<K, V>)
+    /// Removes all pairs. The stripe's marks end before that, and are dropped.
+    pub fn clear(&mut self, empty: EmptyMap<K, V>)
         ensures entries { self.new.entries ≡ [] }
         ensures digit { self.new.digit ≡ self.old.digit }
     {
         self.end_marks();
-        self.version = blank.into_map();
+        self.version = empty.into_map();
     }
 
     /// What each pair of the stripe keeps: the rule, and the stripe's first digit. It does nothing.

@@ -6,5 +6,5 @@ pub use Rattle.trie_map.specs.Meanings
 pub use Rattle.trie_map.specs.Queries
 pub use Rattle.trie_map.specs.Questions
 pub use Rattle.trie_map.specs.Rules
-pub use Rattle.trie_map.specs.Told
+pub use Rattle.trie_map.specs.Summaries
 pub use Rattle.trie_map.specs.Updates

@@ -14,8 +14,8 @@ pub use handles::{
 pub use hash_path::Path;
 pub use iter::{Pairs, pairs};
 pub use locked_map::{
-    Asked, Client, Closed, Crew, Entry, Free, Gate, Journal, MOST_SEATS, NoJournal, Room, Seat,
-    SharedMap, Ticket, Told, Torn, Use, with, with_clients,
+    Asked, Client, Closed, Crew, Entry, Free, Gate, Journal, JournalName, MOST_SEATS, NoJournal,
+    Response, Seat, SharedMap, Ticket, Torn, Use, with, with_clients,
 };
 pub use task_pool::ask_crew;
 pub use trie_map::{

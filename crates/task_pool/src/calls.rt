@@ -19,8 +19,8 @@ use crate::threads::run_workers;
 use combiner::Bulk;
 use hash_path::PathKey;
 use iter::Interval;
-use ruled_deques::{Deques, Owner, open_all, share_out};
-use splitter::whole;
+use ruled_deques::{Deques, MOST_DEQUES, Owner, open_all, share_out};
+use splitter::{MOST_GRAIN, MOST_WORKERS, whole};
 use std::alloc::Global;
 use std::marker::Brand;
 use std::snapshot::Snapshot;
@@ -46,9 +46,9 @@ where
     G: Gate + Sync,
     R: Threads + Wait + Sync,
     requires least_workers { 1 ≤ crew.workers }
-    requires most_workers { crew.workers ≤ 16 }
+    requires most_workers { crew.workers ≤ MOST_WORKERS }
     requires least_grain { 1 ≤ crew.grain }
-    requires most_grain { crew.grain ≤ 65536 }
+    requires most_grain { crew.grain ≤ MOST_GRAIN }
     requires ready { B.ready bulk.now }
     ensures { IfOk result (λ report. IsReport K.path_of (B.answers bulk.now) (B.decides bulk.now) view.now crew.grain crew.workers report.part (map (λ list. list.items) report.lists.items)) }
 {
@@ -73,7 +73,7 @@ where
     G: Gate + Sync,
     R: Threads + Wait + Sync,
     requires least_workers { 1 ≤ crew.workers }
-    requires workers { crew.workers ≤ 16 }
+    requires workers { crew.workers ≤ MOST_WORKERS }
     requires least_grain { 1 ≤ crew.grain }
     requires grain { crew.grain ≡ C.grain }
     requires view { view.now ≡ C.map }
@@ -118,7 +118,7 @@ where
     requires bulk { Some bulk.now ≡ C.bulk }
     requires ready { B.ready bulk.now }
     requires first { first.now.value ≡ whole }
-    requires count { (length owners.items ≡ D.count) × (0 < D.count) × (D.count ≤ 16) }
+    requires count { (length owners.items ≡ D.count) × (0 < D.count) × (D.count ≤ MOST_DEQUES) }
     requires each { (i : ℕ) (d : _) → i < length owners.items → IsOpened (D.deque i) (given whole i) (slice_index_or owners.items i d) }
     ensures len { IfOk result (λ r. length r.partials.items ≡ length owners.items) }
     ensures balance { IfOk result (λ r. (p : ℕ) → cover (given whole 0) p ≡ sum_by (λ t. cover t p) r.partials.items + cover r.leftover.items p) }

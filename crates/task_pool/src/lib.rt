@@ -18,6 +18,7 @@ mod worker;
 
 pub use asking::ask_crew;
 pub use calls::run_crew;
-pub use crew::{Crew, MOST_GRAIN, MOST_WORKERS};
+pub use crew::Crew;
 pub use gate::{Free, Gate};
 pub use report::Report;
+pub use splitter::{MOST_GRAIN, MOST_WORKERS};

@@ -1,4 +1,4 @@
-//! Want of memory: every request refused, or all but some.
+//! Refuses every request for memory, or all but some.
 //!
 //! It takes the whole address space in blocks that nobody touches, so it costs little memory. It needs the C
 //! library's allocator as a test is built with it: an address sanitizer's keeps memory of its own aside.
@@ -77,7 +77,18 @@ impl Shortage {
         })
     }
 
-    /// Gives so many bytes more, next to those that were given. There are 122,880 in all.
+    /// No memory is left but for `bytes` bytes next to one another.
+    ///
+    /// # Errors
+    ///
+    /// There is no memory for the list of what is taken, or those bytes could not be given.
+    pub fn with_bytes(alloc: Global, bytes: usize) -> Result<Shortage, AllocError> {
+        let mut shortage = Shortage::new(alloc)?;
+        shortage.give(alloc, bytes)?;
+        Ok(shortage)
+    }
+
+    /// Gives `bytes` bytes more, next to those that were given. There are 122,880 in all.
     ///
     /// # Errors
     ///
@@ -90,8 +101,8 @@ impl Shortage {
     }
 }
 
-/// So many pairs of blocks of the two sizes in turn, the last of the first size. Taken before all memory, each that
-/// is dropped then is room for one request of its size.
+/// `pairs` pairs of blocks of the two sizes in turn, the last of the first size. Taken before all memory, each that is
+/// dropped then is room for one request of its size.
 ///
 /// # Errors
 ///

@@ -67,7 +67,7 @@ fn ran<R: AllocGlobal + Abort + Threads + Wait + Sync, G: LineGate + Sync>(
     (out, journal)
 }
 
-/// So many lines: the first one, and the other one again and again.
+/// `count` lines: the first one, and the other one again and again.
 fn lines(alloc: Global, first: &[u8], other: &[u8], count: u32) -> Result<Vec<u8>, AllocError> {
     let mut script = Vec::from_slice(alloc, first)?;
     for _ in 1..count {
@@ -86,7 +86,7 @@ fn assert_is<T: PartialEq + Debug + Drop>(rt: &impl Abort, seen: T, want: T) {
     assert_eq!(rt; seen, want);
 }
 
-/// The same for texts.
+/// The text that is seen is what is wanted.
 fn assert_text(rt: &impl Abort, seen: &str, want: &str) {
     assert_eq!(rt; seen, want);
 }

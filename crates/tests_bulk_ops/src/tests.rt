@@ -141,7 +141,7 @@ fn first(rt: &impl Abort, alloc: Global, number: usize) -> View<ChosenKey, i64> 
     map.view().expect(rt, "no view")
 }
 
-// So many pairs, at most 2,000, numbered from 0. Every second has the path word 7, so that half of them share a bucket.
+// `count` pairs, at most 2,000, numbered from 0. Every second has the path word 7, so that half of them share a bucket.
 fn many(rt: &impl Abort, alloc: Global, count: u32) -> View<ChosenKey, i64> {
     let mut map: Map = Version::empty(alloc, 2_000, Stamp(1)).expect(rt, "no map");
     for id in 0..count {
@@ -222,10 +222,10 @@ fn joined<K: PathKey + Drop, V: Drop, B: Bulk<K, V>>(
     bulk.join(alloc, &below, &above).expect(rt, "no join")
 }
 
-// What is told by an answer or by a part, as plain values: of a map, how many pairs it has and what it has at the three
-// keys; of a pair that was found, the number of its key and its value.
+// An answer or a part, as plain values: of a map, how many pairs it has and what it has at the three keys; of a pair
+// that was found, the number of its key and its value.
 #[derive(Clone, Copy, Drop, PartialEq, Eq)]
-enum Told {
+enum Plain {
     Number(u64),
     Truth(bool),
     Found(Option<(u32, i64)>),
@@ -233,30 +233,30 @@ enum Told {
     Item(ThreeItems),
 }
 
-// What the answer tells, beside the map that is made where there is one.
+// The answer as a plain value, with the contents of the map that is made where there is one.
 fn told_by(
     rt: &impl Abort,
     answer: &Answer<ChosenKey, i64, ThreeItems>,
     made: &Option<Map>,
-) -> Told {
+) -> Plain {
     match answer {
-        Answer::Count(number) => Told::Number(*number),
-        Answer::Truth(truth) => Told::Truth(*truth),
-        Answer::Found(found) => Told::Found(plainly(found)),
-        Answer::Made(number) => Told::Made(*number, contents(rt, made)),
-        Answer::Item(item) => Told::Item(*item),
+        Answer::Count(number) => Plain::Number(*number),
+        Answer::Truth(truth) => Plain::Truth(*truth),
+        Answer::Found(found) => Plain::Found(plainly(found)),
+        Answer::Made(number) => Plain::Made(*number, contents(rt, made)),
+        Answer::Item(item) => Plain::Item(*item),
         Answer::Images(_) => panic!(rt; "images that were not asked for"),
     }
 }
 
 // The same of a part.
-fn told_of(rt: &impl Abort, part: &Part<ChosenKey, i64, ThreeItems>) -> Told {
+fn told_of(rt: &impl Abort, part: &Part<ChosenKey, i64, ThreeItems>) -> Plain {
     match part {
-        Part::Number(number) => Told::Number(*number),
-        Part::Truth(truth) => Told::Truth(*truth),
-        Part::Found(found) => Told::Found(plainly(found)),
-        Part::Made(map) => Told::Made(map.len(), at_three(map)),
-        Part::Item(item) => Told::Item(*item),
+        Part::Number(number) => Plain::Number(*number),
+        Part::Truth(truth) => Plain::Truth(*truth),
+        Part::Found(found) => Plain::Found(plainly(found)),
+        Part::Made(map) => Plain::Made(map.len(), at_three(map)),
+        Part::Item(item) => Plain::Item(*item),
         Part::Images(_, _) => panic!(rt; "images that were not asked for"),
     }
 }
@@ -277,8 +277,8 @@ fn contents(rt: &impl Abort, made: &Option<Map>) -> Contents {
     }
 }
 
-// What the query is told of so many of the three pairs. A map is made where there is a handle for it.
-fn told_of_first(rt: &impl Abort, alloc: Global, number: usize, query: &Asked) -> Told
+// The answer to the query about the first `number` of the three pairs. A map is made where there is a handle for it.
+fn told_of_first(rt: &impl Abort, alloc: Global, number: usize, query: &Asked) -> Plain
     requires { ⟦<Asked as Bulk<ChosenKey, i64>>⟧.ready query.now }
 {
     let view = first(rt, alloc, number);
@@ -287,8 +287,8 @@ fn told_of_first(rt: &impl Abort, alloc: Global, number: usize, query: &Asked) -
     told_by(rt, &answer, &made)
 }
 
-// What it is told of the two pieces of a cut.
-fn told_of_two(rt: &impl Abort, alloc: Global, query: &Asked) -> Told
+// The answer to it about the two pieces of a cut.
+fn told_of_two(rt: &impl Abort, alloc: Global, query: &Asked) -> Plain
     requires { ⟦<Asked as Bulk<ChosenKey, i64>>⟧.ready query.now }
 {
     let view = first(rt, alloc, 3);
@@ -300,13 +300,14 @@ fn assert_is<T: PartialEq + Debug + Drop>(rt: &impl Abort, seen: T, want: T) {
     assert_eq!(rt; seen, want);
 }
 
-// This is told.
-fn assert_told(rt: &impl Abort, told: Option<Told>, want: Told) {
+// The answer is this one.
+fn assert_told(rt: &impl Abort, told: Option<Plain>, want: Plain) {
     assert!(rt; told == Some(want));
 }
 
-// The query is told this of all three pairs, of the two pieces of a cut, and of one of them that grew by the other.
-fn assert_tells(rt: &impl Abort, alloc: Global, query: &Asked, want: Told)
+// The query has this answer about all three pairs, about the two pieces of a cut, and about one of them that grew by
+// the other.
+fn assert_tells(rt: &impl Abort, alloc: Global, query: &Asked, want: Plain)
     requires { ⟦<Asked as Bulk<ChosenKey, i64>>⟧.ready query.now }
 {
     assert_told(rt, Some(told_of_first(rt, alloc, 3, query)), want);
@@ -325,9 +326,9 @@ fn numbers_and_truths(rt: HostRuntime) {
         (4, 3, true, true),
     ];
     for (id, count, exists, for_all) in table {
-        assert_tells(&rt, alloc, &Asked::Count(below(id)), Told::Number(count));
-        assert_tells(&rt, alloc, &Asked::Exists(below(id)), Told::Truth(exists));
-        assert_tells(&rt, alloc, &Asked::ForAll(below(id)), Told::Truth(for_all));
+        assert_tells(&rt, alloc, &Asked::Count(below(id)), Plain::Number(count));
+        assert_tells(&rt, alloc, &Asked::Exists(below(id)), Plain::Truth(exists));
+        assert_tells(&rt, alloc, &Asked::ForAll(below(id)), Plain::Truth(for_all));
     }
 }
 
@@ -335,9 +336,9 @@ fn numbers_and_truths(rt: HostRuntime) {
 fn no_pairs_pass_all_and_none(rt: HostRuntime) {
     let alloc = rt.alloc();
     let all = told_of_first(&rt, alloc, 0, &Asked::ForAll(below(0)));
-    assert_told(&rt, Some(all), Told::Truth(true));
+    assert_told(&rt, Some(all), Plain::Truth(true));
     let some = told_of_first(&rt, alloc, 0, &Asked::Exists(below(4)));
-    assert_told(&rt, Some(some), Told::Truth(false));
+    assert_told(&rt, Some(some), Plain::Truth(false));
 }
 
 // Key 1 alone passes below 2, in the upper piece; no key passes below 1.
@@ -345,7 +346,7 @@ fn no_pairs_pass_all_and_none(rt: HostRuntime) {
 fn pairs_that_pass(rt: HostRuntime) {
     let alloc = rt.alloc();
     for (id, want) in [(1, None), (2, Some((1, i64::MIN)))] {
-        assert_tells(&rt, alloc, &Asked::Find(below(id)), Told::Found(want));
+        assert_tells(&rt, alloc, &Asked::Find(below(id)), Plain::Found(want));
     }
 }
 
@@ -353,13 +354,13 @@ fn pairs_that_pass(rt: HostRuntime) {
 fn maps_that_are_made(rt: HostRuntime) {
     let alloc = rt.alloc();
     let two = (Some(i64::MAX), None, Some(i64::MIN));
-    assert_tells(&rt, alloc, &Asked::Filter(below(3), 9), Told::Made(2, two));
+    assert_tells(&rt, alloc, &Asked::Filter(below(3), 9), Plain::Made(2, two));
     let three = (Some(4), Some(4), Some(4));
     assert_tells(
         &rt,
         alloc,
         &Asked::MapValues(instead(4), 9),
-        Told::Made(3, three),
+        Plain::Made(3, three),
     );
 }
 
@@ -377,7 +378,7 @@ fn sums_and_extremes(rt: HostRuntime) {
     ];
     for (number, want) in table {
         let told = told_of_first(&rt, alloc, number, &query);
-        assert_told(&rt, Some(told), Told::Item(want));
+        assert_told(&rt, Some(told), Plain::Item(want));
     }
-    assert_tells(&rt, alloc, &query, Told::Item(SUMS));
+    assert_tells(&rt, alloc, &query, Plain::Item(SUMS));
 }

@@ -8,12 +8,12 @@ use Rattle.std.specs.FinMap.Entries.{find-put}
 use Rattle.versions.specs.Map.{Map}
 use Rattle.versions.specs.Commands as commands
 use Rattle.bulk_ops.specs.Answers as plain
-use Rattle.bulk_ops.specs.Told.{told_of}
+use Rattle.bulk_ops.specs.Summaries.{summary_of}
 use Rattle.bulk_ops.specs.declared.asks.Answer.{Answer}
 use Rattle.handles.specs.Machine.{State, Job, on, freeze, finish, replied, frozen, finished, held_by, map_at}
 use Rattle.held_maps.specs.declared.reply.Reply.TheVariants as replies
 use Rattle.handles.specs.declared.call_reply.CallReply.TheVariants as call_replies
-use Rattle.core_steps.specs.Cores.{CoreState, Asked, of_client, Told, to_client, Division, CoreStep}
+use Rattle.core_steps.specs.Cores.{CoreState, Asked, of_client, CoreOutcome, to_client, Division, CoreStep}
 use Rattle.core_steps.specs.Parts.{CoreValue}
 use Rattle.core_steps.specs.Queries.{asked}
 use Rattle.core_steps.specs.Steps.{StepsTo, Ran}
@@ -25,8 +25,8 @@ use Rattle.tests_core_steps.proofs.Numbers.{run_keeps, freeze_gives}
 
 module _ {K V Q I : Type 0} (R : K → K → Ordering) (E : V → V → Bool) (target : Q → Option ℕ) (answered : Q → Map K V → plain.Answer K V I → Type 0) (division : Division K V Q) where
   -- a step that is told so
-  told_step : (s t : CoreState K V Q) (x : Asked K V Q) (y z : Told K V (plain.Told K V I)) → y ≡ z → CoreStep (asked R E target answered) division s x y t → CoreStep (asked R E target answered) division s x z t
-  told_step s t x y z e step = subst (λ (w : Told K V (plain.Told K V I)). CoreStep (asked R E target answered) division s x w t) e step
+  told_step : (s t : CoreState K V Q) (x : Asked K V Q) (y z : CoreOutcome K V (plain.Summary K V I)) → y ≡ z → CoreStep (asked R E target answered) division s x y t → CoreStep (asked R E target answered) division s x z t
+  told_step s t x y z e step = subst (λ (w : CoreOutcome K V (plain.Summary K V I)). CoreStep (asked R E target answered) division s x w t) e step
 
 -- the number of a reply that counts
 abbrev count_in : {V : Type 0} → commands.Reply V → ℕ
@@ -54,7 +54,7 @@ module _ {K V Q P I : Type 0} (R : K → K → Ordering) (E : V → V → Bool) 
       → (q : Q) (m : Map K V) → IsOnlyJob s.state.machine j (record { query = q; frozen = m }) → IsToldOf answered q m a
   finish_told s t j a o e is q m job =
       let so = subst (λ (p : Outcome K V I). StepsTo (asked R E target answered) division s (of_client (finish j)) p t) e is in
-      let step = told_step R E target answered division s.state t.state (of_client (finish j)) so.told (to_client (finished (told_of a))) so.shown so.step in
+      let step = told_step R E target answered division s.state t.state (of_client (finish j)) so.told (to_client (finished (summary_of a))) so.shown so.step in
       let ends = step.1.1 in
       let same = job.only ends.job ends.named in
       record {

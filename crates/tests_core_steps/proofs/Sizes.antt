@@ -2,8 +2,8 @@
 use Rattle.std.proofs.Common.{◌≡◌, ℕ, true, [], ◌∷◌, length, filter, refl, ap, sym, subst, ◌∙◌, Option, Some, None}
 use Rattle.std.specs.Prelude.{Result, Ok, Err, IfOk, IfSome}
 use Rattle.versions.specs.Map.{Map}
-use Rattle.bulk_ops.specs.Answers.{Answer, Told, answers, count, passes, told}
-use Rattle.bulk_ops.specs.Told.{told_of}
+use Rattle.bulk_ops.specs.Answers.{Answer, Summary, answers, count, passes, summary}
+use Rattle.bulk_ops.specs.Summaries.{summary_of}
 use Rattle.bulk_ops.specs.declared.asks.Answer as code
 use Rattle.bulk_ops.specs.declared.asks.Answer.TheVariants.{Count, Truth, Found, Made, Images, Item}
 use Rattle.handles.specs.Machine.{State, Job}
@@ -26,7 +26,7 @@ size_answer m (Answer.images n) e = absurd e
 size_answer m (Answer.item i) e = absurd e
 
 -- where a number is told, it is a count's
-pub tells_count : {K V I : Type 0} (a : code.Answer K V I) (n : ℕ) → told_of a ≡ Told.number n → TellsCount a
+pub tells_count : {K V I : Type 0} (a : code.Answer K V I) (n : ℕ) → summary_of a ≡ Summary.number n → TellsCount a
 tells_count (Count k) n e = tt
 tells_count (Truth b) n e = cc
 tells_count (Found x) n e = cc
@@ -34,21 +34,21 @@ tells_count (Made k) n e = cc
 tells_count (Images k) n e = cc
 tells_count (Item i) n e = cc
 
-abbrev number_in : {K V I : Type 0} → Told K V I → ℕ
-number_in (Told.number n) = n
-number_in (Told.truth b) = 0
-number_in (Told.found x) = 0
-number_in (Told.made n) = 0
-number_in (Told.images m) = 0
-number_in (Told.item i) = 0
+abbrev number_in : {K V I : Type 0} → Summary K V I → ℕ
+number_in (Summary.number n) = n
+number_in (Summary.truth b) = 0
+number_in (Summary.found x) = 0
+number_in (Summary.made n) = 0
+number_in (Summary.images m) = 0
+number_in (Summary.item i) = 0
 
-pub count_is : {K V I : Type 0} (a : code.Answer K V I) (k n : ℕ) → a ≡ Count k → told_of a ≡ Told.number n → k ≡ n
-count_is {K = K} {V = V} {I = I} a k n is e = ap (λ (b : code.Answer K V I). number_in (told_of b)) (sym is) ∙ ap (λ (t : Told K V I). number_in t) e
+pub count_is : {K V I : Type 0} (a : code.Answer K V I) (k n : ℕ) → a ≡ Count k → summary_of a ≡ Summary.number n → k ≡ n
+count_is {K = K} {V = V} {I = I} a k n is e = ap (λ (b : code.Answer K V I). number_in (summary_of b)) (sym is) ∙ ap (λ (t : Summary K V I). number_in t) e
 
 module _ {K V Q I : Type 0} (answered : Q → Map K V → Answer K V I → Type 0) (q : Q) (m : Map K V) where
   -- what is told of it is the size
-  pub size_is_told : (a : code.Answer K V I) → AsksSize answered q → IsToldOf answered q m a → told_of a ≡ Told.number (length m)
-  size_is_told a asks is = is.told_so ∙ ap (λ (x : Answer K V I). told x) (asks m is.answer is.is_answer)
+  pub size_is_told : (a : code.Answer K V I) → AsksSize answered q → IsToldOf answered q m a → summary_of a ≡ Summary.number (length m)
+  size_is_told a asks is = is.told_so ∙ ap (λ (x : Answer K V I). summary x) (asks m is.answer is.is_answer)
 
   -- what is told of a job that is the number's only one
   pub told_of_only : {E : Type 0} (s : State K V Q) (j : ℕ) (r : Result (Option (code.Answer K V I)) E) → IsOnlyJob s j (record { query = q; frozen = m })

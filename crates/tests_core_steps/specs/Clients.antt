@@ -2,7 +2,7 @@
 use Rattle.std.specs.Prelude.{◌≡◌, ℕ, ◌<◌, length, Some}
 use Rattle.versions.specs.Map.{Map}
 use Rattle.bulk_ops.specs.Answers as plain
-use Rattle.bulk_ops.specs.Told.{told_of}
+use Rattle.bulk_ops.specs.Summaries.{summary_of}
 use Rattle.bulk_ops.specs.declared.asks.Answer.{Answer}
 use Rattle.bulk_ops.specs.declared.asks.Answer.TheVariants.{Count}
 use Rattle.handles.specs.Machine.{State, Job, job_at}
@@ -22,7 +22,7 @@ module _ {K V Q I : Type 0} (answered : Q → Map K V → plain.Answer K V I →
   pub record IsToldOf (q : Q) (m : Map K V) (told : Answer K V I) : Type 0 where
     pub answer : plain.Answer K V I
     pub is_answer : answered q m answer
-    pub told_so : told_of told ≡ plain.told answer
+    pub told_so : summary_of told ≡ plain.summary answer
 
   -- the query's one answer for a map is how many pairs it has
   abbrev pub AsksSize : Q → Type 0

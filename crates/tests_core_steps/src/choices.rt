@@ -1,33 +1,13 @@
 //! Random steps, most of which have something to do.
 
-use crate::asks::{Ask, Within};
 use crate::machine::Machine;
-use crate::plans::{Do, Plan};
+use crate::plans::Plan;
 use crate::worker_states::Job;
 use core_steps::Move;
 use handles::Limits;
 use std::alloc::Global;
-use test_keys::{ChosenKey, Random};
-
-/// Words that part at each level, some of them at several.
-const WORDS: [u64; 16] = [
-    0,
-    0xc000_0000_0000_0000,
-    0x4000_0000_0000_0000,
-    0xffff_ffff_ffff_ffff,
-    0x3fff_ffff_ffff_ffff,
-    0x3eff_ffff_ffff_ffff,
-    1,
-    33,
-    0x0010_0000_0000_0001,
-    0x0110_0000_0000_0001,
-    0x0000_8000_0000_0001,
-    0x0000_8000_0000_0002,
-    0x0000_0400_0000_0000,
-    0xaf63_dc4c_8601_ec8c,
-    0xaf63_df4c_8601_f1a5,
-    0xaf63_de4c_8601_eff2,
-];
+use test_keys::{ChosenKey, PARTING_WORDS, Random};
+use test_machine::{ALL, Do, Passing, Question};
 
 /// How many keys have one word.
 const KEYS: u32 = 3;
@@ -106,7 +86,7 @@ impl Chooser {
             0 => Plan::On(self.handle(), self.command()),
             1 => Plan::View(self.handle()),
             2 => self.call(),
-            3 => Plan::Freeze(self.frozen(), self.ask()),
+            3 => Plan::Freeze(self.frozen(), self.question()),
             4 => Plan::Finish(self.job(machine)),
             5 => Plan::Abandon(self.job(machine)),
             6 => Plan::Move(self.job(machine), self.any_move(machine.workers)),
@@ -131,7 +111,7 @@ impl Chooser {
     fn key(&mut self) -> ChosenKey {
         let word = self.random.next(self.words) as usize;
         ChosenKey {
-            path: WORDS.get(word).copied().unwrap_or(0),
+            path: PARTING_WORDS.get(word).copied().unwrap_or(0),
             id: self.random.next(KEYS),
         }
     }
@@ -193,26 +173,27 @@ impl Chooser {
     }
 
     // Values between two of a few bounds, or all.
-    fn test(&mut self) -> Within {
+    fn test(&mut self) -> Passing {
         match self.random.next(4) {
-            0 => Within::ALL,
-            _ => Within {
+            0 => ALL,
+            _ => Passing {
                 least: self.value(),
                 most: self.value(),
+                odd: true,
             },
         }
     }
 
-    fn ask(&mut self) -> Ask {
+    fn question(&mut self) -> Question {
         let test = self.test();
         match self.random.next(8) {
-            0 | 1 => Ask::Count(test),
-            2 => Ask::Exists(test),
-            3 => Ask::ForAll(test),
-            4 => Ask::Find(test),
-            5 => Ask::Filter(test, self.any_handle()),
-            6 => Ask::Zeros(self.any_handle()),
-            _ => Ask::Total,
+            0 | 1 => Question::Count(test),
+            2 => Question::Exists(test),
+            3 => Question::ForAll(test),
+            4 => Question::Find(test),
+            5 => Question::Filter(test, self.any_handle()),
+            6 => Question::Zeros(self.any_handle()),
+            _ => Question::Total,
         }
     }
 
@@ -222,7 +203,7 @@ impl Chooser {
         match machine.jobs.get(number) {
             Some(job) if self.random.next(8) > 0 => job.number,
             _ => {
-                let known = u32::try_from(machine.next).unwrap_or(0);
+                let known = u32::try_from(machine.table.next).unwrap_or(0);
                 u64::from(self.random.next(known.saturating_add(2)))
             }
         }
@@ -255,7 +236,7 @@ impl Chooser {
         };
         match machine.jobs.get(number as usize) {
             Some(job) => self.lively_move(job),
-            None => Plan::Freeze(1, self.ask()),
+            None => Plan::Freeze(1, self.question()),
         }
     }
 

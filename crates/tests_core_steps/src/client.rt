@@ -1,4 +1,4 @@
-//! A client of a core, which knows the core by its contracts alone: what a count tells at last is the size that the
+//! A client of a core, which knows the core by its contracts alone: what a count returns at last is the size that the
 //! handle's map had before its freeze, whatever steps clients and workers make between the two.
 ghost use Rattle.std.specs.Prelude.{◌≡◌, All, IfOk, IfSome, length};
 ghost use Rattle.bulk_ops.specs.declared.asks.Answer.TheVariants as answers;
@@ -18,8 +18,8 @@ use std::alloc::Global;
 use std::sync::Arc;
 use trie_node::NoMemory;
 
-/// The size of the handle's map as it stands now, and what a count of all its pairs is told that is frozen then and
-/// finished after the steps: where both are told, they are equal.
+/// The size of the handle's map as it stands now, and the answer of a count of all its pairs that is frozen then and
+/// finished after the steps: where both are returned, they are equal.
 ///
 /// The steps are any steps of clients and workers: they may write to the handle, drop it, freeze other queries, work
 /// the job or close it. None where the size, the freeze or the finish is refused, or the job is unfinished.
@@ -65,7 +65,7 @@ pub fn answer_of<K: PathKey + Drop, V: Eq + Drop, Q: Asks<K, V> + Drop>(
     finished(alloc, core, job)
 }
 
-// The size of the handle's map, if it is told. The map stays.
+// The size of the handle's map, if the core returns it. The map stays.
 fn size_of<K: PathKey + Drop, V: Eq + Drop, Q: Asks<K, V> + Drop>(
     alloc: Global,
     core: &mut Core<K, V, Q>,
@@ -78,7 +78,7 @@ fn size_of<K: PathKey + Drop, V: Eq + Drop, Q: Asks<K, V> + Drop>(
     Ok(size_in(outcome))
 }
 
-// The size that an outcome tells, if it tells one.
+// The size in an outcome, if there is one.
 fn size_in<K: PathKey + Drop, V: Drop, I: Drop>(outcome: Outcome<K, V, I>) -> Option<u64>
     ensures { IfSome result (λ size. outcome ≡ outcomes.Reply (call_replies.Reply (replies.Size size))) }
 {

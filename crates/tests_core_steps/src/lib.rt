@@ -4,8 +4,6 @@
 #![tactic(auto)]
 
 #[cfg(test)]
-mod asks;
-#[cfg(test)]
 mod choices;
 #[cfg(test)]
 mod client;
@@ -14,10 +12,10 @@ mod machine;
 #[cfg(test)]
 mod maps;
 #[cfg(test)]
+mod plain_outcome;
+#[cfg(test)]
 mod plans;
 #[cfg(test)]
 mod tests;
-#[cfg(test)]
-mod told;
 #[cfg(test)]
 mod worker_states;

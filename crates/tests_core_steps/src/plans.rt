@@ -4,7 +4,6 @@ ghost use Rattle.std.specs.Prelude.{All};
 ghost use Rattle.bulk_ops.specs.Queries.{IsReady};
 ghost use Rattle.core_steps.specs.Steps.{CanAsk, asked_by};
 
-use crate::asks::{Ask, Asked, query_of};
 use core_steps::{Core, Move, Step};
 use handles::{Call, Command};
 use std::alloc::Global;
@@ -12,26 +11,13 @@ use std::panic::Expect;
 use std::process::Abort;
 use std::sync::Arc;
 use test_keys::ChosenKey;
+use test_machine::{Do, Question, Request, TestQuery, command_of, query_of};
 
 /// A core of the tests.
-pub type TestCore = Core<ChosenKey, u64, Asked>;
+pub type TestCore = Core<ChosenKey, u64, TestQuery>;
 
 /// A step of the tests.
-pub type TestStep = Step<ChosenKey, u64, Asked>;
-
-/// What is done on one map, at a key where there is one.
-#[derive(Clone, Copy)]
-pub enum Do {
-    Get(ChosenKey),
-    Put(ChosenKey, u64),
-    PutIfAbsent(ChosenKey, u64),
-    Replace(ChosenKey, u64),
-    ReplaceIf(ChosenKey, u64, u64),
-    Remove(ChosenKey),
-    RemoveIf(ChosenKey, u64),
-    Size,
-    Clear,
-}
+pub type TestStep = Step<ChosenKey, u64, TestQuery>;
 
 /// A step as a plain value.
 #[derive(Clone, Copy)]
@@ -41,7 +27,7 @@ pub enum Plan {
     Drop(u32),
     On(u32, Do),
     View(u32),
-    Freeze(u32, Ask),
+    Freeze(u32, Question),
     Finish(u64),
     Abandon(u64),
     Move(u64, Move),
@@ -55,9 +41,9 @@ pub fn step_of(rt: &impl Abort, alloc: Global, plan: Plan) -> TestStep
         Plan::Open(handle) => Step::Call(Call::Open(handle)),
         Plan::Snapshot(handle, to) => Step::Call(Call::Snapshot(handle, to)),
         Plan::Drop(handle) => Step::Call(Call::Drop(handle)),
-        Plan::On(handle, what) => Step::Call(Call::On(handle, command_of(rt, alloc, what))),
+        Plan::On(handle, what) => Step::Call(Call::On(handle, command(rt, alloc, what))),
         Plan::View(handle) => Step::View(handle),
-        Plan::Freeze(handle, ask) => Step::Freeze(handle, shared_query(rt, alloc, ask)),
+        Plan::Freeze(handle, question) => Step::Freeze(handle, shared_query(rt, alloc, question)),
         Plan::Finish(job) => Step::Finish(job),
         Plan::Abandon(job) => Step::Abandon(job),
         Plan::Move(job, chosen) => step_of_move(job, chosen),
@@ -77,10 +63,10 @@ fn step_of_move(job: u64, chosen: Move) -> TestStep
 }
 
 // The query of a question, which a job shares.
-fn shared_query(rt: &impl Abort, alloc: Global, ask: Ask) -> Arc<Asked>
+fn shared_query(rt: &impl Abort, alloc: Global, question: Question) -> Arc<TestQuery>
     ensures { IsReady result.value }
 {
-    Arc::new(alloc, query_of(ask)).expect(rt, "no query")
+    Arc::new(alloc, query_of(question)).expect(rt, "no query")
 }
 
 /// The steps of plans.
@@ -95,80 +81,24 @@ pub fn steps_of(rt: &impl Abort, alloc: Global, plans: &[Plan]) -> Vec<TestStep>
     steps
 }
 
-// A key that is shared.
-fn key_of(rt: &impl Abort, alloc: Global, key: ChosenKey) -> Arc<ChosenKey> {
-    Arc::new(alloc, key).expect(rt, "no key")
-}
-
-// A value that is shared.
-fn value_of(rt: &impl Abort, alloc: Global, value: u64) -> Arc<u64> {
-    Arc::new(alloc, value).expect(rt, "no value")
-}
-
 // The command of what is done.
-fn command_of(rt: &impl Abort, alloc: Global, what: Do) -> Command<ChosenKey, u64> {
-    match what {
-        Do::Get(key) => Command::Get(key_of(rt, alloc, key)),
-        Do::Put(key, value) => Command::Put(key_of(rt, alloc, key), value_of(rt, alloc, value)),
-        Do::PutIfAbsent(key, value) => {
-            Command::PutIfAbsent(key_of(rt, alloc, key), value_of(rt, alloc, value))
-        }
-        Do::Replace(key, value) => {
-            Command::Replace(key_of(rt, alloc, key), value_of(rt, alloc, value))
-        }
-        Do::ReplaceIf(key, old, value) => Command::ReplaceIf(
-            key_of(rt, alloc, key),
-            value_of(rt, alloc, old),
-            value_of(rt, alloc, value),
-        ),
-        Do::Remove(key) => Command::Remove(key_of(rt, alloc, key)),
-        Do::RemoveIf(key, value) => {
-            Command::RemoveIf(key_of(rt, alloc, key), value_of(rt, alloc, value))
-        }
-        Do::Size => Command::Size,
-        Do::Clear => Command::Clear,
-    }
-}
-
-impl Do {
-    /// The key that it would put where that is absent.
-    pub fn puts(self) -> Option<ChosenKey> {
-        match self {
-            Do::Put(key, _) | Do::PutIfAbsent(key, _) => Some(key),
-            _ => None,
-        }
-    }
+fn command(rt: &impl Abort, alloc: Global, what: Do) -> Command<ChosenKey, u64> {
+    command_of(alloc, what).expect(rt, "no command")
 }
 
 impl Plan {
-    /// The handle that is read, written, dropped, frozen or snapshotted.
-    pub fn source(self) -> Option<u32> {
+    /// What a client asks, where it is a client's step.
+    pub fn request(self) -> Option<Request> {
         match self {
-            Plan::Snapshot(handle, _) | Plan::Drop(handle) | Plan::View(handle) => Some(handle),
-            Plan::On(handle, _) | Plan::Freeze(handle, _) => Some(handle),
-            _ => None,
+            Plan::Open(handle) => Some(Request::Open(handle)),
+            Plan::Snapshot(handle, to) => Some(Request::Snapshot(handle, to)),
+            Plan::Drop(handle) => Some(Request::Drop(handle)),
+            Plan::On(handle, what) => Some(Request::On(handle, what)),
+            Plan::View(handle) => Some(Request::View(handle)),
+            Plan::Freeze(handle, question) => Some(Request::Freeze(handle, question)),
+            Plan::Finish(job) => Some(Request::Finish(job)),
+            Plan::Abandon(job) => Some(Request::Abandon(job)),
+            Plan::Move(_, _) => None,
         }
-    }
-
-    /// The number that is opened or reserved.
-    pub fn wanted(self) -> Option<u32> {
-        match self {
-            Plan::Open(handle) | Plan::Snapshot(_, handle) => Some(handle),
-            Plan::Freeze(_, ask) => ask.target(),
-            _ => None,
-        }
-    }
-
-    /// The job that is closed.
-    pub fn closed(self) -> Option<u64> {
-        match self {
-            Plan::Finish(job) | Plan::Abandon(job) => Some(job),
-            _ => None,
-        }
-    }
-
-    /// Whether it opens a job.
-    pub fn is_freeze(self) -> bool {
-        matches!(self, Plan::Freeze(_, _))
     }
 }

@@ -1,7 +1,7 @@
-//! Cores and boards beside what they should tell.
+//! Cores and boards beside what they should return.
 //!
-//! Most tests are a list of steps, each beside what it is told: a list is no work to prove. A step that has no memory
-//! ends its test where it stands, so that no test has values to let go on the way.
+//! Most tests are a list of steps, each beside its outcome: a list is no work to prove. A step that has no memory ends
+//! its test where it stands, so that no test has values to drop on the way.
 ghost use Rattle.bulk_ops.specs.Queries.{IsReady};
 ghost use Rattle.core_steps.specs.Steps.{CanAsk, asked_by};
 
@@ -15,8 +15,8 @@ mod refusals;
 mod rows;
 mod twins;
 
+use crate::plain_outcome::{PlainOutcome, TestOutcome, told_of};
 use crate::plans::{Plan, TestCore, TestStep, step_of, steps_of};
-use crate::told::{TestOutcome, Told, told_of};
 use handles::Limits;
 use std::alloc::Global;
 use std::fmt::Debug;
@@ -29,11 +29,11 @@ const LARGEST: Limits = Limits {
     entries: 1 << 20,
 };
 
-// A step, and what it is told.
-type Row = (Plan, Told);
+// A step, and its outcome.
+type Case = (Plan, PlainOutcome);
 
 // The plans of steps.
-fn plans_of(rt: &impl Abort, alloc: Global, rows: &[Row]) -> Vec<Plan> {
+fn plans_of(rt: &impl Abort, alloc: Global, rows: &[Case]) -> Vec<Plan> {
     let mut plans = Vec::new(alloc);
     for row in rows {
         plans.push(row.0).expect(rt, "no room");
@@ -41,8 +41,8 @@ fn plans_of(rt: &impl Abort, alloc: Global, rows: &[Row]) -> Vec<Plan> {
     plans
 }
 
-// What steps are told.
-fn tolds_of(rt: &impl Abort, alloc: Global, rows: &[Row]) -> Vec<Told> {
+// The outcomes of the steps.
+fn tolds_of(rt: &impl Abort, alloc: Global, rows: &[Case]) -> Vec<PlainOutcome> {
     let mut told = Vec::new(alloc);
     for row in rows {
         told.push(row.1).expect(rt, "no room");
@@ -62,21 +62,27 @@ fn answer_to(rt: &impl Abort, alloc: Global, core: &mut TestCore, step: TestStep
     core.step(alloc, step).expect(rt, "no answer")
 }
 
-// What the core tells of a step.
-fn take_step(rt: &impl Abort, alloc: Global, core: &mut TestCore, plan: Plan) -> Told {
+// What the core returns for a step.
+fn take_step(rt: &impl Abort, alloc: Global, core: &mut TestCore, plan: Plan) -> PlainOutcome {
     let step = step_of(rt, alloc, plan);
     told_of(&answer_to(rt, alloc, core, step))
 }
 
-// The core is told this of the steps, one after another.
-fn assert_steps(rt: &impl Abort, alloc: Global, core: &mut TestCore, rows: &[Row]) {
+// The core returns these outcomes for the steps, one after another.
+fn assert_steps(rt: &impl Abort, alloc: Global, core: &mut TestCore, rows: &[Case]) {
     for (plan, told) in rows {
         assert_told(rt, take_step(rt, alloc, core, *plan), *told);
     }
 }
 
-// The core is told this of the plans as one list.
-fn assert_run(rt: &impl Abort, alloc: Global, core: &mut TestCore, plans: &[Plan], told: &[Told]) {
+// The core returns these outcomes for the plans as one list.
+fn assert_run(
+    rt: &impl Abort,
+    alloc: Global,
+    core: &mut TestCore,
+    plans: &[Plan],
+    told: &[PlainOutcome],
+) {
     let steps = steps_of(rt, alloc, plans);
     match core.run(alloc, steps.as_slice()) {
         Ok(trace) => assert_all_told(rt, &trace.outcomes, told),
@@ -84,16 +90,16 @@ fn assert_run(rt: &impl Abort, alloc: Global, core: &mut TestCore, plans: &[Plan
     }
 }
 
-// Each outcome tells what is told.
-fn assert_all_told(rt: &impl Abort, outcomes: &[TestOutcome], told: &[Told]) {
+// Each outcome is the one that is expected.
+fn assert_all_told(rt: &impl Abort, outcomes: &[TestOutcome], told: &[PlainOutcome]) {
     assert_is(rt, outcomes.len(), told.len());
     for (outcome, told) in outcomes.iter().zip(told) {
         assert_told(rt, told_of(outcome), *told);
     }
 }
 
-// What is told is what is to be told.
-fn assert_told(rt: &impl Abort, told: Told, want: Told) {
+// The outcome is the one that is expected.
+fn assert_told(rt: &impl Abort, told: PlainOutcome, want: PlainOutcome) {
     assert_is(rt, told, want);
 }
 

@@ -1,12 +1,12 @@
 //! A job as a plain program: its frozen rows, and for each worker the spans that wait, the one that it holds and those
 //! that it has worked.
 
-use crate::asks::Ask;
-use crate::maps::{END, Row, Span, cut_point, rows_within};
+use crate::maps::{END, Span, middle_of_rows, rows_within};
 use core_steps::{Move, Progress};
 use std::alloc::Global;
 use std::panic::Expect;
 use std::process::Abort;
+use test_machine::{PlainPair, Question};
 
 /// What a worker has of a job. The oldest span stands first in the queue.
 #[derive(Drop)]
@@ -20,8 +20,8 @@ pub struct WorkerState {
 #[derive(Drop)]
 pub struct Job {
     pub number: u64,
-    pub ask: Ask,
-    pub rows: Vec<Row>,
+    pub question: Question,
+    pub rows: Vec<PlainPair>,
     pub worker_states: Vec<WorkerState>,
 }
 
@@ -49,8 +49,8 @@ impl Job {
         rt: &impl Abort,
         alloc: Global,
         number: u64,
-        ask: Ask,
-        rows: Vec<Row>,
+        question: Question,
+        rows: Vec<PlainPair>,
         workers: u32,
     ) -> Job {
         let mut worker_states = Vec::new(alloc);
@@ -61,7 +61,7 @@ impl Job {
         }
         Job {
             number,
-            ask,
+            question,
             rows,
             worker_states,
         }
@@ -126,7 +126,7 @@ impl Job {
             return Progress::Idle;
         };
         let rows = rows_within(rt, alloc, &self.rows, &[(lo, hi)]);
-        let Some(mid) = cut_point(rt, alloc, &rows, grain) else {
+        let Some(mid) = middle_of_rows(rt, alloc, &rows, grain) else {
             return Progress::Whole;
         };
         if let Some(worker_state) = self.worker_states.get_mut(worker as usize) {
@@ -150,7 +150,7 @@ impl Job {
     }
 
     /// The rows that the worker has worked.
-    pub fn worked_rows(&self, rt: &impl Abort, alloc: Global, worker: u32) -> Vec<Row> {
+    pub fn worked_rows(&self, rt: &impl Abort, alloc: Global, worker: u32) -> Vec<PlainPair> {
         match self.worker_states.get(worker as usize) {
             Some(worker_state) => rows_within(rt, alloc, &self.rows, &worker_state.worked),
             None => Vec::new(alloc),
@@ -160,8 +160,8 @@ impl Job {
     // Whether the rows that the worker has worked decide the answer.
     fn is_settled(&self, rt: &impl Abort, alloc: Global, worker: u32) -> bool {
         let rows = self.worked_rows(rt, alloc, worker);
-        let chosen = self.ask.chosen(rt, alloc, &rows);
-        self.ask.is_decided(chosen.len(), rows.len())
+        let chosen = self.question.chosen(alloc, &rows).expect(rt, "no room");
+        self.question.is_decided(chosen.len(), rows.len())
     }
 
     // Whether nothing waits and nothing is held.
@@ -188,7 +188,7 @@ impl Job {
     }
 }
 
-// What is told of a span that a worker got, if it did.
+// The progress of a worker that got a span, or got none.
 fn took(span: Option<Span>) -> Progress {
     match span {
         Some((lo, hi)) => Progress::Took(lo, hi),

@@ -5,8 +5,8 @@
 #[cfg(test)]
 mod asking;
 #[cfg(test)]
+mod plain_outcome;
+#[cfg(test)]
 mod steps;
 #[cfg(test)]
 mod tests;
-#[cfg(test)]
-mod told;

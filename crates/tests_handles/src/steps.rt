@@ -3,7 +3,9 @@ ghost use Rattle.std.specs.Prelude.{◌≡◌, IfOk, IfSome};
 ghost use Rattle.handles.specs.Machine.{job_at};
 
 use crate::asking::{Ask, Asked, Asking, ThreeItems, query_of};
-use crate::told::{Told, call_told, finish_told, freeze_told, unit_told, view_told};
+use crate::plain_outcome::{
+    PlainOutcome, call_told, finish_told, freeze_told, unit_told, view_told,
+};
 use bulk_ops::{Answer, Asks, Part, work};
 use combiner::Bulk;
 use handles::{Call, Command, Table};
@@ -147,24 +149,24 @@ fn finish(
 }
 
 // Makes the call, which shares its key and values.
-fn serve(alloc: Global, table: &mut Asking, call: &Call<ChosenKey, i64>) -> Told {
+fn serve(alloc: Global, table: &mut Asking, call: &Call<ChosenKey, i64>) -> PlainOutcome {
     match call.try_clone::<Asked>() {
         Ok(call) => call_told(&table.serve(alloc, call)),
-        Err(_) => Told::Refused(Refusal::NoMemory),
+        Err(_) => PlainOutcome::Refused(Refusal::NoMemory),
     }
 }
 
 // Opens a job with the query.
-fn freeze(table: &mut Asking, handle: u32, query: &Arc<Asked>) -> Told {
+fn freeze(table: &mut Asking, handle: u32, query: &Arc<Asked>) -> PlainOutcome {
     match Arc::try_clone(query) {
         Ok(query) => freeze_told(&table.freeze(handle, query)),
-        Err(_) => Told::Refused(Refusal::NoMemory),
+        Err(_) => PlainOutcome::Refused(Refusal::NoMemory),
     }
 }
 
 /// Makes the step. But for a finish, which works the job, it asks for no memory but what the table asks for, and gives
 /// none back.
-pub fn take(alloc: Global, table: &mut Asking, step: &Prepared) -> Told {
+pub fn take(alloc: Global, table: &mut Asking, step: &Prepared) -> PlainOutcome {
     match step {
         Prepared::Call(call) => serve(alloc, table, call),
         Prepared::View(handle) => view_told(&table.view(*handle)),

@@ -1,7 +1,7 @@
 //! What calls of a table answer, by hand.
 //!
-//! Most tests are a list of steps, each beside what it is told: a list is no work to prove. A step that has no memory
-//! ends its test where it stands, so that no test has values to let go on the way.
+//! Most tests are a list of steps, each beside its outcome: a list is no work to prove. A step that has no memory ends
+//! its test where it stands, so that no test has values to drop on the way.
 
 mod calls;
 mod foresight;
@@ -11,8 +11,8 @@ mod memory;
 mod served;
 
 use crate::asking::Asking;
+use crate::plain_outcome::PlainOutcome;
 use crate::steps::{Do, Prepared, step_of, take};
-use crate::told::Told;
 use handles::{Limits, MOST_ENTRIES};
 use std::alloc::Global;
 use std::fmt::Debug;
@@ -26,8 +26,8 @@ const LARGEST: Limits = Limits {
     entries: 1_048_576,
 };
 
-/// A step, and what it is told.
-type Row = (Do, Told);
+/// A step, and its outcome.
+type Case = (Do, PlainOutcome);
 
 /// What is seen is what is wanted. An assertion is proved wherever it is written out, so it stands here once.
 fn assert_is<T: PartialEq + Debug + Drop>(rt: &impl Abort, seen: T, want: T) {
@@ -46,21 +46,21 @@ fn step(rt: &impl Abort, alloc: Global, what: Do) -> Prepared {
     step_of(alloc, what).expect(rt, "no step")
 }
 
-/// The steps, one after another, are told this.
-fn assert_rows(rt: &impl Abort, alloc: Global, table: &mut Asking, rows: &[Row]) {
+/// The steps, one after another, have these outcomes.
+fn assert_rows(rt: &impl Abort, alloc: Global, table: &mut Asking, rows: &[Case]) {
     for (what, want) in rows {
         let made = step(rt, alloc, *what);
         assert_is(rt, take(alloc, table, &made), *want);
     }
 }
 
-/// So many entries were made.
+/// The table has made `want` entries.
 fn assert_entries(rt: &impl Abort, table: &Asking, want: u32) {
     assert_is(rt, table.entries(), want);
 }
 
-/// A new table is told this, and has made so many entries.
-fn assert_new(rt: &impl Abort, alloc: Global, limits: Limits, rows: &[Row], entries: u32) {
+/// A new table returns these outcomes, and has made `entries` entries.
+fn assert_new(rt: &impl Abort, alloc: Global, limits: Limits, rows: &[Case], entries: u32) {
     let mut table = table_of(rt, alloc, limits);
     assert_rows(rt, alloc, &mut table, rows);
     assert_entries(rt, &table, entries);

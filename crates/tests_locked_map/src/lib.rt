@@ -1,5 +1,5 @@
-//! Tests of `locked_map`: what seats are told and file, how they meet, what tickets do, what several threads are told
-//! at once, and when a map closes.
+//! Tests of `locked_map`: what calls of seats return and file, how seats meet, what tickets do, what calls of several
+//! threads return at once, and when a map closes.
 #![tactic(auto)]
 
 #[cfg(test)]

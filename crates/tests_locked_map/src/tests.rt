@@ -1,4 +1,4 @@
-//! What seats of a shared map are told, by hand and beside a plain program.
+//! What calls of seats of a shared map return, by hand and beside a plain program.
 ghost use Rattle.std.specs.Prelude.{◌≤◌};
 
 mod any_map;
@@ -18,7 +18,6 @@ mod questions;
 mod random;
 mod replay;
 mod requests;
-mod rows;
 mod running;
 mod script;
 mod steps;
@@ -29,6 +28,7 @@ mod wanting;
 use handles::{Limits, MOST_ENTRIES};
 use std::fmt::Debug;
 use std::process::Abort;
+use test_keys::ChosenKey;
 use versions::MOST_PAIRS;
 
 // The largest limits.
@@ -37,12 +37,16 @@ const LARGEST: Limits = Limits {
     entries: 1_048_576,
 };
 
-// The keys that the tests put, by their path words.
-const A: u64 = 97;
+// The keys that the tests put.
+const A: ChosenKey = ChosenKey { path: 97, id: 0 };
 
-const B: u64 = 98;
+const B: ChosenKey = ChosenKey { path: 98, id: 0 };
 
-const KEYS: [u64; 4] = [A, B, 99, 100];
+const C: ChosenKey = ChosenKey { path: 99, id: 0 };
+
+const D: ChosenKey = ChosenKey { path: 100, id: 0 };
+
+const KEYS: [ChosenKey; 4] = [A, B, C, D];
 
 // What is seen is what is wanted. An assertion is proved wherever it is written out, so it stands here once.
 fn assert_is<T: PartialEq + Debug + Drop>(rt: &impl Abort, seen: T, want: T) {

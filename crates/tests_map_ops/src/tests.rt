@@ -166,15 +166,15 @@ fn own<K: PathKey + Drop>(version: &Version<K, i64>) -> u64 {
     version.own_nodes()
 }
 
+// What is seen is what is wanted. An assertion is proved wherever it is written out, so it stands here once, and
+// below for the types that most tests compare.
+fn assert_is<T: PartialEq + Debug + Drop>(rt: &impl Abort, seen: T, want: T) {
+    assert_eq!(rt; seen, want);
+}
+
 // How many pairs there are, and how many nodes have the version's stamp.
 fn sizes<K: PathKey + Drop>(version: &Version<K, i64>) -> (u64, u64) {
     (version.len(), version.own_nodes())
-}
-
-// What is seen is what is wanted. An assertion is proved wherever it is written out, so it stands here once, and below
-// for the types that most tests compare.
-fn assert_is<T: PartialEq + Debug + Drop>(rt: &impl Abort, seen: T, want: T) {
-    assert_eq!(rt; seen, want);
 }
 
 // How many pairs there are, and how many nodes have the version's stamp.

@@ -1,12 +1,12 @@
 //! Random maps of few path words, each beside its rows.
 
-use crate::plain::{Row, position_of};
+use crate::plain::PlainPair;
 use std::alloc::{AllocError, Global};
 use std::collections::BTreeMap;
 use std::panic::Expect;
 use std::process::Abort;
 use std::sync::Arc;
-use test_keys::{ChosenKey, Random};
+use test_keys::{ChosenKey, PARTING_WORDS, Random, position_of};
 use trie_node::Stamp;
 use versions::{Version, View};
 
@@ -16,36 +16,17 @@ pub type Map = Version<ChosenKey, i64>;
 /// How many keys a map has at most.
 pub const MOST_KEYS: u32 = 300;
 
-// Words that part at each level, some of them at several.
-const WORDS: [u64; 16] = [
-    0,
-    0xc000_0000_0000_0000,
-    0x4000_0000_0000_0000,
-    0xffff_ffff_ffff_ffff,
-    0x3fff_ffff_ffff_ffff,
-    0x3eff_ffff_ffff_ffff,
-    1,
-    33,
-    0x0010_0000_0000_0001,
-    0x0110_0000_0000_0001,
-    0x0000_8000_0000_0001,
-    0x0000_8000_0000_0002,
-    0x0000_0400_0000_0000,
-    0xaf63_dc4c_8601_ec8c,
-    0xaf63_df4c_8601_f1a5,
-    0xaf63_de4c_8601_eff2,
-];
-
 // The values of a map by the positions and numbers of its keys.
 type Sorted = BTreeMap<(u128, u32), i64>;
 
 /// A map of up to `MOST_KEYS` keys, and its rows in the order of a walk.
-pub fn random_map(rt: &impl Abort, alloc: Global, random: &mut Random) -> (Map, Vec<Row>) {
+pub fn random_map(rt: &impl Abort, alloc: Global, random: &mut Random) -> (Map, Vec<PlainPair>) {
     let mut map = empty(rt, alloc);
     let mut sorted = BTreeMap::new(alloc);
     let words = random.next(16).saturating_add(1);
     for value in 0..i64::from(random.next(MOST_KEYS + 1)) {
-        let path = WORDS[random.next(words) as usize % 16];
+        let word = random.next(words) as usize;
+        let path = PARTING_WORDS.get(word).copied().unwrap_or(0);
         let id = random.next(MOST_KEYS);
         put(rt, alloc, &mut map, ChosenKey { path, id }, value);
         insert(rt, &mut sorted, (position_of(path), id), value);
@@ -55,7 +36,7 @@ pub fn random_map(rt: &impl Abort, alloc: Global, random: &mut Random) -> (Map, 
 
 /// A map of a key for each of these path words, at most 2,000, and its rows in the order of a walk. Keys are numbered in
 /// their order, from 0, and each has its number as its value.
-pub fn map_of(rt: &impl Abort, alloc: Global, paths: &[u64]) -> (Map, Vec<Row>) {
+pub fn map_of(rt: &impl Abort, alloc: Global, paths: &[u64]) -> (Map, Vec<PlainPair>) {
     let mut map = empty(rt, alloc);
     let mut sorted = BTreeMap::new(alloc);
     for (path, id) in paths.iter().zip(0..u32::MAX) {
@@ -90,15 +71,15 @@ fn insert(rt: &impl Abort, sorted: &mut Sorted, at: (u128, u32), value: i64) {
 }
 
 // The rows of a map, where there is memory.
-fn listed(rt: &impl Abort, alloc: Global, sorted: &Sorted) -> Vec<Row> {
+fn listed(rt: &impl Abort, alloc: Global, sorted: &Sorted) -> Vec<PlainPair> {
     rows_of(alloc, sorted).expect(rt, "no list")
 }
 
 // The rows of a map.
-fn rows_of(alloc: Global, sorted: &Sorted) -> Result<Vec<Row>, AllocError> {
+fn rows_of(alloc: Global, sorted: &Sorted) -> Result<Vec<PlainPair>, AllocError> {
     let mut rows = Vec::new(alloc);
     for (at, value) in sorted.iter() {
-        rows.push(Row {
+        rows.push(PlainPair {
             position: at.0,
             id: at.1,
             value: *value,

@@ -8,11 +8,11 @@ mod small_cuts;
 mod small_walks;
 mod walks;
 
-use crate::plain::{Row, position_of};
+use crate::plain::PlainPair;
 use iter::Pairs;
 use std::process::Abort;
 use std::sync::Arc;
-use test_keys::ChosenKey;
+use test_keys::{ChosenKey, position_of};
 
 // A walk of the tests.
 type Walk<'a> = Pairs<'a, ChosenKey, i64>;
@@ -21,17 +21,17 @@ type Walk<'a> = Pairs<'a, ChosenKey, i64>;
 const MAPS: u32 = 1_000;
 
 // A pair of a walk as a row.
-fn row_of(pair: Option<(&Arc<ChosenKey>, &Arc<i64>)>) -> Option<Row> {
+fn row_of(pair: Option<(&Arc<ChosenKey>, &Arc<i64>)>) -> Option<PlainPair> {
     let (key, value) = pair?;
-    Some(Row {
+    Some(PlainPair {
         position: position_of(key.path),
         id: key.id,
         value: **value,
     })
 }
 
-// The walk gives these rows and no more, and tells at each how many are left.
-fn assert_gives(rt: &impl Abort, walk: &mut Walk<'_>, rows: &[Row]) {
+// The walk gives these rows and no more, and reports at each how many are left.
+fn assert_gives(rt: &impl Abort, walk: &mut Walk<'_>, rows: &[PlainPair]) {
     let mut left = rows.len();
     for row in rows {
         assert_eq!(rt; walk.left(), left as u64);

@@ -62,7 +62,7 @@ fn equal(value: u64) -> StoredTest<ChosenKey, u64, IsValue> {
     Stored::new(IsValue(Some(value)))
 }
 
-// A map of so many pairs: their values and the numbers of their keys count up from 0, and so do their words, or all
+// A map of `pairs` pairs: their values and the numbers of their keys count up from 0, and so do their words, or all
 // have one word.
 fn filled(rt: &impl Abort, alloc: Global, pairs: u32, one_word: bool) -> Map {
     let mut map = Version::empty(alloc, MOST_PAIRS, Stamp::LOOSE).expect(rt, "no map");

@@ -183,7 +183,8 @@ fn a_test_is_asked_once_for_each_pair(rt: HostRuntime) -> Result<(), Fail> {
     Ok(())
 }
 
-// How often want of memory refuses the map of those of the seven keys, where each time there are 16 bytes more.
+// How often the map of those of the seven keys is refused because memory runs out, where each time there are 16 bytes
+// more.
 fn refusals(alloc: Global, map: &Map, numbers: u32) -> Result<(u32, Option<Map>), Fail> {
     let mut shortage = Shortage::new(alloc)?;
     let mut refused = 0u32;

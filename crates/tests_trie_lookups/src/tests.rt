@@ -177,7 +177,7 @@ fn many_keys_find_what_was_put(rt: HostRuntime) -> Result<(), Fail> {
     assert_found(&rt, alloc, &put, &keys)
 }
 
-// Whether a look-up of the keys ends with so many bytes of memory left.
+// Whether a look-up of the keys ends with `bytes` bytes of memory left.
 fn ends(alloc: Global, map: &Map, keys: &[&ChosenKey], bytes: usize) -> Result<bool, AllocError> {
     let mut shortage = Shortage::new(alloc)?;
     shortage.give(alloc, bytes)?;

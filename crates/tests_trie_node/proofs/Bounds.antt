@@ -7,7 +7,7 @@ use Rattle.std.specs.FinMap.Entries.{length-put, length_without}
 use Rattle.trie_shape.specs.Map.{IsMap, with_pair, without}
 use Rattle.trie_shape.specs.Tree.{Tree}
 use Rattle.trie_shape.specs.Roots.{IsRoot, map_of}
-use Rattle.trie_node.specs.Changes.{IsPut}
+use Rattle.trie_copy.specs.Changes.{IsPut}
 
 one_more : (b : Bool) (n m : ℕ) → m ≡ cond b n (n + 1) → m ≤ n + 1
 one_more true n m e = omega arith

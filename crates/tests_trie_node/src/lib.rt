@@ -3,8 +3,8 @@
 #![tactic(auto)]
 
 #[cfg(test)]
-mod held;
-#[cfg(test)]
 mod outline;
+#[cfg(test)]
+mod test_root;
 #[cfg(test)]
 mod tests;

@@ -1,6 +1,6 @@
 //! What the trie of given keys looks like, by hand.
 //!
-//! A step that has no memory ends its test where it stands, so that no test has values to let go on the way.
+//! A step that has no memory ends its test where it stands, so that no test has values to drop on the way.
 
 mod conditions;
 mod holders;
@@ -11,8 +11,8 @@ mod random;
 mod shapes;
 mod stamps;
 
-use crate::held::Held;
 use crate::outline::{Line, Outline, outline_of};
+use crate::test_root::TestRoot;
 use std::alloc::Global;
 use std::fmt::Debug;
 use std::panic::Expect;
@@ -22,7 +22,7 @@ use test_keys::ChosenKey;
 use trie_node::Stamp;
 
 /// A trie of the tests.
-type Trie = Held<ChosenKey, u32>;
+type Trie = TestRoot<ChosenKey, u32>;
 
 /// A key by its path word and a number.
 fn key(path: u64, id: u32) -> ChosenKey {
@@ -46,7 +46,7 @@ fn shared_value(rt: &impl Abort, alloc: Global, value: u32) -> Arc<u32> {
 
 /// A trie with no pairs.
 fn new(rt: &impl Abort, alloc: Global, stamp: u64) -> Trie {
-    Held::new(alloc, Stamp(stamp)).expect(rt, "no root")
+    TestRoot::new(alloc, Stamp(stamp)).expect(rt, "no root")
 }
 
 /// Another handle on the same root.

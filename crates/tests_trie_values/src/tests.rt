@@ -204,8 +204,9 @@ fn a_closure_is_called_once_for_each_pair(rt: HostRuntime) -> Result<(), Fail> {
     Ok(())
 }
 
-// How often want of memory refuses the map of the seven keys with new values, where each time there are 16 bytes more.
-// It makes 15 requests: for seven values, for three branches and their children, and for a bucket and its pairs.
+// How often the map of the seven keys with new values is refused because memory runs out, where each time there are 16
+// bytes more. It makes 15 requests: for seven values, for three branches and their children, and for a bucket and its
+// pairs.
 fn refusals(alloc: Global, map: &Map<u32>) -> Result<(u32, Option<Map<u32>>), Fail> {
     let mut shortage = Shortage::new(alloc)?;
     let mut refused = 0u32;

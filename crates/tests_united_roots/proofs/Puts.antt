@@ -6,7 +6,7 @@ use Rattle.std.specs.Cmp.{IsTotalOrder, Equal-is}
 use Rattle.std.specs.Ordering.{eq_by_cmp}
 use Rattle.std.specs.FinMap.Entries.{find-put, length-put}
 use Rattle.hash_path.specs.Digits.{digit}
-use Rattle.trie_node.specs.Changes.{IsPut}
+use Rattle.trie_copy.specs.Changes.{IsPut}
 use Rattle.trie_shape.specs.Map.{IsMap, value_at, with_pair}
 use Rattle.trie_shape.specs.Roots.{map_of}
 use Rattle.trie_shape.specs.Tree.{Tree}

@@ -37,7 +37,7 @@ fn bitmap_of(root: &Root) -> Option<u32> {
     }
 }
 
-/// The root has children of these digits, so many pairs and this stamp.
+/// The root has children of these digits, this number of pairs and this stamp.
 fn assert_root(rt: &impl Abort, root: &Root, bitmap: u32, pairs: u64, newest: u64) {
     assert_eq!(rt; bitmap_of(root), Some(bitmap));
     assert_eq!(rt; size(root.root()), pairs);

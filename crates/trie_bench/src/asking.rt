@@ -57,7 +57,7 @@ fn ask<K: PathKey + Drop>(
     Ok(work(alloc, &whole(alloc, view.try_clone()?), question)?)
 }
 
-/// What is told of an answer: a number, a truth as 0 or 1, the size of a map.
+/// The answer as one number: a truth, or whether a pair was found, as 0 or 1, and a map as its number of pairs.
 fn told<K: PathKey + Drop>(answer: Part<K, i64, i128>) -> i128 {
     match answer {
         Part::Number(number) => i128::from(number),

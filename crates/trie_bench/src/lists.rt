@@ -8,7 +8,7 @@ use std::sync::Arc;
 use std::time::Instant;
 use trie_map::View;
 
-/// Gets each key once, so many keys a call.
+/// Gets each key once, at most `at_once` keys a call.
 pub fn read_lists<R: Runtime + AllocGlobal>(
     rt: &R,
     rounds: u32,
@@ -38,7 +38,7 @@ fn sought_by(alloc: Global, keys: &[Arc<ByteText>]) -> Result<Vec<&Arc<ByteText>
     Ok(sought)
 }
 
-/// The sum of the values of the keys, of which each call looks up so many.
+/// The sum of the values of the keys, of which each call looks up at most `at_once`.
 fn get_lists(
     view: &View<ByteText, i64>,
     keys: &[&Arc<ByteText>],

@@ -10,8 +10,8 @@ use Rattle.std.specs.Cmp.{IsTotalOrder}
 use Rattle.std.specs.FinMap.{find}
 use Rattle.std.specs.Int.RustNames.{count_ones}
 use Rattle.hash_path.specs.Digits.{digit, last_level}
-use Rattle.trie_node.specs.Merges.{StampsPass, pairs_of}
-use Rattle.trie_node.proofs.StampTests.{pass_listed}
+use Rattle.trie_copy.specs.Merges.{StampsPass, pairs_of}
+use Rattle.trie_copy.proofs.StampTests.{pass_listed}
 use Rattle.trie_shape.specs.declared.looks.Look.TheVariants.{Branch, Pairs}
 use Rattle.trie_shape.specs.Looks.{Shows}
 use Rattle.trie_shape.specs.Roots.{map_of, word_of}

@@ -6,9 +6,8 @@
 #![tactic(auto)]
 
 mod bitmaps;
-mod fetching;
 mod few;
+mod new_branch;
 mod passing;
-mod rows;
 
 pub use passing::with_passing;

@@ -11,12 +11,12 @@ ghost use Rattle.trie_shape.specs.View.{pair_values, tree};
 ghost use Rattle.trie_values.specs.Values.{MayAnswer, Means};
 
 use crate::bitmaps::lowest_digit;
-use crate::fetching::fetch_pairs;
 use crate::few::Few;
-use crate::rows::Row;
+use crate::new_branch::NewBranch;
 use hash_path::PathKey;
 use std::alloc::Global;
 use std::sync::Arc;
+use trie_fetch::{KeysAndValues, fetch_leaves};
 use trie_node::{
     Look, NoMemory, Node, Stamp, bitmap_counts_children, branch_is_its_children, child, look, size,
 };
@@ -99,7 +99,7 @@ fn pass_children<K: PathKey + Drop, V: Drop, F: Fn(&K, &V) -> bool>(
     test: &F,
     level: u32,
     fetched: bool,
-) -> Result<Row<K, V>, NoMemory>
+) -> Result<NewBranch<K, V>, NoMemory>
     requires branch { Shows (Branch bitmap) (tree node.now) }
     requires trie { IsTrie K.cmp K.path_of level (tree node.now) }
     requires callable { F.IsAlwaysCallable test.now }
@@ -110,9 +110,9 @@ fn pass_children<K: PathKey + Drop, V: Drop, F: Fn(&K, &V) -> bool>(
     branch_is_its_children::<K, V>();
     let few = size(node) <= MOST_AT_ONCE;
     if few && !fetched {
-        fetch_pairs(node);
+        fetch_leaves::<KeysAndValues, K, V>(node);
     }
-    let mut row = Row {
+    let mut row = NewBranch {
         children: Few::Nothing,
         size: 0,
         bitmap: 0,

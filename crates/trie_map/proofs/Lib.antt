@@ -1,6 +1,2 @@
 pub mod BothClauses
-pub mod Counting
 pub mod Deciding
-pub mod Equality
-pub mod Keeping
-pub mod Walks

@@ -1,8 +1,8 @@
 pub use Rattle.trie_shape.specs.Map
 pub use Rattle.bulk_ops.specs.Meanings
 pub use Rattle.bulk_ops.specs.Queries
-pub use Rattle.bulk_ops.specs.Told
+pub use Rattle.bulk_ops.specs.Summaries
 pub use Rattle.stripes.specs.Rules
 pub use Rattle.stripes.specs.Updates
+pub use Rattle.map_view.specs.Questions
 pub mod Iterables
-pub mod Questions

@@ -5,27 +5,23 @@
 //! it is read with no lock. Each pair keeps a rule of the user's (`Keeps`), or `Anything`.
 #![tactic(auto)]
 
-mod columns;
-mod crew;
 mod crew_questions;
 mod origin;
 mod put_error;
-mod questions;
 mod shown;
 mod trie_map;
-mod view;
 
 pub use bulk_ops::{
     Answer, Asks, ImageFn, NoImages, Pair, PairFn, Part, Query, Stored, StoredItem, StoredMap,
     StoredPairs, StoredTest,
 };
-pub use columns::{Keys, Values};
 pub use combiner::{Both, Greatest, Least, Monoid, Sum};
 pub use group_counts::Groups;
 pub use hash_path::PathKey;
 pub use iter::{Pairs, pairs_of};
 pub use keys::ByteText;
 pub use map_reader::{Reader, Readers};
+pub use map_view::{Keys, Values, View};
 pub use put_error::PutError;
 pub use stripes::{Anything, Keeps, MOST_PAIRS_OF_STRIPE};
 pub use task_pool::Crew;
@@ -33,4 +29,3 @@ pub use top_pairs::{Ranked, Scored};
 pub use trie_map::TrieMap;
 pub use trie_node::NoMemory;
 pub use versions::{MOST_PAIRS, Refusal, Version};
-pub use view::View;

@@ -1,8 +1,7 @@
-//! Maps and views in text.
+//! Maps in text.
 ghost use Rattle.std.specs.Prelude.{◌≡◌};
 
 use crate::trie_map::TrieMap;
-use crate::view::View;
 use hash_path::PathKey;
 use std::fmt;
 use std::fmt::{Debug, Formatter};
@@ -16,12 +15,5 @@ impl<K: PathKey + Drop, V: Drop, P: Keeps<K, V>> Debug for TrieMap<K, V, P> {
             Some(pairs) => f.debug_struct("TrieMap").field("len", &pairs).finish(),
             None => f.debug_struct("TrieMap").finish_non_exhaustive(),
         }
-    }
-}
-
-/// All pairs, in the order of `iter`, as `{"a": 1, "b": 2}`.
-impl<K: PathKey + Debug + Drop, V: Debug + Drop, P: Keeps<K, V>> Debug for View<K, V, P> {
-    fn fmt<W: fmt::Write>(&self, f: &mut Formatter<W>) -> fmt::Result {
-        f.debug_map().entries(self.iter()).finish()
     }
 }

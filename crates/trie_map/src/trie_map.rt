@@ -16,11 +16,13 @@ mod retaining;
 
 use crate::origin::{Origin, found_or_made};
 use crate::put_error::PutError;
-use crate::view::View;
 use hash_path::{Path, PathKey, Sought};
+use map_view::View;
 use std::alloc::Global;
 use std::sync::{Arc, Wait};
-use stripes::{Anything, Keeps, Row, STRIPES, Stripe, blanks, clear_all, empties, forks, joined};
+use stripes::{
+    Anything, Keeps, STRIPES, Stripe, Stripes, clear_all, empties, empty_maps, forks, joined,
+};
 use trie_node::{Always, Condition, IfAbsent, IfEqual, IfPresent, NoMemory};
 use united_roots::RootRow;
 use versions::{Change, Refusal};
@@ -30,9 +32,9 @@ use versions::{Change, Refusal};
 /// It has a lock for each first digit of a key's path word, so calls of keys with different first digits do not wait
 /// for one another. What a call finds is what other threads left, so a clause says of it only that its pairs keep the
 /// rule. That `is_empty`, `len` and `contains_key` tell what is there, that `clear` removes it, and that `view`,
-/// `snapshot` and `query` take all stripes as they stand at one moment, is told by the code and by tests: no clause can
-/// name what a lock keeps, not even of a map that one thread alone has. A call that is refused has changed nothing; of
-/// `extend` and `retain`, and of those whose closure has run, as `get_or_else_update` and `update`, each says more.
+/// `snapshot` and `query` take all stripes as they stand at one moment, is shown by the code and by tests: no clause
+/// can name what a lock keeps, not even of a map that one thread alone has. A call that is refused has changed nothing;
+/// of `extend` and `retain`, and of those whose closure has run, as `get_or_else_update` and `update`, each says more.
 ///
 /// # What runs under a lock
 ///
@@ -62,7 +64,7 @@ use versions::{Change, Refusal};
 #[derive(Drop)]
 pub struct TrieMap<K: PathKey, V, P: Keeps<K, V> = Anything> {
     alloc: Global,
-    row: Row<K, V, P>,
+    row: Stripes<K, V, P>,
 }
 
 impl<K: PathKey + Drop, V: Drop, P: Keeps<K, V>> TrieMap<K, V, P> {
@@ -71,7 +73,7 @@ impl<K: PathKey + Drop, V: Drop, P: Keeps<K, V>> TrieMap<K, V, P> {
         let alloc = rt.alloc();
         Ok(TrieMap {
             alloc,
-            row: Row::new(alloc, empties(alloc)?)?,
+            row: Stripes::new(alloc, empties(alloc)?)?,
         })
     }
 
@@ -93,8 +95,7 @@ impl<K: PathKey + Drop, V: Drop, P: Keeps<K, V>> TrieMap<K, V, P> {
 
     /// Maps the key to the value, and answers the value before, or none.
     ///
-    /// It is refused as `Full` where the key is new and its stripe has 524,288 pairs, and as `NoMemory` for want of
-    /// memory.
+    /// The error is `Full` where the key is new and its stripe has 524,288 pairs, and `NoMemory` if memory runs out.
     pub fn put<R: Wait>(&self, rt: &R, key: K, value: V) -> Result<Option<Arc<V>>, PutError>
         requires { P.holds key value }
         ensures kept { IfOk result (λ before. IfSome before (λ found. P.holds key found.value)) }
@@ -125,7 +126,7 @@ impl<K: PathKey + Drop, V: Drop, P: Keeps<K, V>> TrieMap<K, V, P> {
 
     /// Maps the key to the value where the key is present, and answers the value before, or none.
     ///
-    /// It is refused for want of memory alone.
+    /// The only error is `NoMemory`, if memory runs out.
     pub fn replace<R: Wait>(&self, rt: &R, key: K, value: V) -> Result<Option<Arc<V>>, NoMemory>
         requires { P.holds key value }
         ensures kept { IfOk result (λ before. IfSome before (λ found. P.holds key found.value)) }
@@ -139,7 +140,7 @@ impl<K: PathKey + Drop, V: Drop, P: Keeps<K, V>> TrieMap<K, V, P> {
         )
     }
 
-    /// Removes the key, and answers the value before, or none. It is refused for want of memory alone.
+    /// Removes the key, and answers the value before, or none. The only error is `NoMemory`, if memory runs out.
     pub fn remove<R: Wait, Q: Sought<K>>(&self, rt: &R, key: Q) -> Result<Option<Arc<V>>, NoMemory>
         ensures kept { IfOk result (λ before. IfSome before (λ found. P.holds (Q.key_of key) found.value)) }
     {
@@ -175,14 +176,14 @@ impl<K: PathKey + Drop, V: Drop, P: Keeps<K, V>> TrieMap<K, V, P> {
     }
 
     /// Removes all pairs at one moment of the call, when all stripes are held. They are dropped once the locks are free.
-    /// It is refused for want of memory alone.
+    /// The only error is `NoMemory`, if memory runs out.
     pub fn clear<R: Wait>(&self, rt: &R) -> Result<(), NoMemory> {
-        let blanks = blanks(self.alloc)?;
+        let empty_maps = empty_maps(self.alloc)?;
         let room = Vec::with_capacity(self.alloc, STRIPES as usize)?;
         let held = self.row.all(rt, self.alloc)?;
         // The pairs are dropped once the locks are free.
         let before = forks(room, &held)?;
-        clear_all(held, blanks);
+        clear_all(held, empty_maps);
         drop(before);
         Ok(())
     }
@@ -191,7 +192,7 @@ impl<K: PathKey + Drop, V: Drop, P: Keeps<K, V>> TrieMap<K, V, P> {
     /// pairs. The view keeps the nodes of that moment: a write meanwhile copies the nodes of its way.
     ///
     /// Its clause says that each pair keeps the rule. That it has the pairs of all stripes, and that no lock was free
-    /// in between, no clause can say: each step of it is proved (`Row::all`, `joined`), and tests show it whole.
+    /// in between, no clause can say: each step of it is proved (`Stripes::all`, `joined`), and tests show it whole.
     pub fn view<R: Wait>(&self, rt: &R) -> Result<View<K, V, P>, NoMemory>
         ensures { IfOk result (λ view. AllKeep K.cmp P.holds view) }
     {
@@ -208,7 +209,7 @@ impl<K: PathKey + Drop, V: Drop, P: Keeps<K, V>> TrieMap<K, V, P> {
     pub fn snapshot<R: Wait>(&self, rt: &R) -> Result<TrieMap<K, V, P>, NoMemory> {
         Ok(TrieMap {
             alloc: self.alloc,
-            row: Row::new(self.alloc, self.forks(rt)?)?,
+            row: Stripes::new(self.alloc, self.forks(rt)?)?,
         })
     }
 
@@ -300,7 +301,7 @@ impl<K: PathKey + Drop, V: Drop, P: Keeps<K, V>> TrieMap<K, V, P> {
 impl<K: PathKey + Drop, V: Eq + Drop, P: Keeps<K, V>> TrieMap<K, V, P> {
     /// Maps the key to the value where it is mapped to a value equal to `old`, and answers whether it was.
     ///
-    /// It is refused for want of memory alone.
+    /// The only error is `NoMemory`, if memory runs out.
     pub fn replace_if<R: Wait>(&self, rt: &R, key: K, old: &V, value: V) -> Result<bool, NoMemory>
         requires { P.holds key value }
     {
@@ -309,19 +310,19 @@ impl<K: PathKey + Drop, V: Eq + Drop, P: Keeps<K, V>> TrieMap<K, V, P> {
         let value = Arc::new(self.alloc, value)?;
         Ok(
             self.write_present(rt, key, path, value, &IfEqual(old))?
-                .done,
+                .written,
         )
     }
 
     /// Removes the key where it is mapped to a value equal to `value`, and answers whether it was.
     ///
-    /// It is refused for want of memory alone.
+    /// The only error is `NoMemory`, if memory runs out.
     pub fn remove_if<R: Wait, Q: Sought<K>>(
         &self,
         rt: &R,
         key: Q,
         value: &V,
     ) -> Result<bool, NoMemory> {
-        Ok(self.removal(rt, key, &IfEqual(value))?.done)
+        Ok(self.removal(rt, key, &IfEqual(value))?.written)
     }
 }

@@ -9,13 +9,13 @@ use Rattle.std.specs.FinMap.{find, is_sorted}
 use Rattle.std.specs.FinMap.Entries.{put, by_order, below_all}
 use Rattle.std.proofs.lemmas.List.{get_or_default}
 use Rattle.trie_shape.specs.Tree.{Tree, bucket, IsTrie}
-use Rattle.trie_node.specs.Writes.{Writes}
-use Rattle.trie_node.specs.Removals.{IsAt}
+use Rattle.trie_copy.specs.Writes.{Writes}
+use Rattle.trie_copy.specs.Removals.{IsAt}
 use Rattle.trie_node.specs.PutInPlace.{PutsIn}
 use Rattle.trie_shape.proofs.InOrder.{left_of, right_of}
 use Rattle.trie_node.proofs.Standing.{puts_equal}
-use Rattle.trie_node.proofs.Taken.{below_at}
-use Rattle.trie_node.proofs.Words.{word_of_found, puts_in_word}
+use Rattle.trie_copy.proofs.Taken.{below_at}
+use Rattle.trie_copy.proofs.Words.{word_of_found, puts_in_word}
 
 less_of : (r : Ordering) → T (is_lt r) → r ≡ Less
 less_of Less h = refl

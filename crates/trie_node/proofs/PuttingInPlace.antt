@@ -12,20 +12,20 @@ use Rattle.std.specs.Int.RustNames.{count_ones}
 use Rattle.trie_shape.specs.Tree.{Tree, branch, bucket, trees, entries}
 use Rattle.trie_shape.specs.View.{tree, Below, branch_of}
 use Rattle.trie_shape.proofs.Ways.{Turn, absent}
-use Rattle.trie_node.specs.Writes.{Writes}
+use Rattle.trie_copy.specs.Writes.{Writes}
 use Rattle.trie_node.specs.PutInPlace.{PutsIn, is_refusable}
 use Rattle.trie_node.specs.PutInside.{PutsInside, PutsLeaf}
-use Rattle.trie_node.specs.declared.put.Entry.{Entry}
+use Rattle.trie_copy.specs.declared.put.NewPair.{NewPair}
 use Rattle.trie_node.specs.declared.put_in_place.PutInside.{PutInside}
 use Rattle.trie_node.specs.declared.put_in_place.PutInside.TheVariants.{Done, GivesWay, Elsewhere}
-use Rattle.trie_node.proofs.PutsBelow.{leaf_added}
+use Rattle.trie_copy.proofs.PutsBelow.{leaf_added}
 use Rattle.trie_node.proofs.Standing.{puts_equal}
 
 pub refusable_absent : {V : Type 0} (holds : Option V → Bool) → holds None ≡ true → is_refusable holds None ≡ true
 refusable_absent holds e = ap (λ b. b || false) e
 
 -- a put into a node of trees is one of trees that are equal to them
-pub inside_equal : {K V : Type 0} (R : K → K → Ordering) (path : K → ℕ) (level : ℕ) (entry : Entry K V) (holds : Option V → Bool) (r : PutInside K V) {old old2 new new2 : Tree K V} →
+pub inside_equal : {K V : Type 0} (R : K → K → Ordering) (path : K → ℕ) (level : ℕ) (entry : NewPair K V) (holds : Option V → Bool) (r : PutInside K V) {old old2 new new2 : Tree K V} →
     old ≡ old2 → new2 ≡ new → PutsInside R path level entry holds old r new → PutsInside R path level entry holds old2 r new2
 inside_equal R path level entry holds (Done d) {old} {old2} {new} {new2} e f h = puts_equal R path level entry.stamp.0 entry.key.value entry.value.value holds old old2 new new2 (option_map arc_value d.previous) d.written e f h
 inside_equal R path level entry holds (GivesWay node) {old} {old2} {new} {new2} e f h = subst (λ x. PutsIn R path level entry.stamp.0 entry.key.value entry.value.value holds x None true (tree node)) e h
@@ -36,7 +36,7 @@ module _ {K V : Type 0} {R : K → K → Ordering} {path : K → ℕ} {level : �
   abbrev added_at : ℕ → ℕ → V → Tree K V
   added_at i stamp v = branch stamp (b.size + 1) (bit_or b.bitmap (1 * 2 ^ d % 2 ^ 32)) (trees (insert (map tree b.children) i (bucket stamp ((k, v) ∷ []))))
 
-  of_leaf : {i : ℕ} → i ≡ count_ones (b.bitmap % 2 ^ d) → (before : ℕ) (entry : Entry K V) → entry.key.value ≡ k → (holds : Option V → Bool) (r : PutInside K V) (new : Tree K V) →
+  of_leaf : {i : ℕ} → i ≡ count_ones (b.bitmap % 2 ^ d) → (before : ℕ) (entry : NewPair K V) → entry.key.value ≡ k → (holds : Option V → Bool) (r : PutInside K V) (new : Tree K V) →
       PutsLeaf entry (holds None) (added_at i entry.stamp.0 entry.value.value) (branch_of before b) r new → PutsInside R path level entry holds (branch_of before b) r new
   of_leaf {i} place before entry key holds r new h = of_result r h
     where
@@ -61,7 +61,7 @@ module _ {K V : Type 0} {R : K → K → Ordering} {path : K → ℕ} {level : �
       }
       of_result (Elsewhere e) h = h
 
-  pub leaf_inside : {i : ℕ} → i ≡ count_ones (b.bitmap % 2 ^ d) → (before : ℕ) (entry : Entry K V) → entry.key.value ≡ k → (holds : Option V → Bool) {E : Type 0} (r : Result (PutInside K V) E) (new : Tree K V) →
+  pub leaf_inside : {i : ℕ} → i ≡ count_ones (b.bitmap % 2 ^ d) → (before : ℕ) (entry : NewPair K V) → entry.key.value ≡ k → (holds : Option V → Bool) {E : Type 0} (r : Result (PutInside K V) E) (new : Tree K V) →
       IfOk r (λ r. PutsLeaf entry (holds None) (added_at i entry.stamp.0 entry.value.value) (branch_of before b) r new) → IfOk r (λ r. PutsInside R path level entry holds (branch_of before b) r new)
   leaf_inside place before entry key holds (Ok r) new h = of_leaf place before entry key holds r new h
   leaf_inside place before entry key holds (Err e) new h = tt

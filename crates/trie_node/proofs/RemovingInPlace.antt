@@ -15,11 +15,11 @@ use Rattle.trie_shape.specs.View.{tree, Below, branch_of}
 use Rattle.trie_shape.specs.Drawn.{drawn_up}
 use Rattle.trie_shape.specs.declared.node.Node.{Node}
 use Rattle.trie_shape.proofs.Ways.{Way}
-use Rattle.trie_node.specs.Removals.{Leaves}
+use Rattle.trie_copy.specs.Removals.{Leaves}
 use Rattle.trie_node.specs.RemovalInPlace.{TakesOut}
 use Rattle.trie_node.specs.declared.removal_in_place.RemovedIn.{RemovedIn}
 use Rattle.trie_node.specs.declared.removal_in_place.RemovedIn.TheVariants.{Gone, Left}
-use Rattle.trie_node.proofs.Removing.{size_below, gone_below, left_below}
+use Rattle.trie_copy.proofs.Removing.{size_below, gone_below, left_below}
 
 -- the child of the key's way was removed from, and node now stands in its place
 module _ {K V : Type 0} {R : K → K → Ordering} {path : K → ℕ} {level : ℕ} {k : K} {b : Below K V} {d i : ℕ} {child : Node K V} (w : Way R path level k b d i child) (total : IsTotalOrder R) (exact : (x y : K) → R x y ≡ Equal → x ≡ y)

@@ -5,7 +5,7 @@ use Rattle.std.specs.declared.cmp.Ordering.{Ordering}
 use Rattle.std.specs.FinMap.{find}
 use Rattle.std.specs.FinMap.Entries.{put}
 use Rattle.trie_shape.specs.Tree.{Tree, entries}
-use Rattle.trie_node.specs.Writes.{Writes}
+use Rattle.trie_copy.specs.Writes.{Writes}
 
 -- the old tree has become the new one by a put of k under a condition; previous is the value that k had
 pub record PutsIn {K V : Type 0} (R : K → K → Ordering) (path : K → ℕ) (level : ℕ) (stamp : ℕ) (k : K) (v : V) (holds : Option V → Bool) (old : Tree K V) (previous : Option V) (written : Bool) (new : Tree K V) : Type 0 where

@@ -5,7 +5,7 @@ use Rattle.std.specs.FinMap.{find}
 use Rattle.std.specs.Arc.{arc_value}
 use Rattle.trie_shape.specs.Tree.{Tree, entries}
 use Rattle.trie_shape.specs.View.{tree}
-use Rattle.trie_node.specs.Removals.{is_removable, IsTaken, IsOnly, Leaves}
+use Rattle.trie_copy.specs.Removals.{is_removable, IsTaken, IsOnly, Leaves}
 use Rattle.trie_node.specs.declared.removal_in_place.RemovedIn.{RemovedIn}
 use Rattle.trie_node.specs.declared.removal_in_place.RemovedIn.TheVariants.{Nothing, Gone, Left}
 use Rattle.trie_node.specs.declared.removal_in_place.TakenInside.{TakenInside}

@@ -1,25 +1,22 @@
 //! Leaves and buckets that are written where they stand.
 
-ghost use Rattle.std.specs.Prelude.{◌≡◌, ◌<◌, ℕ, List, ◌∷◌, [], length, map, option_map, is_some, true, get_or, slice_set as set, T, MatchResult, IfOk, OnErr, None};
-ghost use Rattle.std.specs.Arc.{arc_value};
+ghost use Rattle.std.specs.Prelude.{◌≡◌, ◌<◌, ℕ, length, map, is_some, true, T, MatchResult, IfOk, OnErr, None};
 ghost use Rattle.std.specs.FinMap.{find as first_of, is_sorted};
 ghost use Rattle.std.specs.declared.cmp.Ordering.TheVariants.{Equal};
-ghost use Rattle.trie_shape.specs.Tree.{IsTrie, KeysHaveWord, bucket};
+ghost use Rattle.trie_shape.specs.Tree.{KeysHaveWord, bucket};
 ghost use Rattle.trie_shape.specs.View.{pair_values};
-ghost use Rattle.trie_node.specs.PutInPlace.{PutsIn, GoesTo, is_refusable};
-ghost use Rattle.trie_node.specs.Removals.{IsAt};
-ghost use Rattle.trie_node.specs.RemovalInPlace.{TakesOut};
+ghost use Rattle.trie_node.specs.Buckets.{PutsAmong, PutsAt, TakesFrom};
+ghost use Rattle.trie_node.specs.PutInPlace.{GoesTo, is_refusable};
+ghost use Rattle.trie_copy.specs.Removals.{IsAt};
 
-use crate::condition::{holds_of, holds_of_absent};
-use crate::pair_removal::place_of;
-use crate::put::Entry;
-use crate::put_in_place::Done;
+use crate::change::Change;
 use crate::removal_in_place::RemovedIn;
 use hash_path::{Path, PathKey, Sought};
 use std::alloc::Global;
 use std::cmp::Ordering;
 use std::mem;
 use std::sync::Arc;
+use trie_copy::{NewPair, holds_of, holds_of_absent, place_of};
 use trie_shape::{Condition, NoMemory, Stamp};
 
 /// Whether pairs of one path word have this one.
@@ -55,20 +52,20 @@ fn place_among<K: PathKey, V>(
 pub(crate) fn put_in_pair<K: PathKey + Drop, V: Drop, C: Condition<V>>(
     stamp: &mut Stamp,
     pair: &mut (Arc<K, Global>, Arc<V, Global>),
-    entry: Entry<K, V>,
+    entry: NewPair<K, V>,
     condition: &C,
-) -> Result<Done<V>, NoMemory>
-    ensures ok { IfOk result (λ d. (level : ℕ) (es : List (K × V)) (i : ℕ) → IsAt K.cmp entry.key.value i es → get_or es i (pair_values pair.old) ≡ pair_values pair.old → IsTrie K.cmp K.path_of level (bucket stamp.old.0 es) → PutsIn K.cmp K.path_of level entry.stamp.0 entry.key.value entry.value.value (C.holds condition.now) (bucket stamp.old.0 es) (option_map arc_value d.previous) d.written (bucket stamp.new.0 (set es i (pair_values pair.new)))) }
+) -> Result<Change<V>, NoMemory>
+    ensures ok { IfOk result (λ change. PutsAt K.cmp K.path_of entry (C.holds condition.now) stamp.old.0 (pair_values pair.old) change stamp.new.0 (pair_values pair.new)) }
     ensures err { OnErr result ((stamp.new ≡ stamp.old) × (pair.new ≡ pair.old)) }
 {
     if !holds_of(condition, &pair.1) {
         let previous = Arc::try_clone(&pair.1)?;
-        return Ok(Done {
+        return Ok(Change {
             previous: Some(previous),
             written: false,
         });
     }
-    let Entry {
+    let NewPair {
         key,
         value,
         stamp: new_stamp,
@@ -77,7 +74,7 @@ pub(crate) fn put_in_pair<K: PathKey + Drop, V: Drop, C: Condition<V>>(
     *stamp = new_stamp;
     pair.0 = key;
     let previous = mem::replace(&mut pair.1, value);
-    Ok(Done {
+    Ok(Change {
         previous: Some(previous),
         written: true,
     })
@@ -89,22 +86,22 @@ fn insert_pair<K: PathKey + Drop, V: Drop, C: Condition<V>>(
     stamp: &mut Stamp,
     pairs: &mut Vec<(Arc<K, Global>, Arc<V, Global>)>,
     at: usize,
-    entry: Entry<K, V>,
+    entry: NewPair<K, V>,
     condition: &C,
-) -> Result<Done<V>, NoMemory>
+) -> Result<Change<V>, NoMemory>
     requires goes { GoesTo K.cmp entry.key.value at (map pair_values pairs.old.items) }
     requires word { KeysHaveWord K.cmp K.path_of (K.path_of entry.key.value) (map pair_values pairs.old.items) }
-    ensures ok { IfOk result (λ d. (level : ℕ) → IsTrie K.cmp K.path_of level (bucket stamp.old.0 (map pair_values pairs.old.items)) → PutsIn K.cmp K.path_of level entry.stamp.0 entry.key.value entry.value.value (C.holds condition.now) (bucket stamp.old.0 (map pair_values pairs.old.items)) (option_map arc_value d.previous) d.written (bucket stamp.new.0 (map pair_values pairs.new.items))) }
+    ensures ok { IfOk result (λ change. PutsAmong K.cmp K.path_of entry (C.holds condition.now) stamp.old.0 (map pair_values pairs.old.items) change stamp.new.0 (map pair_values pairs.new.items)) }
     ensures due { OnErr result (C.holds condition.now None ≡ true) }
     ensures err { OnErr result ((stamp.new ≡ stamp.old) × (pairs.new.items ≡ pairs.old.items)) }
 {
     if !holds_of_absent(condition) {
-        return Ok(Done {
+        return Ok(Change {
             previous: None,
             written: false,
         });
     }
-    let Entry {
+    let NewPair {
         key,
         value,
         stamp: new_stamp,
@@ -112,7 +109,7 @@ fn insert_pair<K: PathKey + Drop, V: Drop, C: Condition<V>>(
     } = entry;
     pairs.insert(at, (key, value))?;
     *stamp = new_stamp;
-    Ok(Done {
+    Ok(Change {
         previous: None,
         written: true,
     })
@@ -122,12 +119,12 @@ fn insert_pair<K: PathKey + Drop, V: Drop, C: Condition<V>>(
 pub(crate) fn put_in_pairs<K: PathKey + Drop, V: Drop, C: Condition<V>>(
     stamp: &mut Stamp,
     pairs: &mut Vec<(Arc<K, Global>, Arc<V, Global>)>,
-    entry: Entry<K, V>,
+    entry: NewPair<K, V>,
     condition: &C,
-) -> Result<Done<V>, NoMemory>
+) -> Result<Change<V>, NoMemory>
     requires sorted { T (is_sorted K.cmp (map pair_values pairs.old.items)) }
     requires word { KeysHaveWord K.cmp K.path_of (K.path_of entry.key.value) (map pair_values pairs.old.items) }
-    ensures ok { IfOk result (λ d. (level : ℕ) → IsTrie K.cmp K.path_of level (bucket stamp.old.0 (map pair_values pairs.old.items)) → PutsIn K.cmp K.path_of level entry.stamp.0 entry.key.value entry.value.value (C.holds condition.now) (bucket stamp.old.0 (map pair_values pairs.old.items)) (option_map arc_value d.previous) d.written (bucket stamp.new.0 (map pair_values pairs.new.items))) }
+    ensures ok { IfOk result (λ change. PutsAmong K.cmp K.path_of entry (C.holds condition.now) stamp.old.0 (map pair_values pairs.old.items) change stamp.new.0 (map pair_values pairs.new.items)) }
     ensures due { OnErr result (is_refusable (C.holds condition.now) (first_of K.cmp entry.key.value (map pair_values pairs.old.items)) ≡ true) }
     ensures err { OnErr result (bucket stamp.new.0 (map pair_values pairs.new.items) ≡ bucket stamp.old.0 (map pair_values pairs.old.items)) }
 {
@@ -146,7 +143,7 @@ pub(crate) fn remove_from_pairs<K: PathKey + Drop, V: Drop, Q: Sought<K>, C: Con
     condition: &C,
 ) -> Result<RemovedIn<V>, NoMemory>
     requires { 1 < length pairs.old.items }
-    ensures ok { IfOk result (λ r. (level : ℕ) → IsTrie K.cmp K.path_of level (bucket stamp.old.0 (map pair_values pairs.old.items)) → TakesOut K.cmp K.path_of level new_stamp.0 (Q.key_of key) (C.holds condition.now) (bucket stamp.old.0 (map pair_values pairs.old.items)) r (bucket stamp.new.0 (map pair_values pairs.new.items))) }
+    ensures ok { IfOk result (λ removed. TakesFrom K.cmp K.path_of new_stamp.0 (Q.key_of key) (C.holds condition.now) stamp.old.0 (map pair_values pairs.old.items) removed stamp.new.0 (map pair_values pairs.new.items)) }
     ensures due { OnErr result (is_some (first_of K.cmp (Q.key_of key) (map pair_values pairs.old.items)) ≡ true) }
     ensures err { OnErr result (bucket stamp.new.0 (map pair_values pairs.new.items) ≡ bucket stamp.old.0 (map pair_values pairs.old.items)) }
 {

@@ -8,20 +8,18 @@
 #![tactic(auto)]
 
 mod bucket_in_place;
-mod condition;
-mod merging;
-mod pair_removal;
-mod put;
+mod change;
 mod put_in_place;
-mod removal;
 mod removal_in_place;
-mod removal_outcome;
+mod root_in_place;
 
-pub use merging::merged;
-pub use put::{Written, put_where, with_put};
-pub use put_in_place::{Done, put_in, put_in_where, put_in_where_along};
-pub use removal::{removed_where, with_removed};
-pub use removal_in_place::{remove_in, remove_in_where, remove_in_where_along};
+pub use change::Change;
+pub use root_in_place::{
+    put_in, put_in_where, put_in_where_along, remove_in, remove_in_where, remove_in_where_along,
+};
+
+// Writes by copies.
+pub use trie_copy::{Written, merged, put_where, removed_where, with_put, with_removed};
 
 // What a root is, for the crates above, which write and read by this crate alone.
 pub use trie_shape::{

@@ -1,62 +1,39 @@
 //! A pair put below a node, where it stands as far as nobody else holds it.
 
-ghost use Rattle.std.specs.Prelude.{◌≡◌, ◌==◌, ◌<◌, ◌≤◌, ◌+◌, ◌^◌, ◌*◌, ◌%◌, option_map, length, map, take, bit_or, IfOk, OnOk, OnErr, Some, None, is_some, [], ◌∷◌, true, false, ◌||◌};
+ghost use Rattle.std.specs.Prelude.{◌≡◌, ◌==◌, ◌<◌, ◌≤◌, ◌+◌, ◌^◌, ◌*◌, ◌%◌, option_map, length, map, take, bit_or, IfOk, OnErr, Some, None, is_some, [], ◌∷◌, true, false};
 ghost use Rattle.std.specs.Arc.{arc_value};
 ghost use Rattle.std.specs.Int.{bit_at};
 ghost use Rattle.std.specs.Int.RustNames.{count_ones};
 ghost use Rattle.std.specs.List.{insert};
 ghost use Rattle.std.specs.FinMap.{find as first_of};
 ghost use Rattle.hash_path.specs.Digits.{fan_out};
-ghost use Rattle.trie_shape.specs.Roots.{IsRoot, map_of};
-ghost use Rattle.trie_shape.specs.Map.{value_at};
-ghost use Rattle.trie_node.specs.Changes.{IsPut};
 ghost use Rattle.trie_shape.specs.Tree.{IsTrie, branch, bucket, entries, trees};
 ghost use Rattle.trie_shape.specs.View.{tree, branch_of, in_row};
-ghost use Rattle.trie_node.specs.Writes.{KeysAgree};
+ghost use Rattle.trie_copy.specs.Writes.{KeysAgree};
 ghost use Rattle.trie_node.specs.PutInPlace.{PutsIn, is_refusable};
-ghost use Rattle.trie_node.specs.PutInside.{PutsInside, PutsLeaf};
+ghost use Rattle.trie_node.specs.PutInside.{PutsInside, PutsLeaf, with_leaf};
 
 use crate::bucket_in_place::{have_path, put_in_pair, put_in_pairs};
-use crate::condition::holds_of_absent;
-use crate::put::{Entry, Written, put_at};
-use hash_path::{Path, PathKey};
+use crate::change::{Change, shared};
+use hash_path::PathKey;
 use std::alloc::Global;
 use std::cmp::Ordering;
 use std::sync::Arc;
+use trie_copy::{NewPair, Written, holds_of_absent, put_at};
 use trie_shape::{
-    Always, Condition, NoMemory, Node, Stamp, gain_child, has_digit, make_leaf, outgrow, place,
+    Condition, NoMemory, Node, Stamp, gain_child, has_digit, make_leaf, outgrow, place,
     size as count,
 };
-
-/// What a write found, and whether it took place.
-#[derive(Drop)]
-pub struct Done<V> {
-    /// The value that the key had before.
-    pub previous: Option<Arc<V, Global>>,
-    /// Whether the node was written.
-    pub written: bool,
-}
-
-// Another handle on the value, where there is one.
-pub(crate) fn shared<V>(value: Option<&Arc<V, Global>>) -> Result<Option<Arc<V, Global>>, NoMemory>
-    ensures due { OnErr result (is_some value.entry ≡ true) }
-    ensures ok { IfOk result (λ shared. option_map arc_value shared ≡ option_map (λ v. v.now.value) value.entry) }
-{
-    match value {
-        Some(value) => Ok(Some(Arc::try_clone(value)?)),
-        None => Ok(None),
-    }
-}
 
 /// What a put into a node where it stands came to.
 #[derive(Drop)]
 pub(crate) enum PutInside<K, V> {
     /// The put is done.
-    Done(Done<V>),
+    Done(Change<V>),
     /// The pair was put, and this node is to take the branch's place.
     GivesWay(Node<K, V>),
     /// The node cannot be written where it stands, and is as it was.
-    Elsewhere(Entry<K, V>),
+    Elsewhere(NewPair<K, V>),
 }
 
 /// A put below a node that stands at the level: where it stands as far as nobody else holds the
@@ -65,10 +42,10 @@ pub(crate) enum PutInside<K, V> {
 pub(crate) fn put_in_at<K: PathKey + Drop, V: Drop, C: Condition<V>>(
     alloc: Global,
     node: &mut Node<K, V>,
-    entry: Entry<K, V>,
+    entry: NewPair<K, V>,
     level: u32,
     condition: &C,
-) -> Result<Done<V>, NoMemory>
+) -> Result<Change<V>, NoMemory>
     requires trie { IsTrie K.cmp K.path_of level (tree node.old) }
     requires path { entry.path.0 ≡ K.path_of entry.key.value }
     requires agree { KeysAgree K.cmp K.path_of level entry.path.0 (entries (tree node.old)) }
@@ -82,7 +59,7 @@ pub(crate) fn put_in_at<K: PathKey + Drop, V: Drop, C: Condition<V>>(
         PutInside::Elsewhere(entry) => put_copied(alloc, node, entry, level, condition),
         PutInside::GivesWay(grown) => {
             *node = grown;
-            Ok(Done {
+            Ok(Change {
                 previous: None,
                 written: true,
             })
@@ -95,7 +72,7 @@ pub(crate) fn put_in_at<K: PathKey + Drop, V: Drop, C: Condition<V>>(
 fn put_in_node<K: PathKey + Drop, V: Drop, C: Condition<V>>(
     alloc: Global,
     node: &mut Node<K, V>,
-    entry: Entry<K, V>,
+    entry: NewPair<K, V>,
     level: u32,
     condition: &C,
 ) -> Result<PutInside<K, V>, NoMemory>
@@ -175,10 +152,10 @@ fn put_in_node<K: PathKey + Drop, V: Drop, C: Condition<V>>(
 fn put_copied<K: PathKey + Drop, V: Drop, C: Condition<V>>(
     alloc: Global,
     node: &mut Node<K, V>,
-    entry: Entry<K, V>,
+    entry: NewPair<K, V>,
     level: u32,
     condition: &C,
-) -> Result<Done<V>, NoMemory>
+) -> Result<Change<V>, NoMemory>
     requires trie { IsTrie K.cmp K.path_of level (tree node.old) }
     requires path { entry.path.0 ≡ K.path_of entry.key.value }
     requires agree { KeysAgree K.cmp K.path_of level entry.path.0 (entries (tree node.old)) }
@@ -192,12 +169,12 @@ fn put_copied<K: PathKey + Drop, V: Drop, C: Condition<V>>(
     match root {
         Some(root) => {
             *node = root;
-            Ok(Done {
+            Ok(Change {
                 previous,
                 written: true,
             })
         }
-        None => Ok(Done {
+        None => Ok(Change {
             previous,
             written: false,
         }),
@@ -212,7 +189,7 @@ fn put_in_two<K: PathKey + Drop, V: Drop, C: Condition<V>>(
     stamp: &mut Stamp,
     size: &mut u64,
     row: &mut [Node<K, V>; 2],
-    entry: Entry<K, V>,
+    entry: NewPair<K, V>,
     level: u32,
     condition: &C,
 ) -> Result<PutInside<K, V>, NoMemory>
@@ -235,7 +212,7 @@ fn put_in_four<K: PathKey + Drop, V: Drop, C: Condition<V>>(
     stamp: &mut Stamp,
     size: &mut u64,
     row: &mut [Node<K, V>; 4],
-    entry: Entry<K, V>,
+    entry: NewPair<K, V>,
     level: u32,
     condition: &C,
 ) -> Result<PutInside<K, V>, NoMemory>
@@ -258,7 +235,7 @@ fn put_in_eight<K: PathKey + Drop, V: Drop, C: Condition<V>>(
     stamp: &mut Stamp,
     size: &mut u64,
     row: &mut [Node<K, V>; 8],
-    entry: Entry<K, V>,
+    entry: NewPair<K, V>,
     level: u32,
     condition: &C,
 ) -> Result<PutInside<K, V>, NoMemory>
@@ -281,7 +258,7 @@ fn put_in_sixteen<K: PathKey + Drop, V: Drop, C: Condition<V>>(
     stamp: &mut Stamp,
     size: &mut u64,
     row: &mut [Node<K, V>; 16],
-    entry: Entry<K, V>,
+    entry: NewPair<K, V>,
     level: u32,
     condition: &C,
 ) -> Result<PutInside<K, V>, NoMemory>
@@ -304,7 +281,7 @@ fn put_in_all<K: PathKey + Drop, V: Drop, C: Condition<V>>(
     stamp: &mut Stamp,
     size: &mut u64,
     row: &mut [Node<K, V>; 32],
-    entry: Entry<K, V>,
+    entry: NewPair<K, V>,
     level: u32,
     condition: &C,
 ) -> Result<PutInside<K, V>, NoMemory>
@@ -329,7 +306,7 @@ fn put_leaf<K: PathKey + Drop, V: Drop, C: Condition<V>>(
     row: &mut [Node<K, V>],
     digit: u32,
     at: usize,
-    entry: Entry<K, V>,
+    entry: NewPair<K, V>,
     condition: &C,
 ) -> Result<PutInside<K, V>, NoMemory>
     requires digit { digit < fan_out }
@@ -337,17 +314,17 @@ fn put_leaf<K: PathKey + Drop, V: Drop, C: Condition<V>>(
     requires at { at ≤ count_ones bitmap.old }
     requires row { count_ones bitmap.old ≤ length row.old }
     requires size { size.old + 1 < 2 ^ 64 }
-    ensures ok { IfOk result (λ r. PutsLeaf entry (C.holds condition.now None) (branch entry.stamp.0 (size.old + 1) (bit_or bitmap.old (1 * 2 ^ digit % 2 ^ 32)) (trees (insert (map tree (take (count_ones bitmap.old) row.old)) at (bucket entry.stamp.0 ((entry.key.value, entry.value.value) ∷ []))))) (branch_of stamp.old.0 (in_row size.old bitmap.old row.old)) r (branch_of stamp.new.0 (in_row size.new bitmap.new row.new))) }
+    ensures ok { IfOk result (λ r. PutsLeaf entry (C.holds condition.now None) (with_leaf entry size.old bitmap.old digit at (take (count_ones bitmap.old) row.old)) (branch_of stamp.old.0 (in_row size.old bitmap.old row.old)) r (branch_of stamp.new.0 (in_row size.new bitmap.new row.new))) }
     ensures due { OnErr result (C.holds condition.now None ≡ true) }
     ensures err { OnErr result (branch_of stamp.new.0 (in_row size.new bitmap.new row.new) ≡ branch_of stamp.old.0 (in_row size.old bitmap.old row.old)) }
 {
     if !holds_of_absent(condition) {
-        return Ok(PutInside::Done(Done {
+        return Ok(PutInside::Done(Change {
             previous: None,
             written: false,
         }));
     }
-    let Entry {
+    let NewPair {
         key,
         value,
         stamp: new_stamp,
@@ -359,7 +336,7 @@ fn put_leaf<K: PathKey + Drop, V: Drop, C: Condition<V>>(
         return Ok(PutInside::GivesWay(grown));
     }
     gain_child(bitmap, stamp, size, row, digit, at, leaf, new_stamp);
-    Ok(PutInside::Done(Done {
+    Ok(PutInside::Done(Change {
         previous: None,
         written: true,
     }))
@@ -373,7 +350,7 @@ fn put_in_branch<K: PathKey + Drop, V: Drop, C: Condition<V>>(
     stamp: &mut Stamp,
     size: &mut u64,
     row: &mut [Node<K, V>],
-    entry: Entry<K, V>,
+    entry: NewPair<K, V>,
     level: u32,
     condition: &C,
 ) -> Result<PutInside<K, V>, NoMemory>
@@ -400,77 +377,4 @@ fn put_in_branch<K: PathKey + Drop, V: Drop, C: Condition<V>>(
     *size = *size + count(child) - before;
     *stamp = new_stamp;
     Ok(PutInside::Done(done))
-}
-
-/// Puts the value at the key, where the condition holds of the value that the key has. The root is
-/// written where it stands as far as nobody else holds the nodes of the key's way. After want of
-/// memory it is as before.
-pub fn put_in_where<K: PathKey + Drop, V: Drop, C: Condition<V>>(
-    alloc: Global,
-    node: &mut Node<K, V>,
-    key: Arc<K, Global>,
-    value: Arc<V, Global>,
-    stamp: Stamp,
-    condition: &C,
-) -> Result<Done<V>, NoMemory>
-    requires root { IsRoot K.cmp K.path_of (tree node.old) }
-    requires room { length (map_of K.cmp (tree node.old)) < 2 ^ 63 }
-    ensures previous { IfOk result (λ d. option_map arc_value d.previous ≡ value_at K.cmp (map_of K.cmp (tree node.old)) key.value) }
-    ensures written { IfOk result (λ d. d.written ≡ C.holds condition.now (value_at K.cmp (map_of K.cmp (tree node.old)) key.value)) }
-    ensures put { IfOk result (λ d. d.written ≡ true → IsPut K.cmp K.path_of stamp.0 key.value value.value (tree node.old) (tree node.new)) }
-    ensures kept { IfOk result (λ d. d.written ≡ false → tree node.new ≡ tree node.old) }
-    // An error comes only where the condition holds, or where the key is there and its value is to be handed out.
-    ensures due { OnErr result ((C.holds condition.now (value_at K.cmp (map_of K.cmp (tree node.old)) key.value) || is_some (value_at K.cmp (map_of K.cmp (tree node.old)) key.value)) ≡ true) }
-    ensures err { OnErr result (tree node.new ≡ tree node.old) }
-{
-    let path = key.path();
-    put_in_where_along(alloc, node, key, path, value, stamp, condition)
-}
-
-/// `put_in_where`, where the caller has the key's path word already: the key is not hashed again.
-pub fn put_in_where_along<K: PathKey + Drop, V: Drop, C: Condition<V>>(
-    alloc: Global,
-    node: &mut Node<K, V>,
-    key: Arc<K, Global>,
-    path: Path,
-    value: Arc<V, Global>,
-    stamp: Stamp,
-    condition: &C,
-) -> Result<Done<V>, NoMemory>
-    requires root { IsRoot K.cmp K.path_of (tree node.old) }
-    requires room { length (map_of K.cmp (tree node.old)) < 2 ^ 63 }
-    requires path { path.0 ≡ K.path_of key.value }
-    ensures previous { IfOk result (λ d. option_map arc_value d.previous ≡ value_at K.cmp (map_of K.cmp (tree node.old)) key.value) }
-    ensures written { IfOk result (λ d. d.written ≡ C.holds condition.now (value_at K.cmp (map_of K.cmp (tree node.old)) key.value)) }
-    ensures put { IfOk result (λ d. d.written ≡ true → IsPut K.cmp K.path_of stamp.0 key.value value.value (tree node.old) (tree node.new)) }
-    ensures kept { IfOk result (λ d. d.written ≡ false → tree node.new ≡ tree node.old) }
-    // An error comes only where the condition holds, or where the key is there and its value is to be handed out.
-    ensures due { OnErr result ((C.holds condition.now (value_at K.cmp (map_of K.cmp (tree node.old)) key.value) || is_some (value_at K.cmp (map_of K.cmp (tree node.old)) key.value)) ≡ true) }
-    ensures err { OnErr result (tree node.new ≡ tree node.old) }
-{
-    let entry = Entry {
-        path,
-        key,
-        value,
-        stamp,
-    };
-    put_in_at(alloc, node, entry, 0, condition)
-}
-
-/// Puts the value at the key. The root is written where it stands as far as nobody else holds the
-/// nodes of the key's way. After want of memory it is as before.
-pub fn put_in<K: PathKey + Drop, V: Drop>(
-    alloc: Global,
-    node: &mut Node<K, V>,
-    key: Arc<K, Global>,
-    value: Arc<V, Global>,
-    stamp: Stamp,
-) -> Result<(), NoMemory>
-    requires root { IsRoot K.cmp K.path_of (tree node.old) }
-    requires room { length (map_of K.cmp (tree node.old)) < 2 ^ 63 }
-    ensures put { OnOk result (IsPut K.cmp K.path_of stamp.0 key.value value.value (tree node.old) (tree node.new)) }
-    ensures err { OnErr result (tree node.new ≡ tree node.old) }
-{
-    put_in_where(alloc, node, key, value, stamp, &Always)?;
-    Ok(())
 }

@@ -6,18 +6,17 @@ ghost use Rattle.std.specs.FinMap.{find as first_of};
 ghost use Rattle.trie_shape.specs.Shape.{nodes, Restamps};
 ghost use Rattle.trie_shape.specs.Roots.{IsRoot, map_of, word_of};
 ghost use Rattle.trie_shape.specs.Map.{value_at, without};
-ghost use Rattle.trie_node.specs.Changes.{IsRemoval};
+ghost use Rattle.trie_copy.specs.Changes.{IsRemoval};
 ghost use Rattle.trie_shape.specs.Tree.{IsTrie, entries};
 ghost use Rattle.trie_shape.specs.View.{tree, branch_of, in_row};
 ghost use Rattle.trie_node.specs.RemovalInPlace.{TakesOut, TakesInside};
 
 use crate::bucket_in_place::remove_from_pairs;
-use crate::put_in_place::{Done, shared};
-use crate::removal::remove_at;
-use crate::removal_outcome::Removal;
+use crate::change::shared;
 use hash_path::{Path, PathKey, Sought};
 use std::alloc::Global;
 use std::sync::Arc;
+use trie_copy::{Removal, remove_at};
 use trie_shape::{
     Always, Condition, NoMemory, Node, Stamp, count_out, has_digit, lose_child, place,
 };
@@ -25,7 +24,7 @@ use trie_shape::{
 /// What a removal did to a node.
 #[derive(Drop)]
 pub(crate) enum RemovedIn<V> {
-    /// Nothing was removed. It tells the key's value, if the key is there.
+    /// Nothing was removed. It has the key's value, if the key is there.
     Nothing(Option<Arc<V, Global>>),
     /// The pair is the only one, and the node is left to its holder. It has this value.
     Gone(Arc<V, Global>),
@@ -352,79 +351,4 @@ fn remove_in_branch<K: PathKey + Drop, V: Drop, Q: Sought<K>, C: Condition<V>>(
             None => Ok(TakenInside::Done(RemovedIn::Left(value))),
         },
     }
-}
-
-/// Removes the key, where it is there and the condition holds of its value. The root is written
-/// where it stands as far as nobody else holds the nodes of the key's way. After want of memory it
-/// is as before.
-pub fn remove_in_where<K: PathKey + Drop, V: Drop, Q: Sought<K>, C: Condition<V>>(
-    alloc: Global,
-    node: &mut Node<K, V>,
-    key: Q,
-    stamp: Stamp,
-    condition: &C,
-) -> Result<Done<V>, NoMemory>
-    requires root { IsRoot K.cmp K.path_of (tree node.old) }
-    ensures previous { IfOk result (λ d. option_map arc_value d.previous ≡ value_at K.cmp (map_of K.cmp (tree node.old)) (Q.key_of key)) }
-    ensures written { IfOk result (λ d. d.written ≡ (is_some (value_at K.cmp (map_of K.cmp (tree node.old)) (Q.key_of key)) && C.holds condition.now (value_at K.cmp (map_of K.cmp (tree node.old)) (Q.key_of key)))) }
-    ensures removed { IfOk result (λ d. d.written ≡ true → IsRemoval K.cmp K.path_of stamp.0 (Q.key_of key) (tree node.old) (tree node.new)) }
-    ensures kept { IfOk result (λ d. d.written ≡ false → tree node.new ≡ tree node.old) }
-    // An error comes only where the key is there, and its value is to be handed out.
-    ensures due { OnErr result (is_some (value_at K.cmp (map_of K.cmp (tree node.old)) (Q.key_of key)) ≡ true) }
-    ensures err { OnErr result (tree node.new ≡ tree node.old) }
-{
-    remove_in_where_along(alloc, node, key, key.path_sought(), stamp, condition)
-}
-
-/// `remove_in_where`, where the caller has the key's path word already: the key is not hashed again.
-pub fn remove_in_where_along<K: PathKey + Drop, V: Drop, Q: Sought<K>, C: Condition<V>>(
-    alloc: Global,
-    node: &mut Node<K, V>,
-    key: Q,
-    path: Path,
-    stamp: Stamp,
-    condition: &C,
-) -> Result<Done<V>, NoMemory>
-    requires root { IsRoot K.cmp K.path_of (tree node.old) }
-    requires path { path.0 ≡ K.path_of (Q.key_of key) }
-    ensures previous { IfOk result (λ d. option_map arc_value d.previous ≡ value_at K.cmp (map_of K.cmp (tree node.old)) (Q.key_of key)) }
-    ensures written { IfOk result (λ d. d.written ≡ (is_some (value_at K.cmp (map_of K.cmp (tree node.old)) (Q.key_of key)) && C.holds condition.now (value_at K.cmp (map_of K.cmp (tree node.old)) (Q.key_of key)))) }
-    ensures removed { IfOk result (λ d. d.written ≡ true → IsRemoval K.cmp K.path_of stamp.0 (Q.key_of key) (tree node.old) (tree node.new)) }
-    ensures kept { IfOk result (λ d. d.written ≡ false → tree node.new ≡ tree node.old) }
-    // An error comes only where the key is there, and its value is to be handed out.
-    ensures due { OnErr result (is_some (value_at K.cmp (map_of K.cmp (tree node.old)) (Q.key_of key)) ≡ true) }
-    ensures err { OnErr result (tree node.new ≡ tree node.old) }
-{
-    match remove_in_at(alloc, node, key, path, stamp, 0, condition)? {
-        RemovedIn::Nothing(previous) => Ok(Done {
-            previous,
-            written: false,
-        }),
-        RemovedIn::Gone(_) => unreachable!(),
-        RemovedIn::Left(value) => Ok(Done {
-            previous: Some(value),
-            written: true,
-        }),
-    }
-}
-
-/// Removes the key, if it is there. The root is written where it stands as far as nobody else
-/// holds the nodes of the key's way. After want of memory it is as before.
-pub fn remove_in<K: PathKey + Drop, V: Drop, Q: Sought<K>>(
-    alloc: Global,
-    node: &mut Node<K, V>,
-    key: Q,
-    stamp: Stamp,
-) -> Result<(), NoMemory>
-    requires root { IsRoot K.cmp K.path_of (tree node.old) }
-    ensures root { OnOk result (IsRoot K.cmp K.path_of (tree node.new)) }
-    ensures map { OnOk result (map_of K.cmp (tree node.new) ≡ without K.cmp (map_of K.cmp (tree node.old)) (Q.key_of key)) }
-
-    // The nodes of the key's path get the stamp, where the key is there. Else no node changes.
-    ensures stamps { OnOk result (is_some (value_at K.cmp (map_of K.cmp (tree node.old)) (Q.key_of key)) ≡ true → Restamps stamp.0 (word_of K.path_of (Q.key_of key)) (nodes (word_of K.path_of) (tree node.old)) (nodes (word_of K.path_of) (tree node.new))) }
-    ensures absent { OnOk result (value_at K.cmp (map_of K.cmp (tree node.old)) (Q.key_of key) ≡ None → tree node.new ≡ tree node.old) }
-    ensures err { OnErr result (tree node.new ≡ tree node.old) }
-{
-    remove_in_where(alloc, node, key, stamp, &Always)?;
-    Ok(())
 }

@@ -51,7 +51,7 @@ fn lend<'a, K, V>(stamp: Stamp, size: u64, bitmap: u32, row: &'a [Node<K, V>]) -
     }
 }
 
-/// What the node holds. For the crates that write whole roots.
+/// What the node holds. For the crates that write whole roots, and for those that read a row of children as a slice.
 pub fn open_node<K, V>(node: &Node<K, V>) -> Contents<'_, K, V>
     ensures { Holds result (tree node.now) }
 {

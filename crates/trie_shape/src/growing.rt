@@ -93,8 +93,8 @@ fn moved<K: Drop, V: Drop, const N: usize>(
 }
 
 /// The branch that `gain_child` would make of a branch whose row is full: its children are moved into
-/// a row of the next size, and the new child among them. After want of memory nothing is changed. For
-/// the crates that write whole roots.
+/// a row of the next size, and the new child among them. If memory runs out, nothing is changed.
+/// For the crates that write whole roots.
 pub fn outgrow<K: Drop, V: Drop>(
     alloc: Global,
     bitmap: u32,

@@ -127,7 +127,7 @@ pub(crate) fn branch_of_parts<K: Drop, V: Drop>(
     })
 }
 
-/// A branch of these children, which are moved out of the buffer they stand in. After want of memory
+/// A branch of these children, which are moved out of the buffer they stand in. If memory runs out,
 /// they are gone. For the crates that write whole roots.
 pub fn make_branch<K: Drop, V: Drop>(
     alloc: Global,

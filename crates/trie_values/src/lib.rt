@@ -4,7 +4,6 @@
 //! branch by branch, with no hash, no comparison of keys and no way down from the root.
 #![tactic(auto)]
 
-mod fetching;
 mod mapping;
 
 pub use mapping::with_new_values;

@@ -6,10 +6,10 @@ ghost use Rattle.trie_shape.specs.Tree.{bucket};
 ghost use Rattle.trie_shape.specs.View.{pair_values, tree};
 ghost use Rattle.trie_values.specs.Values.{AreGiven, IsGiven, IsMade, MayAnswer, Means, with_values};
 
-use crate::fetching::fetch_keys;
 use hash_path::PathKey;
 use std::alloc::Global;
 use std::sync::Arc;
+use trie_fetch::{Keys, fetch_leaves};
 use trie_node::{
     Look, NoMemory, Node, Stamp, bitmap_counts_children, branch_is_its_children, child, look, size,
 };
@@ -66,7 +66,7 @@ fn map_subtrie<K: Drop, V, W: Drop, F: Fn(&K, &V) -> W>(
             branch_is_its_children::<K, V>();
             let few = size(node) <= MOST_AT_ONCE;
             if few && !fetched {
-                fetch_keys(node);
+                fetch_leaves::<Keys, K, V>(node);
             }
             let mut children = Vec::with_capacity(alloc, bitmap.count_ones() as usize)?;
             for n in 0..bitmap.count_ones() {

@@ -7,7 +7,6 @@
 //! copies the others.
 #![tactic(auto)]
 
-mod change;
 mod laws;
 mod refusal;
 mod room;
@@ -15,9 +14,8 @@ mod root;
 mod version;
 mod view;
 
-pub use change::Change;
 pub use laws::{law_of_equal_maps, law_of_names, law_of_put, law_of_removal};
 pub use refusal::Refusal;
-pub use trie_node::NoMemory;
+pub use trie_node::{Change, NoMemory};
 pub use version::{MOST_PAIRS, Version};
 pub use view::View;

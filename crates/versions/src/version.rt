@@ -11,7 +11,6 @@ ghost use Rattle.versions.specs.Puts.{FullExactly};
 
 mod along;
 
-use crate::change::Change;
 use crate::refusal::Refusal;
 use crate::root::Root;
 use crate::view::View;
@@ -20,7 +19,9 @@ use hash_path::{PathKey, Sought};
 use std::alloc::Global;
 use std::marker::Model;
 use std::sync::Arc;
-use trie_node::{Always, Condition, NoMemory, Node, Stamp, root_has_few_nodes, root_is_map};
+use trie_node::{
+    Always, Change, Condition, NoMemory, Node, Stamp, root_has_few_nodes, root_is_map,
+};
 
 /// The most pairs that a map may be limited to.
 pub const MOST_PAIRS: u64 = 16_777_216;
@@ -153,8 +154,8 @@ impl<K: PathKey + Drop, V: Drop> Version<K, V> {
 
     /// Maps the key to the value, and answers the value before, or none.
     ///
-    /// It is refused as `Full` where the key is new and there are as many pairs as there may be, and as `NoMemory`
-    /// for want of memory. The map is then as before.
+    /// The error is `Full` where the key is new and there are as many pairs as there may be, and `NoMemory` if memory
+    /// runs out. The map is then as before.
     pub fn put(
         &mut self,
         alloc: Global,
@@ -175,8 +176,8 @@ impl<K: PathKey + Drop, V: Drop> Version<K, V> {
     /// Maps the key to the value where the condition holds of the value that the key has, and answers that value and
     /// whether the map was written. It walks down the trie once. Where the map is not written no node is copied.
     ///
-    /// It is refused as `Full` where the condition holds, the key is new and there are as many pairs as there may be,
-    /// and as `NoMemory` for want of memory. The map is then as before.
+    /// The error is `Full` where the condition holds, the key is new and there are as many pairs as there may be, and
+    /// `NoMemory` if memory runs out. The map is then as before.
     pub fn put_where<C: Condition<V>>(
         &mut self,
         alloc: Global,
@@ -185,11 +186,11 @@ impl<K: PathKey + Drop, V: Drop> Version<K, V> {
         condition: &C,
     ) -> Result<Change<V>, Refusal>
         ensures before { IfOk result (λ change. option_map arc_value change.previous ≡ value_at K.cmp self.old.entries key.value) }
-        ensures done { IfOk result (λ change. change.done ≡ C.holds condition.now (value_at K.cmp self.old.entries key.value)) }
-        ensures entries { IfOk result (λ change. self.new.entries ≡ (if change.done then with_pair K.cmp self.old.entries key.value value.value else self.old.entries)) }
+        ensures written { IfOk result (λ change. change.written ≡ C.holds condition.now (value_at K.cmp self.old.entries key.value)) }
+        ensures entries { IfOk result (λ change. self.new.entries ≡ (if change.written then with_pair K.cmp self.old.entries key.value value.value else self.old.entries)) }
         ensures limit { self.new.limit ≡ self.old.limit }
         ensures stamp { self.new.stamp ≡ self.old.stamp }
-        ensures nodes { IfOk result (λ change. RestampsIf change.done self.old.stamp (word_of K.path_of key.value) self.old.nodes self.new.nodes) }
+        ensures nodes { IfOk result (λ change. RestampsIf change.written self.old.stamp (word_of K.path_of key.value) self.old.nodes self.new.nodes) }
         ensures full { FullExactly result (C.holds condition.now None && is_full_for K.cmp self.old.limit self.old.entries key.value) }
         ensures err { OnErr result (self.new ≡ self.old) }
     {
@@ -197,8 +198,8 @@ impl<K: PathKey + Drop, V: Drop> Version<K, V> {
         self.put_where_along(alloc, key, path, value, condition)
     }
 
-    /// Removes the key, and answers the value before, or none. It is refused for want of memory alone, and the map
-    /// is then as before. Where the key is absent no node is copied.
+    /// Removes the key, and answers the value before, or none. The only error is `NoMemory`, if memory runs out. The
+    /// map is then as before. Where the key is absent no node is copied.
     pub fn remove<Q: Sought<K>>(
         &mut self,
         alloc: Global,
@@ -217,7 +218,7 @@ impl<K: PathKey + Drop, V: Drop> Version<K, V> {
     /// Removes the key where it is there and the condition holds of its value, and answers the value that it had and
     /// whether the map was written. It walks down the trie once. Where the map is not written no node is copied.
     ///
-    /// It is refused for want of memory alone, and the map is then as before.
+    /// The only error is `NoMemory`, if memory runs out. The map is then as before.
     pub fn remove_where<Q: Sought<K>, C: Condition<V>>(
         &mut self,
         alloc: Global,
@@ -225,18 +226,18 @@ impl<K: PathKey + Drop, V: Drop> Version<K, V> {
         condition: &C,
     ) -> Result<Change<V>, NoMemory>
         ensures before { IfOk result (λ change. option_map arc_value change.previous ≡ value_at K.cmp self.old.entries (Q.key_of key)) }
-        ensures done { IfOk result (λ change. change.done ≡ (is_some (value_at K.cmp self.old.entries (Q.key_of key)) && C.holds condition.now (value_at K.cmp self.old.entries (Q.key_of key)))) }
-        ensures entries { IfOk result (λ change. self.new.entries ≡ (if change.done then without K.cmp self.old.entries (Q.key_of key) else self.old.entries)) }
+        ensures written { IfOk result (λ change. change.written ≡ (is_some (value_at K.cmp self.old.entries (Q.key_of key)) && C.holds condition.now (value_at K.cmp self.old.entries (Q.key_of key)))) }
+        ensures entries { IfOk result (λ change. self.new.entries ≡ (if change.written then without K.cmp self.old.entries (Q.key_of key) else self.old.entries)) }
         ensures limit { self.new.limit ≡ self.old.limit }
         ensures stamp { self.new.stamp ≡ self.old.stamp }
-        ensures nodes { IfOk result (λ change. RestampsIf change.done self.old.stamp (word_of K.path_of (Q.key_of key)) self.old.nodes self.new.nodes) }
+        ensures nodes { IfOk result (λ change. RestampsIf change.written self.old.stamp (word_of K.path_of (Q.key_of key)) self.old.nodes self.new.nodes) }
         ensures err { OnErr result (self.new ≡ self.old) }
     {
         self.remove_where_along(alloc, key, key.path_sought(), condition)
     }
 
-    /// Removes all pairs, which leaves one node, with the version's stamp. It is refused for want of memory alone,
-    /// and the map is then as before.
+    /// Removes all pairs, which leaves one node, with the version's stamp. The only error is `NoMemory`, if memory runs
+    /// out. The map is then as before.
     pub fn clear(&mut self, alloc: Global) -> Result<(), NoMemory>
         ensures entries { OnOk result (self.new.entries ≡ []) }
         ensures limit { self.new.limit ≡ self.old.limit }

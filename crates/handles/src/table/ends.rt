@@ -2,7 +2,7 @@
 ghost use Rattle.std.specs.Prelude.{◌≡◌, ◌<◌, ◌≤◌, ◌+◌, ◌^◌, [], length, IfErr, IfOk, IsSome, OnErr, OnOk, Some, None, unwrap_or};
 ghost use Rattle.std.specs.Ordering.{nat_cmp};
 ghost use Rattle.bulk_ops.specs.Answers as plain;
-ghost use Rattle.bulk_ops.specs.Told.{told_of};
+ghost use Rattle.bulk_ops.specs.Summaries.{summary_of};
 ghost use Rattle.handles.specs.Jobs.{AllCanFinish, Concludes, Tells};
 ghost use Rattle.handles.specs.Machine.{Job};
 ghost use Rattle.handles.specs.declared.jobs.TheConstants.{MOST_JOBS};
@@ -51,7 +51,7 @@ pub(super) fn close_job<K: PathKey + Drop, V: Eq + Drop, Q: Asks<K, V> + Drop>(
     requires can { AllCanFinish Q.target_of places.old.limit jobs.old.jobs }
     requires room { places.old.issued < 2 ^ 63 }
     ensures done { IfOk result (λ answer. Concludes Q.target_of Q.answered places.old jobs.old job answer places.new jobs.new) }
-    ensures told { IfOk result (λ answer. told_of answer ≡ plain.told (Q.answer_of part)) }
+    ensures told { IfOk result (λ answer. summary_of answer ≡ plain.summary (Q.answer_of part)) }
     ensures limit { places.new.limit ≡ places.old.limit }
     ensures issued { places.new.issued ≤ places.old.issued + 1 }
     ensures closed { OnErr result (value_at nat_cmp jobs.old.jobs job ≡ None) }
@@ -63,7 +63,7 @@ pub(super) fn close_job<K: PathKey + Drop, V: Eq + Drop, Q: Asks<K, V> + Drop>(
     let target = open.query.target();
     let (answer, made) = open.query.conclude(part);
     jobs.close(job);
-    places.settle(target, made);
+    places.open_target(target, made);
     Ok(answer)
 }
 
@@ -77,7 +77,7 @@ pub(super) fn tell_job<K: PathKey + Drop, V: Eq + Drop, Q: Asks<K, V> + Drop>(
 ) -> Result<Answer<K, V, Q::Item>, Refusal>
     requires { (j : Job K V Q) → value_at nat_cmp jobs.now.jobs job ≡ Some j → Q.answers j.query j.frozen part.now }
     ensures tells { IfOk result (λ answer. Tells Q.answered jobs.now job answer) }
-    ensures told { IfOk result (λ answer. told_of answer ≡ plain.told (Q.answer_of part.now)) }
+    ensures told { IfOk result (λ answer. summary_of answer ≡ plain.summary (Q.answer_of part.now)) }
     ensures memory { IsSome (value_at nat_cmp jobs.now.jobs job) → IfErr result (λ e. e ≡ Refusal.NoMemory) }
 {
     match jobs.get(job) {

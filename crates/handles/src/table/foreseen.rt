@@ -12,7 +12,8 @@ use std::alloc::Global;
 use versions::{NoMemory, Refusal};
 
 impl<K: PathKey + Drop, V: Eq + Drop, Q: Asks<K, V> + Drop> Table<K, V, Q> {
-    /// Makes the call as `serve` does, where this answer was foreseen: it is the outcome of the step. A call that is
+    /// Makes the call as `serve` does, where this answer was foreseen: it is the outcome of the step. That the call is
+    /// not refused was decided when it was foreseen, and is not looked at again. A call that is
     /// answered so and leaves all maps is counted alone, with no second look at a map, and is never `NoMemory`. Nor is a
     /// drop.
     pub fn serve_foreseen(
@@ -32,7 +33,7 @@ impl<K: PathKey + Drop, V: Eq + Drop, Q: Asks<K, V> + Drop> Table<K, V, Q> {
             self.count(&call, answer);
             return Ok(());
         }
-        if lacks_memory(&self.serve(alloc, call)) {
+        if lacks_memory(&self.serve_granted(alloc, call)) {
             return Err(NoMemory);
         }
         Ok(())

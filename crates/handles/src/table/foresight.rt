@@ -1,7 +1,7 @@
-//! What the calls of a table would be answered now, for want of memory aside.
+//! What the calls of a table would be answered now, `NoMemory` aside.
 ghost use Rattle.std.specs.Prelude.{◌≡◌, MatchOption, Err, IfOk, Ok, Some, false};
 ghost use Rattle.bulk_ops.specs.Answers as plain;
-ghost use Rattle.bulk_ops.specs.Told.{told_of};
+ghost use Rattle.bulk_ops.specs.Summaries.{summary_of};
 ghost use Rattle.handles.specs.Machine.{Job, abandon, drop_handle, finish, freeze, job_at, on, open_handle, snapshot, view};
 ghost use Rattle.handles.specs.Views.{AnswersWithoutMemory, Foresees, call_outcome, command_of, finished_outcome, frozen_outcome, lacks_memory, machine, reply_outcome, request_of, unit_outcome, view_outcome};
 
@@ -9,7 +9,7 @@ use super::Table;
 use super::ends::tell_job;
 use crate::call::Call;
 use crate::call_reply::CallReply;
-use crate::demand::Demand;
+use crate::request_ref::RequestRef;
 use bulk_ops::{Answer, Asks};
 use hash_path::PathKey;
 use held_maps::{Command, Reply};
@@ -21,7 +21,7 @@ impl<K: PathKey + Drop, V: Eq + Drop, Q: Asks<K, V> + Drop> Table<K, V, Q> {
         ensures now { Foresees (machine K.cmp V.eq Q.target_of Q.answered) self.now (open_handle handle) unit_outcome result }
         ensures memory { lacks_memory result ≡ false }
     {
-        granted(self.refusal_of(&Demand::Open(handle)))
+        granted(self.refusal_of(&RequestRef::Open(handle)))
     }
 
     /// What `snapshot` would answer now. It takes no memory, and never foresees `NoMemory`.
@@ -29,7 +29,7 @@ impl<K: PathKey + Drop, V: Eq + Drop, Q: Asks<K, V> + Drop> Table<K, V, Q> {
         ensures now { Foresees (machine K.cmp V.eq Q.target_of Q.answered) self.now (snapshot handle to) unit_outcome result }
         ensures memory { lacks_memory result ≡ false }
     {
-        granted(self.refusal_of(&Demand::Snapshot(handle, to)))
+        granted(self.refusal_of(&RequestRef::Snapshot(handle, to)))
     }
 
     /// What `view` would answer now: the handle's map, which no later call changes. It makes no request for memory.
@@ -38,7 +38,7 @@ impl<K: PathKey + Drop, V: Eq + Drop, Q: Asks<K, V> + Drop> Table<K, V, Q> {
     pub fn foresee_view(&self, handle: u32) -> Result<View<K, V>, Refusal>
         ensures { Foresees (machine K.cmp V.eq Q.target_of Q.answered) self.now (view handle) view_outcome result }
     {
-        match self.refusal_of(&Demand::View(handle)) {
+        match self.refusal_of(&RequestRef::View(handle)) {
             Some(refusal) => Err(refusal),
             None => self.places.view(handle),
         }
@@ -52,7 +52,7 @@ impl<K: PathKey + Drop, V: Eq + Drop, Q: Asks<K, V> + Drop> Table<K, V, Q> {
         ensures now { Foresees (machine K.cmp V.eq Q.target_of Q.answered) self.now (on handle (command_of command.now)) reply_outcome result }
         ensures memory { AnswersWithoutMemory (machine K.cmp V.eq Q.target_of Q.answered) (on handle (command_of command.now)) result }
     {
-        match self.refusal_of(&Demand::On(handle, command)) {
+        match self.refusal_of(&RequestRef::On(handle, command)) {
             Some(refusal) => Err(refusal),
             None => self.places.foresee(handle, command),
         }
@@ -63,7 +63,7 @@ impl<K: PathKey + Drop, V: Eq + Drop, Q: Asks<K, V> + Drop> Table<K, V, Q> {
         ensures now { Foresees (machine K.cmp V.eq Q.target_of Q.answered) self.now (drop_handle handle) unit_outcome result }
         ensures memory { lacks_memory result ≡ false }
     {
-        granted(self.refusal_of(&Demand::Drop(handle)))
+        granted(self.refusal_of(&RequestRef::Drop(handle)))
     }
 
     /// What `freeze` with the query would answer now: the number that the job would get, and the handle's map, which no
@@ -73,23 +73,23 @@ impl<K: PathKey + Drop, V: Eq + Drop, Q: Asks<K, V> + Drop> Table<K, V, Q> {
     pub fn foresee_freeze(&self, handle: u32, query: &Q) -> Result<(u64, View<K, V>), Refusal>
         ensures { Foresees (machine K.cmp V.eq Q.target_of Q.answered) self.now (freeze handle query.now) frozen_outcome result }
     {
-        match self.refusal_of(&Demand::Freeze(handle, query)) {
+        match self.refusal_of(&RequestRef::Freeze(handle, query)) {
             Some(refusal) => Err(refusal),
             None => Ok((self.jobs.next_number(), self.places.view(handle)?)),
         }
     }
 
     /// What `finish` with the part would answer now. The part, which is lent alone, has to answer the job's query for
-    /// its frozen map. It makes no request for memory: a pair that was found is shared with the part. Whoever makes the
-    /// call then with that part is told the same.
+    /// its frozen map. It makes no request for memory: a pair that was found is shared with the part. A `finish`
+    /// that is made then with that part returns the same answer.
     ///
     /// It foresees `NoMemory` only where no refusal is due.
     pub fn foresee_finish(&self, job: u64, part: &Q::Part) -> Result<Answer<K, V, Q::Item>, Refusal>
         requires { (j : Job K V Q) → job_at self.now job ≡ Some j → Q.answers j.query j.frozen part.now }
         ensures now { Foresees (machine K.cmp V.eq Q.target_of Q.answered) self.now (finish job) finished_outcome result }
-        ensures told { IfOk result (λ answer. told_of answer ≡ plain.told (Q.answer_of part.now)) }
+        ensures told { IfOk result (λ answer. summary_of answer ≡ plain.summary (Q.answer_of part.now)) }
     {
-        match self.refusal_of(&Demand::Finish(job)) {
+        match self.refusal_of(&RequestRef::Finish(job)) {
             Some(refusal) => Err(refusal),
             None => tell_job(&self.jobs, job, part),
         }
@@ -100,7 +100,7 @@ impl<K: PathKey + Drop, V: Eq + Drop, Q: Asks<K, V> + Drop> Table<K, V, Q> {
         ensures now { Foresees (machine K.cmp V.eq Q.target_of Q.answered) self.now (abandon job) unit_outcome result }
         ensures memory { lacks_memory result ≡ false }
     {
-        granted(self.refusal_of(&Demand::Abandon(job)))
+        granted(self.refusal_of(&RequestRef::Abandon(job)))
     }
 
     /// What `serve` with the call would answer now, as the twins of `open`, `snapshot`, `drop_handle` and `call` do.

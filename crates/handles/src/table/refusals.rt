@@ -1,29 +1,27 @@
-//! Why the calls of a table are refused, for want of memory aside.
+//! Why the calls of a table are refused, `NoMemory` aside.
 ghost use Rattle.std.specs.Prelude.{◌≡◌, ◌-◌};
 ghost use Rattle.handles.specs.Machine.{is_bad, is_not_live, is_taken, is_unknown_job, lacks_place, refusal, room};
-ghost use Rattle.handles.specs.Views.{demanded, machine};
+ghost use Rattle.handles.specs.Views.{requested, machine};
 
 use super::Table;
-use crate::demand::Demand;
 use crate::jobs::MOST_JOBS;
+use crate::request_ref::RequestRef;
 use bulk_ops::Asks;
 use hash_path::PathKey;
+use held_maps::LAST_HANDLE;
 use versions::Refusal;
-
-// The last handle number.
-const LAST_HANDLE: u32 = 1023;
 
 // How much room the journal has to have for a call to be made.
 const LEAST_ROOM: u32 = 2;
 
 impl<K: PathKey + Drop, V: Eq + Drop, Q: Asks<K, V> + Drop> Table<K, V, Q> {
-    /// Why the demand is refused, if it is: the first reason, in the order in which they count.
-    pub(super) fn refusal_of(&self, demand: &Demand<'_, K, V, Q>) -> Option<Refusal>
-        ensures { result ≡ refusal (machine K.cmp V.eq Q.target_of Q.answered) self.now (demanded demand.now) }
+    /// Why the request is refused, if it is: the first reason, in the order in which they count.
+    pub(super) fn refusal_of(&self, request: &RequestRef<'_, K, V, Q>) -> Option<Refusal>
+        ensures { result ≡ refusal (machine K.cmp V.eq Q.target_of Q.answered) self.now (requested request.now) }
     {
-        let source = demand.source();
-        let wanted = demand.wanted();
-        if demand.needs_room() && self.room() < LEAST_ROOM {
+        let source = request.source();
+        let wanted = request.wanted();
+        if request.needs_room() && self.room() < LEAST_ROOM {
             return Some(Refusal::JournalFull);
         }
         if is_bad(source) || is_bad(wanted) {
@@ -32,16 +30,16 @@ impl<K: PathKey + Drop, V: Eq + Drop, Q: Asks<K, V> + Drop> Table<K, V, Q> {
         if self.is_not_live(source) {
             return Some(Refusal::NoHandle);
         }
-        if self.is_unknown_job(demand.job()) {
+        if self.is_unknown_job(request.job()) {
             return Some(Refusal::NoJob);
         }
         if self.is_taken(wanted) {
             return Some(Refusal::Taken);
         }
-        if demand.is_freeze() && self.jobs.len() >= MOST_JOBS {
+        if request.is_freeze() && self.jobs.len() >= MOST_JOBS {
             return Some(Refusal::TooManyJobs);
         }
-        if self.lacks_place(demand) {
+        if self.lacks_place(request) {
             return Some(Refusal::Full);
         }
         None
@@ -85,11 +83,11 @@ impl<K: PathKey + Drop, V: Eq + Drop, Q: Asks<K, V> + Drop> Table<K, V, Q> {
     }
 
     // Whether a command would put a new key into a map that holds as many pairs as it may.
-    fn lacks_place(&self, demand: &Demand<'_, K, V, Q>) -> bool
-        ensures { result ≡ lacks_place (machine K.cmp V.eq Q.target_of Q.answered) self.now (demanded demand.now) }
+    fn lacks_place(&self, request: &RequestRef<'_, K, V, Q>) -> bool
+        ensures { result ≡ lacks_place (machine K.cmp V.eq Q.target_of Q.answered) self.now (requested request.now) }
     {
-        match demand {
-            Demand::On(handle, command) => self.places.lacks_place(*handle, command),
+        match request {
+            RequestRef::On(handle, command) => self.places.lacks_place(*handle, command),
             _ => false,
         }
     }

@@ -1,4 +1,4 @@
-//! What commands on one map would reply, for want of room and memory aside.
+//! What commands on one map would reply, `Full` and `NoMemory` aside.
 ghost use Rattle.std.specs.Prelude.{◌≡◌, IfErr, IfOk, false, true};
 ghost use Rattle.held_maps.specs.Commands.{command_of, lacks_memory, leaves_map, reply_of};
 ghost use Rattle.versions.specs.Commands.{needs_no_memory, reply};

@@ -9,17 +9,22 @@ ghost use Rattle.journal.specs.Kept.{Files};
 use super::{JournaledTable, set_beside};
 use crate::asked::Asked;
 use crate::caller::Caller;
-use crate::filing::{Event, Opened, entered, lacks_memory};
-use crate::room::{Entries, Room};
-use crate::told::{told_of_call, told_of_freeze, told_of_view};
+use crate::filing::{Event, Opened, entered};
+use crate::journal_name::{Entries, JournalName};
+use crate::response::{response_to_call, response_to_freeze, response_to_view};
 use bulk_ops::Asks;
-use handles::{Call, CallReply, law_of_foresight, law_of_freezes, law_of_open_jobs};
+use handles::{Call, CallReply, lacks_memory, law_of_foresight, law_of_freezes, law_of_open_jobs};
 use hash_path::PathKey;
 use std::alloc::Global;
 use std::sync::{Arc, Wait};
 use versions::{NoMemory, Refusal, View};
 
-impl<K: PathKey + Drop, V: Eq + Drop, Q: Asks<K, V> + Drop, J: Room> JournaledTable<K, V, Q, J> {
+impl<K: PathKey + Drop, V: Eq + Drop, Q: Asks<K, V> + Drop, J: JournalName> JournaledTable<
+    K,
+    V,
+    Q,
+    J,
+> {
     /// Makes the call, which is foreseen to be answered so, and files it.
     pub(super) fn file_call<R: Wait>(
         &mut self,
@@ -39,7 +44,7 @@ impl<K: PathKey + Drop, V: Eq + Drop, Q: Asks<K, V> + Drop, J: Room> JournaledTa
         ensures room { OnOk result (IsTrue caller.has_room) }
         ensures err { OnErr result (self.new ≡ self.old) }
     {
-        let told = told_of_call(&answer)?;
+        let told = response_to_call(&answer)?;
         let asked = Asked::Call(call.try_clone::<Q>()?);
         let place = self.journal.len() as u64;
         let journal = &mut self.journal;
@@ -72,7 +77,7 @@ impl<K: PathKey + Drop, V: Eq + Drop, Q: Asks<K, V> + Drop, J: Room> JournaledTa
         ensures room { OnOk result (IsTrue caller.has_room) }
         ensures err { OnErr result (self.new ≡ self.old) }
     {
-        let told = told_of_view(&answer)?;
+        let told = response_to_view(&answer)?;
         let asked = Asked::View(handle);
         let place = self.journal.len() as u64;
         let journal = &mut self.journal;
@@ -109,7 +114,7 @@ impl<K: PathKey + Drop, V: Eq + Drop, Q: Asks<K, V> + Drop, J: Room> JournaledTa
         ensures room { OnOk result (IsTrue caller.has_room) }
         ensures err { OnErr result (self.new ≡ self.old) }
     {
-        let told = told_of_freeze(&answer)?;
+        let told = response_to_freeze(&answer)?;
         let asked = Asked::Freeze(handle, Arc::try_clone(&query)?);
         self.freezes.reserve(1)?;
         let place = self.journal.len() as u64;

@@ -8,11 +8,11 @@ use crate::seat::Seat;
 use bulk_ops::Asks;
 use handles::{Call, CallReply, Command, Reply};
 use hash_path::PathKey;
-use journal::Room;
+use journal::JournalName;
 use std::sync::{Arc, Wait};
 use versions::Refusal;
 
-impl<K: PathKey + Drop, V: Eq + Drop, Q: Asks<K, V> + Drop, J: Room> SharedMap<K, V, Q, J> {
+impl<K: PathKey + Drop, V: Eq + Drop, Q: Asks<K, V> + Drop, J: JournalName> SharedMap<K, V, Q, J> {
     /// The value of the key on the handle. Where it has none, `make` makes one, which is put, unless another seat has
     /// put one meanwhile: that seat's value is the answer then.
     ///

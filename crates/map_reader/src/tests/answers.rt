@@ -1,11 +1,12 @@
 //! What a reader answers before and after writes by others.
 use super::{
-    Stripes, assert_is, both, clear, empty, filled, locked, miss, put, remove, update, with_base,
+    TestStripes, assert_is, both, clear, empty, filled, locked, miss, put, remove, update,
+    with_base,
 };
 use crate::Readers;
 use std::process::Abort;
 use std::sync::Wait;
-use stripes::{Row, forks, joined};
+use stripes::{Stripes, forks, joined};
 use united_roots::RootRow;
 
 // A write of the key 3 of a map in which each key has itself as its value.
@@ -17,7 +18,7 @@ enum Kind {
     Clearing,
 }
 
-fn write<R: AllocGlobal + Wait + Abort>(rt: &R, row: &Stripes, kind: Kind) {
+fn write<R: AllocGlobal + Wait + Abort>(rt: &R, row: &TestStripes, kind: Kind) {
     match kind {
         Kind::Put => put(rt, row, 3, 70),
         Kind::Removal => remove(rt, row, 3),
@@ -122,13 +123,13 @@ fn a_key_of_the_next_base_is_read_without_its_lock(rt: HostRuntime) {
 }
 
 // Another map with the same pairs, as a snapshot has it.
-fn snapshot<R: AllocGlobal + Wait + Abort>(rt: &R, row: &Stripes) -> Stripes {
+fn snapshot<R: AllocGlobal + Wait + Abort>(rt: &R, row: &TestStripes) -> TestStripes {
     let room = Vec::with_capacity(rt.alloc(), 32).expect(rt, "no room");
     let held = row.all(rt, rt.alloc()).expect(rt, "not held");
     let stripes = forks(room, &held).expect(rt, "no forks");
     drop(held);
     assert!(rt; stripes.len() == 32, "not all stripes");
-    Row::new(rt.alloc(), stripes).expect(rt, "no locks")
+    Stripes::new(rt.alloc(), stripes).expect(rt, "no locks")
 }
 
 #[test]

@@ -1,5 +1,5 @@
 //! How often a base is made, and who has it.
-use super::{Stripes, assert_is, both, clear, filled, locked, miss, put, with_base};
+use super::{TestStripes, assert_is, both, clear, filled, locked, miss, put, with_base};
 use crate::Readers;
 use hash_path::PathKey;
 use std::process::Abort;
@@ -113,7 +113,7 @@ fn a_cleared_map_has_a_new_base(rt: HostRuntime) {
 }
 
 // A handle on the value of the key.
-fn handle<R: Wait + Abort>(rt: &R, row: &Stripes, key: u64) -> Arc<u64> {
+fn handle<R: Wait + Abort>(rt: &R, row: &TestStripes, key: u64) -> Arc<u64> {
     let path = key.path();
     let stripe = row.stripe_at(rt, path);
     let value = stripe.get(&key, path).expect(rt, "no value");

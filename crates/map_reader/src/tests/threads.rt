@@ -1,5 +1,5 @@
 //! Readers beside threads that write.
-use super::{Stripes, assert_is, filled, put};
+use super::{TestStripes, assert_is, filled, put};
 use crate::Readers;
 use std::process::Abort;
 use std::sync::Wait;
@@ -32,7 +32,7 @@ fn wait_for<R: Wait>(rt: &R, signals: &AtomicU64, reads: u64) {
 
 // Writes rising numbers to the first key and then to the second. Between two rounds are up to 2,000 reads, so that the
 // reader takes a new base now before a write, now after it, and now between the two.
-fn write<R: AllocGlobal + Wait + Abort>(rt: &R, row: &Stripes, signals: &AtomicU64) {
+fn write<R: AllocGlobal + Wait + Abort>(rt: &R, row: &TestStripes, signals: &AtomicU64) {
     let mut reads = 0u64;
     for round in 1..ROUNDS {
         put(rt, row, FIRST, round);
@@ -111,7 +111,7 @@ const CALLS: u64 = 20_000;
 // value that this thread had put.
 fn own<R: AllocGlobal + Wait + Abort>(
     rt: &R,
-    row: &Stripes,
+    row: &TestStripes,
     readers: &Shared<'_>,
     key: u64,
 ) -> u64 {
@@ -134,7 +134,7 @@ fn own<R: AllocGlobal + Wait + Abort>(
 // How often a thread did not read what it had put.
 fn lost<R: AllocGlobal + Threads + Wait + Abort + Sync>(
     rt: &R,
-    row: &Stripes,
+    row: &TestStripes,
     readers: &Shared<'_>,
 ) -> u64 {
     let all = thread::map_indices(

@@ -93,7 +93,7 @@ impl<K: PathKey + Drop, V: Drop, P: Keeps<K, V>> Stripe<K, V, P> {
 
     /// Removes the key where it has a value of which the test holds, and answers the value that was removed, or none.
     ///
-    /// It is refused for want of memory alone. The test has run then, and the stripe is as before.
+    /// The only error is `NoMemory`, if memory runs out. The test has run then, and the stripe is as before.
     pub fn remove_passing<Q: Sought<K>, F: FnOnce(&V) -> bool>(
         &mut self,
         alloc: Global,
@@ -139,8 +139,8 @@ impl<K: PathKey + Drop, V: Drop, P: Keeps<K, V>> Stripe<K, V, P> {
         }
     }
 
-    // What `put` does with a value that is not shared yet. A full stripe is looked for first, so that it is told whatever
-    // the memory.
+    // What `put` does with a value that is not shared yet. A full stripe is looked for first, so that `Full` is
+    // returned whatever the memory.
     fn store(
         &mut self,
         alloc: Global,

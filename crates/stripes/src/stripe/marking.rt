@@ -12,14 +12,14 @@ impl<K: PathKey + Drop, V: Drop, P: Keeps<K, V>> Stripe<K, V, P> {
     /// Has the stripe's writes marked there from now on, and answers where they were marked before. The pairs stay as
     /// they are.
     ///
-    /// The marks before have to end before the stripe is let go.
+    /// The marks before have to end before the stripe's lock is released.
     pub fn follow(&mut self, marks: Arc<Marks>) -> Option<Arc<Marks>>
         ensures { self.new ≡ self.old }
     {
         mem::replace(&mut self.marks, Some(marks))
     }
 
-    // Ends the marks and lets them go, before all pairs are removed.
+    // Ends the marks and drops them, before all pairs are removed.
     pub(super) fn end_marks(&mut self)
         ensures { self.new ≡ self.old }
     {

@@ -3,7 +3,7 @@ use crate::tests::assert_told;
 use std::alloc::{AllocError, Global};
 use std::panic::Expect;
 
-/// So many times the bytes, between two others.
+/// The bytes `times` times, between two others.
 fn repeated(
     alloc: Global,
     front: &[u8],
@@ -21,9 +21,9 @@ fn repeated(
 }
 
 /// What stands in front, bytes, how often they stand there, and what stands behind.
-type Row = (&'static [u8], &'static [u8], u32, &'static [u8]);
+type Case = (&'static [u8], &'static [u8], u32, &'static [u8]);
 
-const LINES: [Row; 10] = [
+const LINES: [Case; 10] = [
     (b"", b"[", 100_000, b"\n"),
     (b"", b"{\"call\":", 100_000, b"\n"),
     (b"{\"call\":", b"[", 100_000, b"\n"),

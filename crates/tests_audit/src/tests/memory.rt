@@ -41,7 +41,7 @@ fn spelled(rt: &impl Abort, alloc: Global, journal: &ProgramJournal) -> Option<(
     None
 }
 
-/// With each try a request more is met. It catches want of memory that is taken for a line that spoils the text.
+/// With each try a request more is met. It catches an audit that takes a lack of memory for a bad line of the text.
 #[test]
 fn an_audit_is_refused_at_each_request(rt: HostRuntime) {
     let seen = audited(&rt, rt.alloc(), BULK);

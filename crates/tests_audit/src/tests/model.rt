@@ -89,7 +89,7 @@ impl Model {
         shown.expect(rt, "no room")
     }
 
-    /// The value of the key before the call, which is made; the handle has so many keys.
+    /// The value of the key before the call, which is made; the handle has `size` keys before it.
     fn changed<R: AllocGlobal + Abort>(
         &mut self,
         rt: &R,
@@ -113,7 +113,7 @@ impl Model {
         old
     }
 
-    /// The handle has so many keys.
+    /// The handle has `keys` keys.
     fn resize(&mut self, rt: &impl Abort, handle: u32, keys: u32) {
         let put: Result<_, _> = self.sizes.insert(handle, keys);
         put.expect(rt, "no room");

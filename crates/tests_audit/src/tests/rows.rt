@@ -32,8 +32,8 @@ pub(super) const BULK: &[u8] = b"{\"call\":\"open 1\",\"entry\":1,\"reply\":\"ok
 {\"entries\":16}
 ";
 
-/// Bytes of a text, what takes the place of the first of them, and what is told of the text then.
-type Row = (&'static [u8], &'static [u8], &'static str);
+/// Bytes of a text, what replaces their first occurrence, and the verdict on the changed text.
+type Case = (&'static [u8], &'static [u8], &'static str);
 
 #[test]
 fn legal_journals_are_legal(rt: HostRuntime) {
@@ -53,7 +53,7 @@ fn newlines(text: &[u8]) -> u64 {
     count
 }
 
-/// The line that is cut spoils the text, or the one that is wanting.
+/// The bad line is the one that is cut, or the first one that is missing.
 fn assert_cut<R: AllocGlobal + Abort>(rt: &R, beginning: &[u8]) {
     let wanted = format!(in rt.alloc(); "bad {}", newlines(beginning).saturating_add(1));
     assert_told(rt, beginning, &wanted.expect(rt, "no room"));
@@ -71,7 +71,7 @@ fn beginnings_are_bad(rt: HostRuntime) {
 }
 
 /// Each line in the place of another one of the journal of four entries, and the line that it spoils.
-const LINES: [Row; 34] = [
+const LINES: [Case; 34] = [
     (
         b"\"call\":\"put 1 a 7\",\"entry\":3",
         b"\"entry\":3,\"call\":\"put 1 a 7\"",
@@ -143,7 +143,7 @@ fn wrong_lines_are_bad(rt: HostRuntime) {
 }
 
 /// Replies of the second journal that are others, and where they spoil it. Another pair that passes is as good.
-const REPLIES: [Row; 14] = [
+const REPLIES: [Case; 14] = [
     (
         b"pair c -9223372036854775808",
         b"pair a\\\"\\\\=b 4",
@@ -185,8 +185,8 @@ const FOUND: &[u8] = b"{\"call\":\"open 1\",\"entry\":1,\"reply\":\"ok\",\"seat\
 {\"entries\":8}
 ";
 
-/// What a find may not tell: a pair that does not pass, one that came later, one of another map, and that there is none.
-const PAIRS: [Row; 6] = [
+/// What a find may not return: a pair that does not pass, one that came later, one of another map, or no pair.
+const PAIRS: [Case; 6] = [
     (b"pair b 2", b"pair b 2", "legal 8"),
     (b"pair b 2", b"pair a 1", "bad 8"),
     (b"pair b 2", b"pair c 4", "bad 8"),
@@ -200,8 +200,8 @@ fn other_pairs_are_bad(rt: HostRuntime) {
     play(&rt, FOUND, &PAIRS);
 }
 
-/// Each row is told as it has to be.
-fn play<R: AllocGlobal + Abort>(rt: &R, text: &[u8], rows: &[Row]) {
+/// Each changed text has the verdict of its row.
+fn play<R: AllocGlobal + Abort>(rt: &R, text: &[u8], rows: &[Case]) {
     for row in rows {
         let (old, new, wanted) = *row;
         let (front, back) = parted(text, old).expect(rt, "no such bytes");
@@ -240,8 +240,8 @@ const IMAGES: &[u8] = b"{\"call\":\"open 1\",\"entry\":1,\"reply\":\"ok\",\"seat
 {\"entries\":7}
 ";
 
-/// Other images that the finish tells. Where it may tell them, what is read is held to them.
-const TOLD_IMAGES: [Row; 13] = [
+/// Other images that the finish reports. Where it may report them, what is read has to agree with them.
+const TOLD_IMAGES: [Case; 13] = [
     (b"pairs a=2 b=3", b"pairs a=2 b=3", "legal 7"),
     (b"pairs a=2 b=3", b"pairs a=1 b=3", "bad 7"),
     (
@@ -262,7 +262,7 @@ const TOLD_IMAGES: [Row; 13] = [
 ];
 
 /// The same with one key for all images: a good finish leaves no key that the last entry finds.
-const TOLD_OF_ONE_KEY: [Row; 4] = [
+const TOLD_OF_ONE_KEY: [Case; 4] = [
     (
         b"initial 2\",\"entry\":5,\"reply\":\"job 0\",\"seat\":0}\n{\"call\":\"finish 0\",\"entry\":6,\"reply\":\"pairs a=2 b=3",
         b"to:z 2\",\"entry\":5,\"reply\":\"job 0\",\"seat\":0}\n{\"call\":\"finish 0\",\"entry\":6,\"reply\":\"pairs z=1",
@@ -297,7 +297,7 @@ const BY_VALUE: &[u8] = b"{\"call\":\"open 1\",\"entry\":1,\"reply\":\"ok\",\"se
 {\"entries\":8}
 ";
 
-const TOLD_BY_VALUE: [Row; 7] = [
+const TOLD_BY_VALUE: [Case; 7] = [
     (b"pairs 7=2", b"pairs 7=2", "legal 8"),
     (b"pairs 7=2", b"pairs 7=1", "legal 8"),
     (b"pairs 7=2", b"pairs 7=3", "bad 6"),

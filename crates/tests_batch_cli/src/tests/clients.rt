@@ -6,7 +6,7 @@ use batch_cli::Free;
 use std::alloc::{AllocError, Global};
 use std::panic::Expect;
 
-// Were the clients run one after another, the first line would wait for its limit of turns in vain.
+// Were the clients run one after another, the first line would wait until its limit of turns was reached.
 #[test]
 fn two_clients_run_at_once(rt: HostRuntime) {
     let gate = Meeting::new();
@@ -67,7 +67,7 @@ fn replies_stand_in_order_of_line_numbers(rt: HostRuntime) {
     assert!(rt; seats.as_slice().starts_with(&[1, 1, 1]));
 }
 
-// The replies to so many lines that open one handle.
+// The replies to `count` lines that open one handle.
 fn replies_to(alloc: Global, count: u32) -> Result<String, AllocError> {
     let mut replies = String::from_str(alloc, "1 ok\n")?;
     for line in 2..count.saturating_add(1) {

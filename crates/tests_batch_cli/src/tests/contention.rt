@@ -63,7 +63,7 @@ fn winner_of(rt: &impl Abort, replies: &[&str], key: u32) -> u32 {
     winner.expect(rt, "nobody added the key")
 }
 
-// One line added the key, and all others of the key were told its value.
+// One line added the key, and all other lines of the key returned its value.
 fn assert_added_once(rt: &impl Abort, alloc: Global, replies: &[&str], key: u32) {
     let winner = winner_of(rt, replies, key);
     let told = format!(in alloc; "some {winner}").expect(rt, "no room");
@@ -122,7 +122,7 @@ fn one_round<R: AllocGlobal + Abort + Threads + Wait + Sync>(rt: &R, script: &st
 }
 
 // It catches maps of which each client has one of its own, an update that is lost, a reply at another's line, and a
-// journal that tells another answer than was printed.
+// journal that reports another answer than was printed.
 #[test]
 fn each_key_is_added_once(rt: HostRuntime) {
     let script = script_of(rt.alloc()).expect(&rt, "no script");

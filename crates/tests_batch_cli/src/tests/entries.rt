@@ -1,18 +1,18 @@
-//! Journals as text. An entry is what was asked, a colon and what was told.
+//! Journals as text. An entry is a request, a colon and its response.
 use super::assert_text;
 use batch_cli::{Journal, ScriptQuery};
 use bulk_ops::Answer;
 use handles::{Call, CallReply, Command, Reply};
 use keys::ByteText;
-use locked_map::{Asked, Told};
+use locked_map::{Asked, Response};
 use std::alloc::AllocError;
 use std::panic::Expect;
 use std::process::Abort;
 
-// What a client asks and is told.
+// What a client asks, and the response.
 type ScriptAsked = Asked<ByteText, i64, ScriptQuery>;
 
-type ScriptTold = Told<ByteText, i64, Option<i128>>;
+type ScriptResponse = Response<ByteText, i64, Option<i128>>;
 
 /// The entries of the seat are these in order, each on a line of its own.
 pub fn assert_entries<R: AllocGlobal + Abort>(rt: &R, journal: &Journal, seat: u32, wanted: &str) {
@@ -20,19 +20,19 @@ pub fn assert_entries<R: AllocGlobal + Abort>(rt: &R, journal: &Journal, seat: u
     for place in 0..journal.len() {
         let entry = journal.entry(place).expect(rt, "no entry");
         if entry.seat() == seat {
-            push_entry(&mut text, entry.asked(), entry.told()).expect(rt, "no room");
+            push_entry(&mut text, entry.asked(), entry.response()).expect(rt, "no room");
         }
     }
     assert_text(rt, &text, wanted);
 }
 
-/// The seat was told this by its entries in order, each on a line of its own.
+/// The responses of the seat's entries are these in order, each on a line of its own.
 pub fn assert_told<R: AllocGlobal + Abort>(rt: &R, journal: &Journal, seat: u32, wanted: &str) {
     let mut text = String::new(rt.alloc());
     for place in 0..journal.len() {
         let entry = journal.entry(place).expect(rt, "no entry");
         if entry.seat() == seat {
-            push_line(&mut text, entry.told()).expect(rt, "no room");
+            push_line(&mut text, entry.response()).expect(rt, "no room");
         }
     }
     assert_text(rt, &text, wanted);
@@ -48,13 +48,17 @@ pub fn seats_of<R: AllocGlobal + Abort>(rt: &R, journal: &Journal) -> Vec<u32> {
     seats
 }
 
-fn push_entry(text: &mut String, asked: &ScriptAsked, told: &ScriptTold) -> Result<(), AllocError> {
+fn push_entry(
+    text: &mut String,
+    asked: &ScriptAsked,
+    told: &ScriptResponse,
+) -> Result<(), AllocError> {
     push_asked(text, asked)?;
     text.push_str(": ")?;
     push_line(text, told)
 }
 
-fn push_line(text: &mut String, told: &ScriptTold) -> Result<(), AllocError> {
+fn push_line(text: &mut String, told: &ScriptResponse) -> Result<(), AllocError> {
     push_told(text, told)?;
     text.push_str("\n")
 }
@@ -115,14 +119,14 @@ fn push_write(
     Ok(())
 }
 
-fn push_told(text: &mut String, told: &ScriptTold) -> Result<(), AllocError> {
+fn push_told(text: &mut String, told: &ScriptResponse) -> Result<(), AllocError> {
     match told {
-        Told::Reply(reply) => push_reply(text, reply),
-        Told::View(view) => write!(text, "pairs {}", view.len()),
-        Told::Frozen(job, view) => write!(text, "job {job} of {}", view.len()),
-        Told::Answer(answer) => push_answer(text, answer),
-        Told::Abandoned => text.push_str("abandoned"),
-        Told::Refused(refusal) => write!(text, "refused {refusal:?}"),
+        Response::Reply(reply) => push_reply(text, reply),
+        Response::View(view) => write!(text, "pairs {}", view.len()),
+        Response::Frozen(job, view) => write!(text, "job {job} of {}", view.len()),
+        Response::Answer(answer) => push_answer(text, answer),
+        Response::Abandoned => text.push_str("abandoned"),
+        Response::Refused(refusal) => write!(text, "refused {refusal:?}"),
     }
 }
 

@@ -34,7 +34,7 @@ impl Write for Disk {
     }
 }
 
-/// Gives its byte so many times, and then fails.
+/// Gives its byte `left` times, and then fails.
 #[derive(Drop)]
 struct Torn {
     byte: u8,
@@ -57,7 +57,7 @@ impl Read for Torn {
     }
 }
 
-// The disk with no bytes that takes so many.
+// A disk with no bytes, and with room for `most`.
 fn empty_disk(alloc: Global, most: usize) -> Disk {
     Disk {
         held: Vec::new(alloc),
@@ -65,7 +65,7 @@ fn empty_disk(alloc: Global, most: usize) -> Disk {
     }
 }
 
-// A run of one line whose output takes so many bytes fails, and takes them.
+// A run of one line whose output has room for `most` bytes fails, and fills it.
 fn assert_fails_onto<R: AllocGlobal + Abort + Threads + Wait + Sync>(rt: &R, most: usize) {
     let alloc = rt.alloc();
     let (mut out, mut err) = (empty_disk(alloc, most), Vec::new(alloc));
@@ -82,7 +82,7 @@ fn a_writer_that_fails_fails_the_run(rt: HostRuntime) {
     }
 }
 
-// The run of two lines whose output takes so many bytes, and what it took.
+// The run of two lines whose output has room for `most` bytes, and what it took.
 fn run_onto<R: AllocGlobal + Abort + Threads + Wait + Sync>(
     rt: &R,
     most: usize,

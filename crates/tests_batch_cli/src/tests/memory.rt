@@ -34,7 +34,7 @@ const BEYOND: u32 = 29;
 
 const ENTRIES: usize = 36;
 
-// How many bytes are given after each refusal, how often a run is tried before memory is taken anew, and how often it is.
+// How many bytes are given after each refusal, how often a run is tried before memory is taken again, and how often it is.
 const STEP: usize = 16;
 
 const TRIES_AT_ONCE: u32 = 64;
@@ -58,7 +58,7 @@ const FEW_TRIES: usize = 40;
 // How far behind a line memory is given back, where it is.
 const APART: u32 = 5;
 
-// What is told of a run that is neither whole nor refused as it has to be.
+// The message about a run that is neither whole nor refused as it has to be.
 const WRONG: &str = "a run is not as it has to be";
 
 /// Takes a byte at a time into its own, with no request for memory.
@@ -100,7 +100,7 @@ fn blank() -> Page {
     }
 }
 
-// Whether a run of the bytes that wants memory tells so in one line, and writes and keeps nothing else.
+// Whether a run of the bytes that wants memory reports so in one line, and writes and keeps nothing else.
 fn is_told_in_one_line<R: Threads + Wait + Sync>(rt: &R, alloc: Global, script: &[u8]) -> bool {
     let (mut out, mut err) = (blank(), blank());
     let (status, journal) = execute(rt, alloc, &plain(), script, &mut out, &mut err);
@@ -133,10 +133,11 @@ fn is_run<R: Threads + Wait + Sync, G: LineGate + Sync>(
     }
 }
 
-// Runs the script with so many times the bytes of a step beside those that are spare, and with a step more each time: how
-// many runs wanted memory before one was whole, with those that came before these; nothing where no run was whole.
+// Runs the script with `from` times the bytes of a step beside those that are spare, and with a step more each time:
+// how many runs wanted memory before one was whole, with those that came before these; nothing where no run was whole.
 //
-// Memory is taken anew for them: what earlier runs have let go lies in pieces among the bytes that were given to them.
+// Memory is taken again for them: what earlier runs have released lies in pieces among the bytes that were given to
+// them.
 fn refusals_from<R: Abort + Threads + Wait + Sync>(
     rt: &R,
     alloc: Global,
@@ -182,8 +183,8 @@ fn refusals<R: Abort + Threads + Wait + Sync>(
 
 // With each try a request more is met. No thread is started in what little there is, so the clients are run one after
 // another by the caller, and the pieces of their crews are left to them. It catches a run that loses a line, a piece or
-// an entry if memory runs out, one that writes before all replies are there, and one that takes want of memory for
-// a reply.
+// an entry if memory runs out, one that writes before all replies are there, and one that takes a lack of memory for a
+// reply.
 #[test]
 fn a_run_is_refused_at_each_request(rt: HostRuntime) {
     let alloc = rt.alloc();
@@ -192,8 +193,8 @@ fn a_run_is_refused_at_each_request(rt: HostRuntime) {
     assert_is(&rt, refused > 0, true);
 }
 
-/// Lets no client go on before all have begun. It takes all memory then but for so many bytes next to one another, and
-/// lets them go on.
+/// Holds each client back until all have begun. It takes all memory then but for `bytes` bytes next to one another, and
+/// lets the clients continue.
 #[derive(Drop)]
 struct Rationer<'a, R: Wait> {
     rt: &'a R,
@@ -218,7 +219,7 @@ impl<R: Wait> LineGate for Rationer<'_, R> {
     }
 }
 
-// What the run came to where so many bytes are left to clients that have begun.
+// What the run came to where `bytes` bytes are left to clients that have begun.
 fn is_run_with<R: Threads + Wait + Sync>(
     rt: &R,
     alloc: Global,
@@ -327,8 +328,8 @@ fn pinched<R: Threads + Wait + Sync>(rt: &R, alloc: Global, script: &Script) -> 
     Some(refused)
 }
 
-// Where memory is there again when all clients have ended, nothing but what they came to tells that one of them wanted
-// it. It catches a client that is whole for its caller and lacks a line, and a job that is told as done though its crew
+// Where memory is there again when all clients have ended, only what they came to shows that one of them wanted it. It
+// catches a client that is whole for its caller and lacks a line, and a job that is reported as done though its crew
 // had no memory.
 #[test]
 fn memory_is_wanting_for_some_lines(rt: HostRuntime) {

@@ -25,7 +25,7 @@ fn shown(alloc: Global, options: &Options) -> Result<String, AllocError> {
     )
 }
 
-/// The words' options, or what is told of them.
+/// The words' options, or the fault in them as text.
 fn said(alloc: Global, words: &[&str]) -> Result<String, AllocError> {
     match options(alloc, words) {
         Ok(options) => shown(alloc, &options),
@@ -33,7 +33,7 @@ fn said(alloc: Global, words: &[&str]) -> Result<String, AllocError> {
     }
 }
 
-/// The first line of what is told of words with the fault.
+/// The first line of the message about the fault.
 fn told(alloc: Global, fault: &ArgFault) -> Result<String, AllocError> {
     match fault {
         ArgFault::Help(text) => first_line(alloc, "help", text),
@@ -100,7 +100,7 @@ fn words_give_the_options(rt: HostRuntime) {
     }
 }
 
-/// Words of which one is refused, and what is told of that one.
+/// Words of which one is refused, and the message about that one.
 const REFUSED: [(&[&str], &str); 8] = [
     (
         &["--workers", "17"],
@@ -136,7 +136,7 @@ const REFUSED: [(&[&str], &str); 8] = [
     ),
 ];
 
-/// One of the words is refused, and this is told of it.
+/// One of the words is refused, with this message about it.
 fn assert_refused<R: AllocGlobal + Abort>(rt: &R, words: &[&str], wanted: &str) {
     let wanted = format!(in rt.alloc(); "parser: error: invalid value {wanted}");
     assert_said(rt, words, &wanted.expect(rt, "no room"));

@@ -1,6 +1,8 @@
 //! Parts that grow by a piece, beside the join of two parts.
 use super::stopping::Given;
-use super::{Asked, Told, assert_is, assert_told, below, first, instead, part_of, told_of, two_of};
+use super::{
+    Asked, Plain, assert_is, assert_told, below, first, instead, part_of, told_of, two_of,
+};
 use bulk_ops::work_into;
 use combiner::Bulk;
 use hash_path::PathKey;
@@ -24,8 +26,8 @@ fn grown<K: PathKey + Drop, V: Drop, B: Bulk<K, V>>(
     work_into(alloc, &upper, bulk, begun).expect(rt, "no part")
 }
 
-/// What the query is told by the part of the lower of two pieces of the three pairs, grown by the upper one.
-pub(super) fn told_of_grown(rt: &impl Abort, alloc: Global, query: &Asked) -> Told
+/// The answer to the query by the part of the lower of two pieces of the three pairs, grown by the upper one.
+pub(super) fn told_of_grown(rt: &impl Abort, alloc: Global, query: &Asked) -> Plain
     requires { ⟦<Asked as Bulk<ChosenKey, i64>>⟧.ready query.now }
 {
     let view = first(rt, alloc, 3);
@@ -50,8 +52,8 @@ fn joined_by_root<K: PathKey + Drop, V: Drop, B: Bulk<K, V>>(
     }
 }
 
-// What the query is told by that part, and whether the root was joined.
-fn told_by_root(rt: &impl Abort, alloc: Global, query: &Asked) -> (Option<Told>, bool)
+// The answer to the query by that part, and whether the root was joined.
+fn told_by_root(rt: &impl Abort, alloc: Global, query: &Asked) -> (Option<Plain>, bool)
     requires { ⟦<Asked as Bulk<ChosenKey, i64>>⟧.ready query.now }
 {
     let view = first(rt, alloc, 3);
@@ -65,14 +67,14 @@ fn told_by_root(rt: &impl Abort, alloc: Global, query: &Asked) -> (Option<Told>,
 fn a_root_is_joined_where_a_part_has_its_shape(rt: HostRuntime) {
     let alloc = rt.alloc();
     let (told, is_joined) = told_by_root(&rt, alloc, &Asked::Count(below(4)));
-    assert_told(&rt, told, Told::Number(2));
+    assert_told(&rt, told, Plain::Number(2));
     assert!(rt; !is_joined);
     let (told, is_joined) = told_by_root(&rt, alloc, &Asked::Filter(below(3), 9));
     let two = (Some(i64::MAX), None, Some(i64::MIN));
-    assert_told(&rt, told, Told::Made(2, two));
+    assert_told(&rt, told, Plain::Made(2, two));
     assert!(rt; is_joined);
     let (told, is_joined) = told_by_root(&rt, alloc, &Asked::MapValues(instead(4), 9));
-    assert_told(&rt, told, Told::Made(3, (Some(4), Some(4), Some(4))));
+    assert_told(&rt, told, Plain::Made(3, (Some(4), Some(4), Some(4))));
     assert!(rt; is_joined);
 }
 

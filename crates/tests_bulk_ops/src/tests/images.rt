@@ -206,7 +206,7 @@ fn seen_in(rt: &impl Abort, alloc: Global, made: &Option<Version<ByteText, i64>>
     }
 }
 
-// What the answer shows of the images of so many of the three pairs, and what the map has that is made of them.
+// What the answer shows of the images of the first `number` pairs, and what the map has that is made of them.
 fn images_of<P: ImageFn<ByteText, i64>>(
     rt: &impl Abort,
     alloc: Global,
@@ -299,7 +299,7 @@ fn a_map_that_finds_no_memory_refuses(rt: HostRuntime) {
     assert!(rt; is_of_initials(contents));
 }
 
-// The part of their images, with so many blocks of memory.
+// The part of their images, with `given` blocks of memory.
 fn made_with(
     rt: &impl Abort,
     alloc: Global,
@@ -348,7 +348,7 @@ fn one_of(
     query.one(alloc, key, value).expect(rt, "no part")
 }
 
-// What a part of a=1 has after the image of b=3 was added to it with so many blocks of memory.
+// What a part of a=1 has after the image of b=3 was added to it with `given` blocks of memory.
 fn added(rt: &impl Abort, alloc: Global, given: usize) -> (bool, Seen) {
     let query = Imaged::MapPairs(initials(alloc), 2);
     let (first, one) = shared(rt, alloc, "a", 1);
@@ -374,7 +374,7 @@ fn a_refused_image_leaves_the_part_as_it_was(rt: HostRuntime) {
     assert!(rt; false, "an image is refused with memory to spare");
 }
 
-// The join of the images of a=1 and of b=3, with so many blocks of memory.
+// The join of the images of a=1 and of b=3, with `given` blocks of memory.
 fn joined_of_two(rt: &impl Abort, alloc: Global, given: usize) -> Option<Seen> {
     let query = Imaged::MapPairs(initials(alloc), 2);
     let (first, one) = shared(rt, alloc, "a", 1);

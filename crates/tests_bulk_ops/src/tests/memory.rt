@@ -2,7 +2,7 @@
 
 use super::combining::union_of;
 use super::{
-    Asked, Contents, SUMS, ThreeItems, Told, assert_is, assert_told, at_three, below, chosen,
+    Asked, Contents, Plain, SUMS, ThreeItems, assert_is, assert_told, at_three, below, chosen,
     first, instead, many, map_of, told_of, values,
 };
 use bulk_ops::{Part, work};
@@ -34,7 +34,7 @@ fn spare(alloc: Global) -> Result<Blocks, AllocError> {
     Ok(blocks)
 }
 
-/// All memory but so many blocks of those sizes, and the blocks that are left.
+/// All memory but `given` blocks of those sizes, and the blocks that are left.
 pub(super) fn take_all_but(rt: &impl Abort, alloc: Global, given: usize) -> (Blocks, Blocks) {
     let mut blocks = spare(alloc).expect(rt, "no blocks");
     let taken = take_all(alloc).expect(rt, "no list");
@@ -44,31 +44,31 @@ pub(super) fn take_all_but(rt: &impl Abort, alloc: Global, given: usize) -> (Blo
     (taken, blocks)
 }
 
-// What the query is told of the piece, where there is memory for it.
+// The answer to the query about the piece, where there is memory for it.
 fn told_of_piece(
     rt: &impl Abort,
     alloc: Global,
     piece: &Piece<ChosenKey, i64>,
     query: &Asked,
-) -> Option<Told>
+) -> Option<Plain>
     requires { ⟦<Asked as Bulk<ChosenKey, i64>>⟧.ready query.now }
 {
     told_if_made(rt, &work(alloc, piece, query))
 }
 
-// What the part tells, if it was made.
+// The answer that the part comes to, if it was made.
 fn told_if_made(
     rt: &impl Abort,
     part: &Result<Part<ChosenKey, i64, ThreeItems>, NoMemory>,
-) -> Option<Told> {
+) -> Option<Plain> {
     match part {
         Ok(part) => Some(told_of(rt, part)),
         Err(NoMemory) => None,
     }
 }
 
-// The least number of blocks of memory with which the query is worked on so many of the three pairs, and what it is told.
-fn granted(rt: &impl Abort, alloc: Global, pairs: usize, query: &Asked) -> Option<(usize, Told)>
+// The least number of blocks of memory with which the query is worked on `pairs` of the three pairs, and its answer.
+fn granted(rt: &impl Abort, alloc: Global, pairs: usize, query: &Asked) -> Option<(usize, Plain)>
     requires { ⟦<Asked as Bulk<ChosenKey, i64>>⟧.ready query.now }
 {
     let piece = whole(alloc, first(rt, alloc, pairs));
@@ -88,7 +88,7 @@ fn work_is_refused_until_there_is_memory(rt: HostRuntime) {
     let granted = granted(&rt, rt.alloc(), 3, &Asked::MapValues(instead(4), 9));
     let (given, told) = granted.expect(&rt, "work is refused with memory to spare");
     assert!(rt; given > 0);
-    assert_told(&rt, Some(told), Told::Made(3, (Some(4), Some(4), Some(4))));
+    assert_told(&rt, Some(told), Plain::Made(3, (Some(4), Some(4), Some(4))));
 }
 
 // Keys below 3 are two of the three; the sum and the extremes are those of all values.
@@ -104,11 +104,11 @@ fn what_makes_no_map_asks_for_no_memory(rt: HostRuntime) {
     let find = told_of_piece(&rt, alloc, &piece, &Asked::Find(below(2)));
     let fold = told_of_piece(&rt, alloc, &piece, &Asked::Fold(monoid, values()));
     drop(taken);
-    assert_told(&rt, count, Told::Number(2));
-    assert_told(&rt, exists, Told::Truth(false));
-    assert_told(&rt, for_all, Told::Truth(true));
-    assert_told(&rt, find, Told::Found(Some((1, i64::MIN))));
-    assert_told(&rt, fold, Told::Item(SUMS));
+    assert_told(&rt, count, Plain::Number(2));
+    assert_told(&rt, exists, Plain::Truth(false));
+    assert_told(&rt, for_all, Plain::Truth(true));
+    assert_told(&rt, find, Plain::Found(Some((1, i64::MIN))));
+    assert_told(&rt, fold, Plain::Item(SUMS));
 }
 
 // Nor does it where the pairs are more than are taken from the trie at a time.
@@ -121,12 +121,12 @@ fn a_count_of_many_pairs_asks_for_no_memory(rt: HostRuntime) {
     let some = told_of_piece(&rt, alloc, &piece, &Asked::Count(below(301)));
     let exists = told_of_piece(&rt, alloc, &piece, &Asked::Exists(below(0)));
     drop(taken);
-    assert_told(&rt, all, Told::Number(1_200));
-    assert_told(&rt, some, Told::Number(301));
-    assert_told(&rt, exists, Told::Truth(false));
+    assert_told(&rt, all, Plain::Number(1_200));
+    assert_told(&rt, some, Plain::Number(301));
+    assert_told(&rt, exists, Plain::Truth(false));
 }
 
-// How many blocks of memory a filter of so many pairs wants that keeps the keys below a number.
+// How many blocks of memory a filter of `pairs` pairs wants that keeps the keys below a number.
 fn wanted_by_filter(rt: &impl Abort, alloc: Global, pairs: usize, id: u32) -> usize {
     let granted = granted(rt, alloc, pairs, &Asked::Filter(below(id), 9));
     let (given, _) = granted.expect(rt, "a filter is refused with memory to spare");
@@ -145,8 +145,8 @@ fn a_pair_that_does_not_pass_asks_for_no_memory(rt: HostRuntime) {
     assert!(rt; some > empty);
 }
 
-// Whether the part of no pairs is made, and what that of one tells, with so many blocks of memory.
-fn started(rt: &impl Abort, alloc: Global, given: usize) -> (bool, Option<Told>) {
+// Whether the part of no pairs is made, and the answer of the part of one pair, with `given` blocks of memory.
+fn started(rt: &impl Abort, alloc: Global, given: usize) -> (bool, Option<Plain>) {
     let query = Asked::Filter(below(9), 9);
     let key = Arc::new(alloc, chosen(0, 2)).expect(rt, "no key");
     let value = Arc::new(alloc, 7).expect(rt, "no value");
@@ -166,13 +166,13 @@ fn unit_and_one_are_refused_until_there_is_memory(rt: HostRuntime) {
         let (unit, one) = started(&rt, alloc, given);
         if one.is_some() {
             assert!(rt; unit && given > 1);
-            return assert_told(&rt, one, Told::Made(1, (Some(7), None, None)));
+            return assert_told(&rt, one, Plain::Made(1, (Some(7), None, None)));
         }
     }
     assert!(rt; false, "one is refused with memory to spare");
 }
 
-// What a map has of two that share no key, put together with so many blocks of memory.
+// What a map has of two that share no key, put together with `given` blocks of memory.
 fn merged(rt: &impl Abort, alloc: Global, given: usize) -> Option<Contents> {
     let left = map_of(rt, alloc, &[(chosen(0, 2), 7)]);
     let right = map_of(rt, alloc, &[(chosen(0xc000_0000_0000_0000, 3), 7)]);

@@ -3,15 +3,15 @@
 
 use super::rows::COUNT;
 use super::{assert_is, assert_true};
-use crate::asks::{Asked, query_of};
 use crate::maps::END;
-use crate::told::{TestPart, Told, part_told};
+use crate::plain_outcome::{PlainOutcome, TestPart, part_told};
 use core_steps::{Board, Progress, first_board, law_of_jobs, work_on};
 use std::alloc::Global;
 use std::panic::Expect;
 use std::process::Abort;
 use std::sync::Arc;
 use test_keys::ChosenKey;
+use test_machine::{TestQuery, query_of};
 use trie_node::Stamp;
 use versions::{Version, View};
 
@@ -52,12 +52,12 @@ fn split(rt: &impl Abort, board: &mut TestBoard, worker: u32) -> Progress {
     board.split(worker, 1).expect(rt, "not cut")
 }
 
-// What is told is what is to be told.
+// The progress is the one that is expected.
 fn assert_moved(rt: &impl Abort, progress: Progress, want: Progress) {
     assert_is(rt, progress, want);
 }
 
-// The moves of two workers, each told so.
+// The moves of two workers, each with its progress.
 fn assert_moves(rt: &impl Abort, board: &mut TestBoard) {
     assert_moved(rt, take(rt, board, 1), Progress::Idle);
     assert_moved(rt, take(rt, board, 0), Progress::Took(0, END));
@@ -85,12 +85,16 @@ fn pieces_are_worked(rt: HostRuntime) {
     let view = two_pairs(&rt, rt.alloc());
     let made = first_board(rt.alloc(), &query, 2, view);
     let mut board = made.expect(&rt, "no board");
-    law_of_jobs::<ChosenKey, u64, Asked>(&query);
+    law_of_jobs::<ChosenKey, u64, TestQuery>(&query);
     assert!(rt; board.workers() == 2);
     assert_moved(&rt, board.take(0), Progress::Took(0, END));
     assert!(rt; board.workers() == 2);
     let worked = work_on(rt.alloc(), &query, &mut board, 0);
     let progress = worked.expect(&rt, "not worked");
     assert_moved(&rt, progress, Progress::Worked(0, END, 2, false));
-    assert_is(&rt, board.part(0).map(part_told), Some(Told::Count(2)));
+    assert_is(
+        &rt,
+        board.part(0).map(part_told),
+        Some(PlainOutcome::Count(2)),
+    );
 }

@@ -2,11 +2,10 @@
 
 use super::boards::two_pairs;
 use super::rows::COUNT;
-use super::{Row, answer_to, assert_is, assert_told, assert_true, core_of_two};
-use crate::asks::{Ask, Asked, query_of};
+use super::{Case, answer_to, assert_is, assert_told, assert_true, core_of_two};
 use crate::maps::END;
-use crate::plans::{Do, Plan, TestCore, step_of};
-use crate::told::{Told, part_told, told_of};
+use crate::plain_outcome::{PlainOutcome, part_told, told_of};
+use crate::plans::{Plan, TestCore, step_of};
 use core_steps::{
     Move, Progress, collected, first_board, law_of_boards, law_of_cores, law_of_coverings,
     law_of_jobs, law_of_runs, law_of_tilings, make_move,
@@ -15,45 +14,55 @@ use std::alloc::Global;
 use std::panic::Expect;
 use std::process::Abort;
 use test_keys::ChosenKey;
+use test_machine::{Do, Question, TestQuery, query_of};
 
 const KEY: ChosenKey = ChosenKey { path: 0, id: 7 };
 
-// Each kind of step, and what it is told.
-const STEPS: [Row; 21] = [
-    (Plan::Open(1), Told::Unit),
-    (Plan::On(1, Do::PutIfAbsent(KEY, 1)), Told::Old(None)),
-    (Plan::On(1, Do::Put(KEY, 2)), Told::Old(Some(1))),
-    (Plan::On(1, Do::Replace(KEY, 3)), Told::Old(Some(2))),
-    (Plan::On(1, Do::ReplaceIf(KEY, 3, 4)), Told::Done(true)),
-    (Plan::On(1, Do::RemoveIf(KEY, 3)), Told::Done(false)),
-    (Plan::On(1, Do::Get(KEY)), Told::Old(Some(4))),
-    (Plan::Snapshot(1, 2), Told::Unit),
-    (Plan::On(1, Do::Remove(KEY)), Told::Old(Some(4))),
-    (Plan::Freeze(2, Ask::Total), Told::Job(0)),
-    (Plan::On(2, Do::Size), Told::Size(1)),
-    (Plan::On(2, Do::Clear), Told::Cleared),
-    (Plan::View(2), Told::Viewed),
-    (Plan::Drop(2), Told::Unit),
+// Each kind of step, and its outcome.
+const STEPS: [Case; 21] = [
+    (Plan::Open(1), PlainOutcome::Unit),
+    (
+        Plan::On(1, Do::PutIfAbsent(KEY, 1)),
+        PlainOutcome::Old(None),
+    ),
+    (Plan::On(1, Do::Put(KEY, 2)), PlainOutcome::Old(Some(1))),
+    (Plan::On(1, Do::Replace(KEY, 3)), PlainOutcome::Old(Some(2))),
+    (
+        Plan::On(1, Do::ReplaceIf(KEY, 3, 4)),
+        PlainOutcome::Done(true),
+    ),
+    (Plan::On(1, Do::RemoveIf(KEY, 3)), PlainOutcome::Done(false)),
+    (Plan::On(1, Do::Get(KEY)), PlainOutcome::Old(Some(4))),
+    (Plan::Snapshot(1, 2), PlainOutcome::Unit),
+    (Plan::On(1, Do::Remove(KEY)), PlainOutcome::Old(Some(4))),
+    (Plan::Freeze(2, Question::Total), PlainOutcome::Job(0)),
+    (Plan::On(2, Do::Size), PlainOutcome::Size(1)),
+    (Plan::On(2, Do::Clear), PlainOutcome::Cleared),
+    (Plan::View(2), PlainOutcome::Viewed),
+    (Plan::Drop(2), PlainOutcome::Unit),
     (
         Plan::Move(0, Move::Take(0)),
-        Told::Moved(Progress::Took(0, END)),
+        PlainOutcome::Moved(Progress::Took(0, END)),
     ),
-    (Plan::Move(0, Move::Split(0)), Told::Moved(Progress::Whole)),
+    (
+        Plan::Move(0, Move::Split(0)),
+        PlainOutcome::Moved(Progress::Whole),
+    ),
     (
         Plan::Move(0, Move::Steal(1, 0)),
-        Told::Moved(Progress::Idle),
+        PlainOutcome::Moved(Progress::Idle),
     ),
     (
         Plan::Move(0, Move::Work(0)),
-        Told::Moved(Progress::Worked(0, END, 1, false)),
+        PlainOutcome::Moved(Progress::Worked(0, END, 1, false)),
     ),
-    (Plan::Finish(0), Told::Total(4)),
-    (Plan::Freeze(1, Ask::Zeros(3)), Told::Job(1)),
-    (Plan::Abandon(1), Told::Abandoned),
+    (Plan::Finish(0), PlainOutcome::Total(4)),
+    (Plan::Freeze(1, Question::Zeros(3)), PlainOutcome::Job(1)),
+    (Plan::Abandon(1), PlainOutcome::Abandoned),
 ];
 
-// A copy of a step is told this.
-fn assert_copy(rt: &impl Abort, alloc: Global, core: &mut TestCore, row: Row) {
+// A copy of a step has this outcome.
+fn assert_copy(rt: &impl Abort, alloc: Global, core: &mut TestCore, row: Case) {
     let step = step_of(rt, alloc, row.0);
     let copy = step.try_clone().expect(rt, "no copy");
     drop(step);
@@ -101,7 +110,7 @@ fn all_that_was_worked_is_collected(rt: HostRuntime) {
     let view = two_pairs(&rt, rt.alloc());
     let made = first_board(rt.alloc(), &query, 1, view);
     let mut board = made.expect(&rt, "no board");
-    law_of_jobs::<ChosenKey, u64, Asked>(&query);
+    law_of_jobs::<ChosenKey, u64, TestQuery>(&query);
     assert!(rt; board.workers() == 1);
     let took = make_move(rt.alloc(), &query, &mut board, 1, Move::Take(0));
     assert_is(&rt, took, Ok(Progress::Took(0, END)));
@@ -109,15 +118,19 @@ fn all_that_was_worked_is_collected(rt: HostRuntime) {
     let worked = make_move(rt.alloc(), &query, &mut board, 1, Move::Work(0));
     assert_is(&rt, worked, Ok(Progress::Worked(0, END, 2, false)));
     let part = collected(rt.alloc(), &query, &board).expect(&rt, "no part");
-    assert_is(&rt, part.as_ref().map(part_told), Some(Told::Count(2)));
+    assert_is(
+        &rt,
+        part.as_ref().map(part_told),
+        Some(PlainOutcome::Count(2)),
+    );
 }
 
 #[test]
 fn laws_are_called() {
-    law_of_runs::<ChosenKey, u64, Asked>();
-    law_of_cores::<ChosenKey, u64, Asked>();
-    law_of_coverings::<ChosenKey, u64, Asked>();
-    law_of_tilings::<ChosenKey, u64, Asked>();
+    law_of_runs::<ChosenKey, u64, TestQuery>();
+    law_of_cores::<ChosenKey, u64, TestQuery>();
+    law_of_coverings::<ChosenKey, u64, TestQuery>();
+    law_of_tilings::<ChosenKey, u64, TestQuery>();
     law_of_boards::<ChosenKey, u64>();
-    law_of_jobs::<ChosenKey, u64, Asked>(&query_of(Ask::Total));
+    law_of_jobs::<ChosenKey, u64, TestQuery>(&query_of(Question::Total));
 }

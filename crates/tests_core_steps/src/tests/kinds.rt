@@ -1,35 +1,35 @@
-//! The kinds of what is told, so that a test can tell that each is met.
+//! The kinds of outcomes, so that a test can check that each is met.
 
-use crate::told::Told;
+use crate::plain_outcome::PlainOutcome;
 use core_steps::Progress;
 use versions::Refusal;
 
 /// How many kinds there are.
 pub const KINDS: usize = 32;
 
-/// The number of the kind of what is told. What no step is told has none of these.
-pub fn kind_of(told: Told) -> usize {
+/// The number of the kind of an outcome, or `KINDS` where no step has that outcome.
+pub fn kind_of(told: PlainOutcome) -> usize {
     match told {
-        Told::Unit => 0,
-        Told::Old(None) => 1,
-        Told::Old(Some(_)) => 2,
-        Told::Done(false) => 3,
-        Told::Done(true) => 4,
-        Told::Size(_) => 5,
-        Told::Cleared => 6,
-        Told::Viewed => 7,
-        Told::Job(_) => 8,
-        Told::Count(_) => 9,
-        Told::Truth(false) => 10,
-        Told::Truth(true) => 11,
-        Told::Found(false) => 12,
-        Told::Found(true) => 13,
-        Told::Made(_) => 14,
-        Told::Total(_) => 15,
-        Told::Unfinished => 16,
-        Told::Abandoned => 17,
-        Told::Moved(progress) => kind_of_progress(progress),
-        Told::Refused(refusal) => kind_of_refusal(refusal),
+        PlainOutcome::Unit => 0,
+        PlainOutcome::Old(None) => 1,
+        PlainOutcome::Old(Some(_)) => 2,
+        PlainOutcome::Done(false) => 3,
+        PlainOutcome::Done(true) => 4,
+        PlainOutcome::Size(_) => 5,
+        PlainOutcome::Cleared => 6,
+        PlainOutcome::Viewed => 7,
+        PlainOutcome::Job(_) => 8,
+        PlainOutcome::Count(_) => 9,
+        PlainOutcome::Truth(false) => 10,
+        PlainOutcome::Truth(true) => 11,
+        PlainOutcome::Found(false) => 12,
+        PlainOutcome::Found(true) => 13,
+        PlainOutcome::Made(_) => 14,
+        PlainOutcome::Total(_) => 15,
+        PlainOutcome::Unfinished => 16,
+        PlainOutcome::Abandoned => 17,
+        PlainOutcome::Moved(progress) => kind_of_progress(progress),
+        PlainOutcome::Refused(refusal) => kind_of_refusal(refusal),
     }
 }
 

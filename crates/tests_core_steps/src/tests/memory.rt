@@ -6,16 +6,16 @@ ghost use Rattle.core_steps.specs.Steps.{CanAsk, asked_by};
 
 use super::rows::{COUNT, all_worked};
 use super::twins::Twins;
-use super::{LARGEST, Row, assert_is, assert_told, plans_of};
-use crate::asks::{Ask, Within};
+use super::{Case, LARGEST, assert_is, assert_told, plans_of};
 use crate::machine::Machine;
-use crate::plans::{Do, Plan, TestCore, TestStep, step_of, steps_of};
-use crate::told::{TestOutcome, Told, told_of};
+use crate::plain_outcome::{PlainOutcome, TestOutcome, told_of};
+use crate::plans::{Plan, TestCore, TestStep, step_of, steps_of};
 use core_steps::Move;
 use std::alloc::Global;
 use std::panic::Expect;
 use std::process::Abort;
 use test_keys::Shortage;
+use test_machine::{ALL, Do, Question};
 
 /// How many bytes more each try of a step has. No request takes fewer of the C library's heap, so each of them is the
 /// first to be refused at some try.
@@ -32,20 +32,13 @@ const LISTS: usize = 128;
 // The number of the first step that puts a pair.
 const FIRST_PUT: usize = 1;
 
-/// No memory but for so many bytes next to one another.
-pub(super) fn shortage(rt: &impl Abort, alloc: Global, bytes: usize) -> Shortage {
-    let mut shortage = Shortage::new(alloc).expect(rt, "no list");
-    shortage.give(alloc, bytes).expect(rt, "not given");
-    shortage
-}
-
-/// What the core tells of a copy of the step, if it has the memory. The copy takes none.
+/// What the core returns for a copy of the step, if it has the memory. The copy takes none.
 pub(super) fn told_if(
     rt: &impl Abort,
     alloc: Global,
     core: &mut TestCore,
     step: &TestStep,
-) -> Option<Told>
+) -> Option<PlainOutcome>
     requires { CanAsk IsReady (asked_by step.now) }
 {
     let copy = step.try_clone().expect(rt, "no copy");
@@ -55,36 +48,36 @@ pub(super) fn told_if(
     }
 }
 
-// What the core tells of a step with so many bytes of memory, if those are enough.
+// What the core returns for a step with `bytes` bytes of memory, if those are enough.
 fn told_with(
     rt: &impl Abort,
     alloc: Global,
     core: &mut TestCore,
     plan: Plan,
     bytes: usize,
-) -> Option<Told> {
+) -> Option<PlainOutcome> {
     let step = step_of(rt, alloc, plan);
-    let _shortage = shortage(rt, alloc, bytes);
+    let _shortage = Shortage::with_bytes(alloc, bytes).expect(rt, "no shortage");
     told_if(rt, alloc, core, &step)
 }
 
-// The twins are told this of the steps.
-fn assert_twins(rt: &impl Abort, alloc: Global, twins: &mut Twins, rows: &[Row]) {
+// The twins return these outcomes for the steps.
+fn assert_twins(rt: &impl Abort, alloc: Global, twins: &mut Twins, rows: &[Case]) {
     for (plan, told) in rows {
         assert_told(rt, twins.make(rt, alloc, *plan), *told);
     }
 }
 
 // Twins with two workers and grain 1 that have made the steps.
-fn twins_after(rt: &impl Abort, alloc: Global, rows: &[Row]) -> Twins {
+fn twins_after(rt: &impl Abort, alloc: Global, rows: &[Case]) -> Twins {
     let machine = Machine::new(alloc, LARGEST, 2, 1);
     let mut twins = Twins::new(rt, alloc, machine);
     assert_twins(rt, alloc, &mut twins, rows);
     twins
 }
 
-// The machine makes a step that the core has made, and is told the same.
-fn follow(rt: &impl Abort, alloc: Global, twins: &mut Twins, row: Row) {
+// The machine makes a step that the core has made, and returns the same outcome.
+fn follow(rt: &impl Abort, alloc: Global, twins: &mut Twins, row: Case) {
     let expected = twins.machine.step(rt, alloc, row.0);
     assert_told(rt, expected.told, row.1);
 }
@@ -96,21 +89,21 @@ fn assert_alike(rt: &impl Abort, alloc: Global, twins: &mut Twins) {
 }
 
 // The same, and it makes the steps as the machine does.
-fn assert_goes_on(rt: &impl Abort, alloc: Global, twins: &mut Twins, rows: &[Row]) {
+fn assert_goes_on(rt: &impl Abort, alloc: Global, twins: &mut Twins, rows: &[Case]) {
     assert_alike(rt, alloc, twins);
     assert_twins(rt, alloc, twins, rows);
     assert_alike(rt, alloc, twins);
 }
 
-// The twins' next step has so many bytes of memory: what the core tells of it, if those are enough. Else it is made
+// The twins' next step has `bytes` bytes of memory: what the core returns for it, if those are enough. Else it is made
 // with ample memory then.
 fn told_next(
     rt: &impl Abort,
     alloc: Global,
     twins: &mut Twins,
-    row: Row,
+    row: Case,
     bytes: usize,
-) -> Option<Told> {
+) -> Option<PlainOutcome> {
     let told = told_with(rt, alloc, &mut twins.core, row.0, bytes);
     if told.is_some() {
         follow(rt, alloc, twins, row);
@@ -120,15 +113,15 @@ fn told_next(
     None
 }
 
-// What is told of the step of a number with so many bytes of memory, if those are enough. The steps before it and those
-// behind it have ample memory.
+// The outcome of the step with this number with `bytes` bytes of memory, if those are enough. The steps before it and
+// those behind it have ample memory.
 fn told_at(
     rt: &impl Abort,
     alloc: Global,
-    rows: &[Row],
+    rows: &[Case],
     number: usize,
     bytes: usize,
-) -> Option<Told>
+) -> Option<PlainOutcome>
     requires { number < length rows.now }
 {
     let mut twins = twins_after(rt, alloc, &rows[..number]);
@@ -137,8 +130,8 @@ fn told_at(
     told
 }
 
-// The step of a number is refused with no memory, with a little, and so on, until it is told so: how often.
-fn refusals(rt: &impl Abort, alloc: Global, rows: &[Row], number: usize) -> usize
+// The step with this number is refused with no memory, with a little, and so on, until it has its outcome: how often.
+fn refusals(rt: &impl Abort, alloc: Global, rows: &[Case], number: usize) -> usize
     requires { number < length rows.now }
 {
     for refused in 0..TRIES {
@@ -150,19 +143,19 @@ fn refusals(rt: &impl Abort, alloc: Global, rows: &[Row], number: usize) -> usiz
     TRIES
 }
 
-// Whether the step of a number, which is told so, makes a request for memory. A pair that is put into an empty map lies
-// in the root, so that there is none.
-fn asks_for_memory(row: Row, number: usize) -> bool {
+// Whether the step with this number, which has this outcome, makes a request for memory. A pair that is put into an
+// empty map lies in the root, so that there is none.
+fn asks_for_memory(row: Case, number: usize) -> bool {
     match row.0 {
         Plan::Open(_) | Plan::Freeze(_, _) => true,
         Plan::On(_, Do::Put(_, _)) => number != FIRST_PUT,
         Plan::Move(_, Move::Work(_)) => true,
-        _ => matches!(row.1, Told::Made(_)),
+        _ => matches!(row.1, PlainOutcome::Made(_)),
     }
 }
 
 // Each of the steps is refused as long as it has too little memory: never where it makes no request.
-fn assert_each_refused(rt: &impl Abort, alloc: Global, rows: &[Row]) {
+fn assert_each_refused(rt: &impl Abort, alloc: Global, rows: &[Case]) {
     for number in 0..rows.len() {
         let refused = refusals(rt, alloc, rows, number);
         let (row, is_refused) = (rows[number], refused > 0);
@@ -172,10 +165,10 @@ fn assert_each_refused(rt: &impl Abort, alloc: Global, rows: &[Row]) {
     }
 }
 
-const COUNTED: [Row; 3] = [
-    (Plan::Finish(0), Told::Count(2)),
-    (Plan::On(1, Do::Size), Told::Size(3)),
-    (Plan::View(1), Told::Viewed),
+const COUNTED: [Case; 3] = [
+    (Plan::Finish(0), PlainOutcome::Count(2)),
+    (Plan::On(1, Do::Size), PlainOutcome::Size(3)),
+    (Plan::View(1), PlainOutcome::Viewed),
 ];
 
 #[test]
@@ -184,20 +177,20 @@ fn a_count_goes_on_after_each_refusal(rt: HostRuntime) {
     assert_each_refused(&rt, rt.alloc(), &rows);
 }
 
-const MADE: [Row; 3] = [
-    (Plan::Finish(0), Told::Made(2)),
-    (Plan::On(2, Do::Size), Told::Size(2)),
-    (Plan::Drop(1), Told::Unit),
+const MADE: [Case; 3] = [
+    (Plan::Finish(0), PlainOutcome::Made(2)),
+    (Plan::On(2, Do::Size), PlainOutcome::Size(2)),
+    (Plan::Drop(1), PlainOutcome::Unit),
 ];
 
 #[test]
 fn a_filter_goes_on_after_each_refusal(rt: HostRuntime) {
-    let ask = Ask::Filter(Within::ALL, 2);
-    let rows = all_worked(&rt, rt.alloc(), ask, &MADE);
+    let question = Question::Filter(ALL, 2);
+    let rows = all_worked(&rt, rt.alloc(), question, &MADE);
     assert_each_refused(&rt, rt.alloc(), &rows);
 }
 
-// The outcomes of the steps as one list with so many bytes of memory, as far as the core comes.
+// The outcomes of the steps as one list with `bytes` bytes of memory, as far as the core comes.
 fn outcomes_with(
     rt: &impl Abort,
     alloc: Global,
@@ -207,20 +200,20 @@ fn outcomes_with(
 ) -> Vec<TestOutcome>
     requires { All (λ step. CanAsk IsReady (asked_by step)) steps.now }
 {
-    let _shortage = shortage(rt, alloc, bytes);
+    let _shortage = Shortage::with_bytes(alloc, bytes).expect(rt, "no shortage");
     match core.run(alloc, steps) {
         Ok(trace) => trace.outcomes,
         Err((trace, _)) => trace.outcomes,
     }
 }
 
-// The core makes the steps as one list with so many bytes of memory, as far as it comes: how many. The machine makes
+// The core makes the steps as one list with `bytes` bytes of memory, as far as it comes: how many. The machine makes
 // the same.
 fn made_with(
     rt: &impl Abort,
     alloc: Global,
     twins: &mut Twins,
-    rows: &[Row],
+    rows: &[Case],
     bytes: usize,
 ) -> usize {
     let plans = plans_of(rt, alloc, rows);
@@ -233,8 +226,8 @@ fn made_with(
     outcomes.len()
 }
 
-// How many of the steps a new core makes as one list with so many bytes of memory. It makes the others afterwards.
-fn steps_made(rt: &impl Abort, alloc: Global, rows: &[Row], bytes: usize) -> usize {
+// How many of the steps a new core makes as one list with `bytes` bytes of memory. It makes the others afterwards.
+fn steps_made(rt: &impl Abort, alloc: Global, rows: &[Case], bytes: usize) -> usize {
     let mut twins = twins_after(rt, alloc, &[]);
     let made = made_with(rt, alloc, &mut twins, rows, bytes);
     assert!(rt; made <= rows.len());

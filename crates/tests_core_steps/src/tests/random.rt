@@ -4,8 +4,8 @@ use super::assert_true;
 use super::kinds::{KINDS, kind_of};
 use super::twins::Twins;
 use crate::choices::{FIRST_PAIRS, chooser_of};
+use crate::plain_outcome::PlainOutcome;
 use crate::plans::Plan;
-use crate::told::Told;
 use core_steps::Move;
 use std::alloc::Global;
 use std::panic::Expect;
@@ -52,7 +52,7 @@ fn end(rt: &impl Abort, alloc: Global, twins: &mut Twins, number: u64) {
         work_all(rt, alloc, twins, number, worker);
     }
     let told = twins.make(rt, alloc, Plan::Finish(number));
-    assert_true(rt, told != Told::Unfinished);
+    assert_true(rt, told != PlainOutcome::Unfinished);
 }
 
 // The number of the last open job.
@@ -87,8 +87,8 @@ fn made(rt: &impl Abort, alloc: Global, list: u32) -> Twins {
     twins
 }
 
-// Counts of the kinds of what was told.
-fn count_kinds(met: &mut Vec<u32>, told: &[Told]) {
+// Counts the kinds of the outcomes.
+fn count_kinds(met: &mut Vec<u32>, told: &[PlainOutcome]) {
     for told in told {
         if let Some(count) = met.get_mut(kind_of(*told)) {
             *count = count.saturating_add(1);
@@ -105,7 +105,7 @@ fn no_kinds(rt: &impl Abort, alloc: Global) -> Vec<u32> {
     met
 }
 
-// The list of the number beside a plain machine, with the kinds of what it was told.
+// The list with this number beside a plain machine. The kinds of its outcomes are counted.
 fn assert_list(rt: &impl Abort, alloc: Global, list: u32, met: &mut Vec<u32>) {
     let mut twins = made(rt, alloc, list);
     twins.assert_parts(rt, alloc);

@@ -3,40 +3,40 @@
 ghost use Rattle.bulk_ops.specs.Queries.{IsReady};
 ghost use Rattle.core_steps.specs.Steps.{CanAsk, asked_by};
 
-use super::memory::{FEW, TRIES, shortage, told_if};
+use super::memory::{FEW, TRIES, told_if};
 use super::rows::COUNT;
-use super::{Row, assert_is, assert_steps, core_of_two};
-use crate::asks::{Ask, Within};
-use crate::plans::{Do, Plan, TestCore, TestStep, step_of};
-use crate::told::Told;
+use super::{Case, assert_is, assert_steps, core_of_two};
+use crate::plain_outcome::PlainOutcome;
+use crate::plans::{Plan, TestCore, TestStep, step_of};
 use core_steps::Move;
 use handles::Limits;
 use std::alloc::Global;
 use std::panic::Expect;
 use std::process::Abort;
-use test_keys::ChosenKey;
+use test_keys::{ChosenKey, Shortage};
+use test_machine::{ALL, Do, Question};
 use versions::Refusal;
 
 const KEY: ChosenKey = ChosenKey { path: 0, id: 0 };
 
 // The number of a map that is made is reserved.
-const MAKES_2: Ask = Ask::Filter(Within::ALL, 2);
+const MAKES_2: Question = Question::Filter(ALL, 2);
 
-const MAKES_1: Ask = Ask::Filter(Within::ALL, 1);
+const MAKES_1: Question = Question::Filter(ALL, 1);
 
-const MAKES_1024: Ask = Ask::Filter(Within::ALL, 1024);
+const MAKES_1024: Question = Question::Filter(ALL, 1024);
 
-// Whether the step is told this with no memory, with a little, and so on.
+// Whether the step has this outcome with no memory, with a little, and so on.
 fn is_always_told(
     rt: &impl Abort,
     alloc: Global,
     core: &mut TestCore,
     step: &TestStep,
-    want: Told,
+    want: PlainOutcome,
 ) -> bool
     requires { CanAsk IsReady (asked_by step.now) }
 {
-    let mut shortage = shortage(rt, alloc, 0);
+    let mut shortage = Shortage::with_bytes(alloc, 0).expect(rt, "no shortage");
     for _ in 0..TRIES {
         if told_if(rt, alloc, core, step) != Some(want) {
             return false;
@@ -46,24 +46,24 @@ fn is_always_told(
     true
 }
 
-// The step is told this, whatever the memory.
-fn assert_always(rt: &impl Abort, alloc: Global, core: &mut TestCore, row: Row) {
+// The step has this outcome, whatever the memory.
+fn assert_always(rt: &impl Abort, alloc: Global, core: &mut TestCore, row: Case) {
     let step = step_of(rt, alloc, row.0);
     let is_told = is_always_told(rt, alloc, core, &step, row.1);
     assert_is(rt, (row.1, is_told), (row.1, true));
 }
 
-// Each of the steps is told this, whatever the memory.
-fn assert_all_always(rt: &impl Abort, alloc: Global, core: &mut TestCore, rows: &[Row]) {
+// Each of the steps has its outcome, whatever the memory.
+fn assert_all_always(rt: &impl Abort, alloc: Global, core: &mut TestCore, rows: &[Case]) {
     for row in rows {
         assert_always(rt, alloc, core, *row);
     }
 }
 
 // One pair is put under handle 1.
-const PUT: [Row; 2] = [
-    (Plan::Open(1), Told::Unit),
-    (Plan::On(1, Do::Put(KEY, 1)), Told::Old(None)),
+const PUT: [Case; 2] = [
+    (Plan::Open(1), PlainOutcome::Unit),
+    (Plan::On(1, Do::Put(KEY, 1)), PlainOutcome::Old(None)),
 ];
 
 // A core with one pair under handle 1.
@@ -74,33 +74,45 @@ fn begun(rt: &impl Abort, alloc: Global) -> TestCore {
 }
 
 // The same with a job.
-fn frozen(rt: &impl Abort, alloc: Global, ask: Ask) -> TestCore {
+fn frozen(rt: &impl Abort, alloc: Global, question: Question) -> TestCore {
     let mut core = begun(rt, alloc);
     assert_steps(
         rt,
         alloc,
         &mut core,
-        &[(Plan::Freeze(1, ask), Told::Job(0))],
+        &[(Plan::Freeze(1, question), PlainOutcome::Job(0))],
     );
     core
 }
 
-const REFUSED_FREEZES: [Row; 5] = [
-    (Plan::Freeze(1024, COUNT), Told::Refused(Refusal::BadNumber)),
+const REFUSED_FREEZES: [Case; 5] = [
+    (
+        Plan::Freeze(1024, COUNT),
+        PlainOutcome::Refused(Refusal::BadNumber),
+    ),
     (
         Plan::Freeze(1, MAKES_1024),
-        Told::Refused(Refusal::BadNumber),
+        PlainOutcome::Refused(Refusal::BadNumber),
     ),
-    (Plan::Freeze(3, COUNT), Told::Refused(Refusal::NoHandle)),
-    (Plan::Freeze(1, MAKES_1), Told::Refused(Refusal::Taken)),
-    (Plan::Freeze(1, MAKES_2), Told::Refused(Refusal::Taken)),
+    (
+        Plan::Freeze(3, COUNT),
+        PlainOutcome::Refused(Refusal::NoHandle),
+    ),
+    (
+        Plan::Freeze(1, MAKES_1),
+        PlainOutcome::Refused(Refusal::Taken),
+    ),
+    (
+        Plan::Freeze(1, MAKES_2),
+        PlainOutcome::Refused(Refusal::Taken),
+    ),
 ];
 
 #[test]
 fn a_freeze_is_refused_whatever_the_memory(rt: HostRuntime) {
     let mut core = frozen(&rt, rt.alloc(), MAKES_2);
     assert_all_always(&rt, rt.alloc(), &mut core, &REFUSED_FREEZES);
-    let rows = [(Plan::Freeze(1, COUNT), Told::Job(1))];
+    let rows = [(Plan::Freeze(1, COUNT), PlainOutcome::Job(1))];
     assert_steps(&rt, rt.alloc(), &mut core, &rows);
 }
 
@@ -108,20 +120,26 @@ fn a_freeze_is_refused_whatever_the_memory(rt: HostRuntime) {
 fn with_all_jobs(rt: &impl Abort, alloc: Global) -> TestCore {
     let mut core = begun(rt, alloc);
     for number in 0..64 {
-        let row = (Plan::Freeze(1, COUNT), Told::Job(number));
+        let row = (Plan::Freeze(1, COUNT), PlainOutcome::Job(number));
         assert_steps(rt, alloc, &mut core, &[row]);
     }
     core
 }
 
-const ONE_TOO_MANY: [Row; 2] = [
-    (Plan::Freeze(1, COUNT), Told::Refused(Refusal::TooManyJobs)),
-    (Plan::Freeze(3, COUNT), Told::Refused(Refusal::NoHandle)),
+const ONE_TOO_MANY: [Case; 2] = [
+    (
+        Plan::Freeze(1, COUNT),
+        PlainOutcome::Refused(Refusal::TooManyJobs),
+    ),
+    (
+        Plan::Freeze(3, COUNT),
+        PlainOutcome::Refused(Refusal::NoHandle),
+    ),
 ];
 
-const ONE_LESS: [Row; 2] = [
-    (Plan::Abandon(0), Told::Abandoned),
-    (Plan::Freeze(1, COUNT), Told::Job(64)),
+const ONE_LESS: [Case; 2] = [
+    (Plan::Abandon(0), PlainOutcome::Abandoned),
+    (Plan::Freeze(1, COUNT), PlainOutcome::Job(64)),
 ];
 
 #[test]
@@ -136,9 +154,15 @@ const THREE_ENTRIES: Limits = Limits {
     entries: 3,
 };
 
-const NO_ENTRY: [Row; 2] = [
-    (Plan::Freeze(1, COUNT), Told::Refused(Refusal::JournalFull)),
-    (Plan::Freeze(3, COUNT), Told::Refused(Refusal::JournalFull)),
+const NO_ENTRY: [Case; 2] = [
+    (
+        Plan::Freeze(1, COUNT),
+        PlainOutcome::Refused(Refusal::JournalFull),
+    ),
+    (
+        Plan::Freeze(3, COUNT),
+        PlainOutcome::Refused(Refusal::JournalFull),
+    ),
 ];
 
 #[test]
@@ -149,36 +173,45 @@ fn a_freeze_without_an_entry_is_refused_whatever_the_memory(rt: HostRuntime) {
     assert_all_always(&rt, rt.alloc(), &mut core, &NO_ENTRY);
 }
 
-const REFUSED_MOVES: [Row; 11] = [
-    (Plan::Move(1, Move::Take(0)), Told::Refused(Refusal::NoJob)),
+const REFUSED_MOVES: [Case; 11] = [
+    (
+        Plan::Move(1, Move::Take(0)),
+        PlainOutcome::Refused(Refusal::NoJob),
+    ),
     (
         Plan::Move(1, Move::Steal(1, 0)),
-        Told::Refused(Refusal::NoJob),
+        PlainOutcome::Refused(Refusal::NoJob),
     ),
-    (Plan::Move(1, Move::Split(0)), Told::Refused(Refusal::NoJob)),
-    (Plan::Move(1, Move::Work(2)), Told::Refused(Refusal::NoJob)),
+    (
+        Plan::Move(1, Move::Split(0)),
+        PlainOutcome::Refused(Refusal::NoJob),
+    ),
+    (
+        Plan::Move(1, Move::Work(2)),
+        PlainOutcome::Refused(Refusal::NoJob),
+    ),
     (
         Plan::Move(0, Move::Take(2)),
-        Told::Refused(Refusal::NoWorker),
+        PlainOutcome::Refused(Refusal::NoWorker),
     ),
     (
         Plan::Move(0, Move::Steal(2, 0)),
-        Told::Refused(Refusal::NoWorker),
+        PlainOutcome::Refused(Refusal::NoWorker),
     ),
     (
         Plan::Move(0, Move::Steal(0, 2)),
-        Told::Refused(Refusal::NoWorker),
+        PlainOutcome::Refused(Refusal::NoWorker),
     ),
     (
         Plan::Move(0, Move::Split(2)),
-        Told::Refused(Refusal::NoWorker),
+        PlainOutcome::Refused(Refusal::NoWorker),
     ),
     (
         Plan::Move(0, Move::Work(2)),
-        Told::Refused(Refusal::NoWorker),
+        PlainOutcome::Refused(Refusal::NoWorker),
     ),
-    (Plan::Finish(1), Told::Refused(Refusal::NoJob)),
-    (Plan::Abandon(1), Told::Refused(Refusal::NoJob)),
+    (Plan::Finish(1), PlainOutcome::Refused(Refusal::NoJob)),
+    (Plan::Abandon(1), PlainOutcome::Refused(Refusal::NoJob)),
 ];
 
 #[test]
@@ -190,6 +223,6 @@ fn a_move_is_refused_whatever_the_memory(rt: HostRuntime) {
 #[test]
 fn a_finish_is_unfinished_whatever_the_memory(rt: HostRuntime) {
     let mut core = frozen(&rt, rt.alloc(), MAKES_2);
-    let row = (Plan::Finish(0), Told::Unfinished);
+    let row = (Plan::Finish(0), PlainOutcome::Unfinished);
     assert_always(&rt, rt.alloc(), &mut core, row);
 }

@@ -1,13 +1,13 @@
-//! A core beside a plain machine that makes the same steps: what both are told, what each handle shows, and what each
-//! worker's part tells.
+//! A core beside a plain machine that makes the same steps: the outcomes of both, what each handle shows, and what each
+//! worker's part is.
 
 use super::{answer_to, assert_is, assert_run, assert_told, assert_true};
-use crate::machine::{Expected, Machine, answer};
-use crate::maps::Row;
-use crate::plans::{Plan, TestCore, step_of};
-use crate::told::{
-    TestOutcome, TestPart, Told, found_row, part_told, rows_of_map, rows_of_view, told_of,
+use crate::machine::{Expected, Machine};
+use crate::plain_outcome::{
+    PlainOutcome, TestOutcome, TestPart, found_row, outcome_of, part_told, rows_of_map,
+    rows_of_view, told_of,
 };
+use crate::plans::{Plan, TestCore, step_of};
 use crate::worker_states::Job;
 use bulk_ops::{Answer, Part};
 use core_steps::Outcome;
@@ -15,23 +15,24 @@ use handles::MOST_ENTRIES;
 use std::alloc::Global;
 use std::panic::Expect;
 use std::process::Abort;
+use test_machine::{PlainPair, answer};
 use versions::MOST_PAIRS;
 
 // The handles that the steps are about.
 const HANDLES: [u32; 9] = [0, 1, 2, 3, 4, 5, 1023, 1024, u32::MAX];
 
-// A core beside a plain machine, with what was done with both so far and what was told of it.
+// A core beside a plain machine, with what was done with both so far and the outcomes of it.
 #[derive(Drop)]
 pub(super) struct Twins {
     pub(super) core: TestCore,
     pub(super) machine: Machine,
     pub(super) plans: Vec<Plan>,
-    pub(super) told: Vec<Told>,
+    pub(super) told: Vec<PlainOutcome>,
 }
 
 // A new core like a machine.
 fn core_like(rt: &impl Abort, alloc: Global, machine: &Machine) -> TestCore {
-    let (limits, workers, grain) = (machine.limits, machine.workers, machine.grain);
+    let (limits, workers, grain) = (machine.table.limits, machine.workers, machine.grain);
     assert!(rt; 1 <= limits.pairs && limits.pairs <= MOST_PAIRS);
     assert!(rt; 2 <= limits.entries && limits.entries <= MOST_ENTRIES);
     assert!(rt; 1 <= workers && workers <= 16);
@@ -40,19 +41,19 @@ fn core_like(rt: &impl Abort, alloc: Global, machine: &Machine) -> TestCore {
 }
 
 // Rows as they should be.
-fn assert_rows(rt: &impl Abort, rows: &[Row], want: &[Row]) {
+fn assert_rows(rt: &impl Abort, rows: &[PlainPair], want: &[PlainPair]) {
     assert_is(rt, rows, want);
 }
 
 // A row that is found is one of these.
-fn assert_found(rt: &impl Abort, found: Option<Row>, rows: &[Row]) {
+fn assert_found(rt: &impl Abort, found: Option<PlainPair>, rows: &[PlainPair]) {
     if let Some(row) = found {
         assert_true(rt, rows.contains(&row));
     }
 }
 
 // The outcome shows these rows: a view all of them, a find one of them where there is one.
-fn assert_shows(rt: &impl Abort, alloc: Global, outcome: &TestOutcome, rows: &[Row]) {
+fn assert_shows(rt: &impl Abort, alloc: Global, outcome: &TestOutcome, rows: &[PlainPair]) {
     match outcome {
         Outcome::View(view) => assert_rows(rt, &rows_of_view(rt, alloc, view), rows),
         Outcome::Answer(Answer::Found(found)) => assert_found(rt, found_row(found), rows),
@@ -61,7 +62,7 @@ fn assert_shows(rt: &impl Abort, alloc: Global, outcome: &TestOutcome, rows: &[R
 }
 
 // The part shows these rows: a map all of them, a find one of them where there is one.
-fn assert_part_shows(rt: &impl Abort, alloc: Global, part: &TestPart, rows: &[Row]) {
+fn assert_part_shows(rt: &impl Abort, alloc: Global, part: &TestPart, rows: &[PlainPair]) {
     match part {
         Part::Found(found) => assert_found(rt, found_row(found), rows),
         Part::Made(map) => assert_rows(rt, &rows_of_map(rt, alloc, map), rows),
@@ -72,8 +73,12 @@ fn assert_part_shows(rt: &impl Abort, alloc: Global, part: &TestPart, rows: &[Ro
 // The part is that of what the worker has worked.
 fn assert_part(rt: &impl Abort, alloc: Global, part: &TestPart, job: &Job, worker: u32) {
     let rows = job.worked_rows(rt, alloc, worker);
-    let chosen = job.ask.chosen(rt, alloc, &rows);
-    assert_told(rt, part_told(part), answer(job.ask, &chosen, rows.len()));
+    let chosen = job.question.chosen(alloc, &rows).expect(rt, "no room");
+    assert_told(
+        rt,
+        part_told(part),
+        outcome_of(answer(job.question, &chosen, rows.len())),
+    );
     assert_part_shows(rt, alloc, part, &chosen);
 }
 
@@ -89,8 +94,8 @@ impl Twins {
         }
     }
 
-    // Makes a step with both, which are told the same.
-    pub(super) fn make(&mut self, rt: &impl Abort, alloc: Global, plan: Plan) -> Told {
+    // Makes a step with both, with the same outcome.
+    pub(super) fn make(&mut self, rt: &impl Abort, alloc: Global, plan: Plan) -> PlainOutcome {
         let expected = self.machine.step(rt, alloc, plan);
         self.assert_made(rt, alloc, plan, &expected);
         self.plans.push(plan).expect(rt, "no room");
@@ -98,7 +103,7 @@ impl Twins {
         expected.told
     }
 
-    // The core makes the step, which is told what is expected.
+    // The core makes the step, which has the outcome that is expected.
     fn assert_made(&mut self, rt: &impl Abort, alloc: Global, plan: Plan, expected: &Expected) {
         let step = step_of(rt, alloc, plan);
         let outcome = answer_to(rt, alloc, &mut self.core, step);
@@ -122,7 +127,7 @@ impl Twins {
 
     // The same of all workers of all jobs, and of the job that would be next.
     pub(super) fn assert_parts(&self, rt: &impl Abort, alloc: Global) {
-        for number in 0..=self.machine.next {
+        for number in 0..=self.machine.table.next {
             for worker in 0..17 {
                 self.assert_part_of(rt, alloc, number, worker);
             }
@@ -136,7 +141,7 @@ impl Twins {
         }
     }
 
-    // A new core is told the same of all steps as one list.
+    // A new core returns the same outcomes for all steps as one list.
     pub(super) fn assert_run(&self, rt: &impl Abort, alloc: Global) {
         let mut core = core_like(rt, alloc, &self.machine);
         assert_run(rt, alloc, &mut core, &self.plans, &self.told);

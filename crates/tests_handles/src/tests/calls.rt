@@ -1,9 +1,9 @@
 //! Calls and their refusals. Replies and refusals under the largest limits are cases of the built program.
 
-use super::{LARGEST, Row, assert_entries, assert_is, assert_new, assert_rows, table_of};
+use super::{Case, LARGEST, assert_entries, assert_is, assert_new, assert_rows, table_of};
 use crate::asking::{Ask, Asking};
+use crate::plain_outcome::{PlainOutcome, call_told, value_in};
 use crate::steps::{Act, Do, command_of};
-use crate::told::{Told, call_told, value_in};
 use handles::{Call, CallReply, Limits};
 use std::alloc::Global;
 use std::panic::Expect;
@@ -11,24 +11,36 @@ use std::process::Abort;
 use versions::{NoMemory, Refusal};
 
 // Each call once, and what a snapshot keeps.
-const CALLS: [Row; 17] = [
-    (Do::Open(1), Told::Unit),
-    (Do::On(1, Act::PutIfAbsent(97, 5)), Told::Old(None)),
-    (Do::On(1, Act::PutIfAbsent(97, 6)), Told::Old(Some(5))),
-    (Do::On(1, Act::ReplaceIf(97, 6, 8)), Told::Done(false)),
-    (Do::On(1, Act::ReplaceIf(97, 5, 8)), Told::Done(true)),
-    (Do::On(1, Act::RemoveIf(97, 5)), Told::Done(false)),
-    (Do::On(1, Act::RemoveIf(97, 8)), Told::Done(true)),
-    (Do::On(1, Act::Replace(97, 1)), Told::Old(None)),
-    (Do::On(1, Act::Get(97)), Told::Old(None)),
-    (Do::On(1, Act::Put(97, 1)), Told::Old(None)),
-    (Do::Snapshot(1, 2), Told::Unit),
-    (Do::On(1, Act::Remove(97)), Told::Old(Some(1))),
-    (Do::On(2, Act::Clear), Told::Cleared),
-    (Do::On(2, Act::Size), Told::Size(0)),
-    (Do::View(1), Told::Viewed(0, None)),
-    (Do::Drop(1), Told::Unit),
-    (Do::On(1, Act::Get(97)), Told::Refused(Refusal::NoHandle)),
+const CALLS: [Case; 17] = [
+    (Do::Open(1), PlainOutcome::Unit),
+    (Do::On(1, Act::PutIfAbsent(97, 5)), PlainOutcome::Old(None)),
+    (
+        Do::On(1, Act::PutIfAbsent(97, 6)),
+        PlainOutcome::Old(Some(5)),
+    ),
+    (
+        Do::On(1, Act::ReplaceIf(97, 6, 8)),
+        PlainOutcome::Done(false),
+    ),
+    (
+        Do::On(1, Act::ReplaceIf(97, 5, 8)),
+        PlainOutcome::Done(true),
+    ),
+    (Do::On(1, Act::RemoveIf(97, 5)), PlainOutcome::Done(false)),
+    (Do::On(1, Act::RemoveIf(97, 8)), PlainOutcome::Done(true)),
+    (Do::On(1, Act::Replace(97, 1)), PlainOutcome::Old(None)),
+    (Do::On(1, Act::Get(97)), PlainOutcome::Old(None)),
+    (Do::On(1, Act::Put(97, 1)), PlainOutcome::Old(None)),
+    (Do::Snapshot(1, 2), PlainOutcome::Unit),
+    (Do::On(1, Act::Remove(97)), PlainOutcome::Old(Some(1))),
+    (Do::On(2, Act::Clear), PlainOutcome::Cleared),
+    (Do::On(2, Act::Size), PlainOutcome::Size(0)),
+    (Do::View(1), PlainOutcome::Viewed(0, None)),
+    (Do::Drop(1), PlainOutcome::Unit),
+    (
+        Do::On(1, Act::Get(97)),
+        PlainOutcome::Refused(Refusal::NoHandle),
+    ),
 ];
 
 #[test]
@@ -37,24 +49,36 @@ fn each_call_makes_an_entry(rt: HostRuntime) {
 }
 
 // Each kind of call with a handle that is not live, and with a number that is none or is live.
-const REFUSED: [Row; 14] = [
-    (Do::On(7, Act::Get(97)), Told::Refused(Refusal::NoHandle)),
-    (Do::Snapshot(7, 1), Told::Refused(Refusal::NoHandle)),
-    (Do::Drop(7), Told::Refused(Refusal::NoHandle)),
-    (Do::View(7), Told::Refused(Refusal::NoHandle)),
-    (Do::Open(1), Told::Unit),
-    (Do::Open(1024), Told::Refused(Refusal::BadNumber)),
-    (Do::Snapshot(1, 1024), Told::Refused(Refusal::BadNumber)),
-    (Do::Snapshot(1024, 2), Told::Refused(Refusal::BadNumber)),
-    (Do::Drop(1024), Told::Refused(Refusal::BadNumber)),
-    (Do::View(1024), Told::Refused(Refusal::BadNumber)),
+const REFUSED: [Case; 14] = [
+    (
+        Do::On(7, Act::Get(97)),
+        PlainOutcome::Refused(Refusal::NoHandle),
+    ),
+    (Do::Snapshot(7, 1), PlainOutcome::Refused(Refusal::NoHandle)),
+    (Do::Drop(7), PlainOutcome::Refused(Refusal::NoHandle)),
+    (Do::View(7), PlainOutcome::Refused(Refusal::NoHandle)),
+    (Do::Open(1), PlainOutcome::Unit),
+    (Do::Open(1024), PlainOutcome::Refused(Refusal::BadNumber)),
+    (
+        Do::Snapshot(1, 1024),
+        PlainOutcome::Refused(Refusal::BadNumber),
+    ),
+    (
+        Do::Snapshot(1024, 2),
+        PlainOutcome::Refused(Refusal::BadNumber),
+    ),
+    (Do::Drop(1024), PlainOutcome::Refused(Refusal::BadNumber)),
+    (Do::View(1024), PlainOutcome::Refused(Refusal::BadNumber)),
     (
         Do::On(1024, Act::Get(97)),
-        Told::Refused(Refusal::BadNumber),
+        PlainOutcome::Refused(Refusal::BadNumber),
     ),
-    (Do::Open(1), Told::Refused(Refusal::Taken)),
-    (Do::Snapshot(1, 1), Told::Refused(Refusal::Taken)),
-    (Do::Snapshot(7, 1024), Told::Refused(Refusal::BadNumber)),
+    (Do::Open(1), PlainOutcome::Refused(Refusal::Taken)),
+    (Do::Snapshot(1, 1), PlainOutcome::Refused(Refusal::Taken)),
+    (
+        Do::Snapshot(7, 1024),
+        PlainOutcome::Refused(Refusal::BadNumber),
+    ),
 ];
 
 #[test]
@@ -62,25 +86,28 @@ fn a_refused_call_makes_an_entry(rt: HostRuntime) {
     assert_new(&rt, rt.alloc(), LARGEST, &REFUSED, 14);
 }
 
-// Room for two pairs in each map.
+// Space for two pairs in each map.
 const TWO_PAIRS: Limits = Limits {
     pairs: 2,
     entries: 1_048_576,
 };
 
-const FULL_MAP: [Row; 9] = [
-    (Do::Open(1), Told::Unit),
-    (Do::On(1, Act::Put(98, 1)), Told::Old(None)),
-    (Do::On(1, Act::Put(99, 2)), Told::Old(None)),
+const FULL_MAP: [Case; 9] = [
+    (Do::Open(1), PlainOutcome::Unit),
+    (Do::On(1, Act::Put(98, 1)), PlainOutcome::Old(None)),
+    (Do::On(1, Act::Put(99, 2)), PlainOutcome::Old(None)),
     (
         Do::On(1, Act::PutIfAbsent(97, 3)),
-        Told::Refused(Refusal::Full),
+        PlainOutcome::Refused(Refusal::Full),
     ),
-    (Do::On(1, Act::Put(97, 3)), Told::Refused(Refusal::Full)),
-    (Do::On(1, Act::Put(98, 4)), Told::Old(Some(1))),
-    (Do::On(1, Act::Remove(99)), Told::Old(Some(2))),
-    (Do::On(1, Act::Remove(99)), Told::Old(None)),
-    (Do::On(1, Act::Put(97, 3)), Told::Old(None)),
+    (
+        Do::On(1, Act::Put(97, 3)),
+        PlainOutcome::Refused(Refusal::Full),
+    ),
+    (Do::On(1, Act::Put(98, 4)), PlainOutcome::Old(Some(1))),
+    (Do::On(1, Act::Remove(99)), PlainOutcome::Old(Some(2))),
+    (Do::On(1, Act::Remove(99)), PlainOutcome::Old(None)),
+    (Do::On(1, Act::Put(97, 3)), PlainOutcome::Old(None)),
 ];
 
 #[test]
@@ -88,26 +115,35 @@ fn two_pairs_are_full_until_one_is_removed(rt: HostRuntime) {
     assert_new(&rt, rt.alloc(), TWO_PAIRS, &FULL_MAP, 9);
 }
 
-// Room for four entries, and for one pair in each map.
+// Space for four entries, and for one pair in each map.
 const FOUR_ENTRIES: Limits = Limits {
     pairs: 1,
     entries: 4,
 };
 
-const FULL_JOURNAL: [Row; 10] = [
-    (Do::Open(1), Told::Unit),
-    (Do::On(1, Act::Put(97, 1)), Told::Old(None)),
-    (Do::On(1, Act::Put(98, 1)), Told::Refused(Refusal::Full)),
+const FULL_JOURNAL: [Case; 10] = [
+    (Do::Open(1), PlainOutcome::Unit),
+    (Do::On(1, Act::Put(97, 1)), PlainOutcome::Old(None)),
     (
         Do::On(1, Act::Put(98, 1)),
-        Told::Refused(Refusal::JournalFull),
+        PlainOutcome::Refused(Refusal::Full),
     ),
-    (Do::Open(1024), Told::Refused(Refusal::JournalFull)),
-    (Do::Open(1), Told::Refused(Refusal::JournalFull)),
-    (Do::Snapshot(7, 1), Told::Refused(Refusal::JournalFull)),
-    (Do::Drop(1), Told::Refused(Refusal::JournalFull)),
-    (Do::View(1), Told::Refused(Refusal::JournalFull)),
-    (Do::On(1, Act::Get(97)), Told::Refused(Refusal::JournalFull)),
+    (
+        Do::On(1, Act::Put(98, 1)),
+        PlainOutcome::Refused(Refusal::JournalFull),
+    ),
+    (Do::Open(1024), PlainOutcome::Refused(Refusal::JournalFull)),
+    (Do::Open(1), PlainOutcome::Refused(Refusal::JournalFull)),
+    (
+        Do::Snapshot(7, 1),
+        PlainOutcome::Refused(Refusal::JournalFull),
+    ),
+    (Do::Drop(1), PlainOutcome::Refused(Refusal::JournalFull)),
+    (Do::View(1), PlainOutcome::Refused(Refusal::JournalFull)),
+    (
+        Do::On(1, Act::Get(97)),
+        PlainOutcome::Refused(Refusal::JournalFull),
+    ),
 ];
 
 #[test]
@@ -116,10 +152,10 @@ fn a_full_journal_comes_before_every_other_refusal(rt: HostRuntime) {
 }
 
 // What is done while a view of the handle 1 is kept.
-const BEHIND: [Row; 3] = [
-    (Do::On(1, Act::Put(97, 9)), Told::Old(Some(1))),
-    (Do::On(1, Act::Put(98, 2)), Told::Old(None)),
-    (Do::Drop(1), Told::Unit),
+const BEHIND: [Case; 3] = [
+    (Do::On(1, Act::Put(97, 9)), PlainOutcome::Old(Some(1))),
+    (Do::On(1, Act::Put(98, 2)), PlainOutcome::Old(None)),
+    (Do::Drop(1), PlainOutcome::Unit),
 ];
 
 // A view of the handle keeps its pairs while the steps are made.
@@ -133,8 +169,8 @@ fn assert_kept(rt: &impl Abort, alloc: Global, table: &mut Asking) {
 fn a_view_keeps_its_pairs(rt: HostRuntime) {
     let mut table = table_of(&rt, rt.alloc(), LARGEST);
     let rows = [
-        (Do::Open(1), Told::Unit),
-        (Do::On(1, Act::Put(97, 1)), Told::Old(None)),
+        (Do::Open(1), PlainOutcome::Unit),
+        (Do::On(1, Act::Put(97, 1)), PlainOutcome::Old(None)),
     ];
     assert_rows(&rt, rt.alloc(), &mut table, &rows);
     assert_kept(&rt, rt.alloc(), &mut table);
@@ -155,9 +191,9 @@ fn assert_stamps(rt: &impl Abort, table: &Asking, want: [u64; 3]) {
 fn each_live_handle_has_a_stamp_of_its_own(rt: HostRuntime) {
     let mut table = table_of(&rt, rt.alloc(), LARGEST);
     let rows = [
-        (Do::Open(1), Told::Unit),
-        (Do::Snapshot(1, 2), Told::Unit),
-        (Do::Snapshot(1, 3), Told::Unit),
+        (Do::Open(1), PlainOutcome::Unit),
+        (Do::Snapshot(1, 2), PlainOutcome::Unit),
+        (Do::Snapshot(1, 3), PlainOutcome::Unit),
     ];
     assert_rows(&rt, rt.alloc(), &mut table, &rows);
     assert_is(&rt, table.places().len(), 1024);
@@ -169,14 +205,14 @@ fn each_live_handle_has_a_stamp_of_its_own(rt: HostRuntime) {
 fn a_target_has_the_next_stamp(rt: HostRuntime) {
     let mut table = table_of(&rt, rt.alloc(), LARGEST);
     let rows = [
-        (Do::Open(1), Told::Unit),
-        (Do::Snapshot(1, 2), Told::Unit),
-        (Do::On(1, Act::Put(97, 4)), Told::Old(None)),
+        (Do::Open(1), PlainOutcome::Unit),
+        (Do::Snapshot(1, 2), PlainOutcome::Unit),
+        (Do::On(1, Act::Put(97, 4)), PlainOutcome::Old(None)),
         (
             Do::Freeze(1, Ask::Filter(4, 4, 5)),
-            Told::Frozen(0, 1, Some(4)),
+            PlainOutcome::Frozen(0, 1, Some(4)),
         ),
-        (Do::Finish(0), Told::Made(1)),
+        (Do::Finish(0), PlainOutcome::Made(1)),
     ];
     assert_rows(&rt, rt.alloc(), &mut table, &rows);
     assert_stamps(&rt, &table, [2, 3, 4]);
@@ -201,10 +237,10 @@ fn calls_as_a_list(rt: HostRuntime) {
     let answers = run_four(rt.alloc(), &mut table).expect(&rt, "not made");
     assert_is(&rt, answers.len(), 4);
     let want = [
-        Told::Unit,
-        Told::Size(0),
-        Told::Unit,
-        Told::Refused(Refusal::Taken),
+        PlainOutcome::Unit,
+        PlainOutcome::Size(0),
+        PlainOutcome::Unit,
+        PlainOutcome::Refused(Refusal::Taken),
     ];
     for (answer, want) in answers.iter().zip(&want) {
         assert_is(&rt, call_told(answer), *want);

@@ -1,13 +1,15 @@
 //! What the twins of calls foresee, beside what the calls then answer.
 ghost use Rattle.std.specs.Prelude.{◌≡◌, IfOk, IfSome};
-ghost use Rattle.bulk_ops.specs.Told.{told_of};
+ghost use Rattle.bulk_ops.specs.Summaries.{summary_of};
 ghost use Rattle.handles.specs.Machine.{Step, drop_handle, job_at};
 ghost use Rattle.handles.specs.Views.{call_outcome, machine};
 
 use super::{LARGEST, assert_entries, assert_is, assert_rows, step, table_of};
 use crate::asking::{Ask, Asked, Asking, ThreeItems};
+use crate::plain_outcome::{
+    PlainOutcome, call_told, finish_told, freeze_told, unit_told, view_told,
+};
 use crate::steps::{Act, Do, Prepared, part_of, take};
-use crate::told::{Told, call_told, finish_told, freeze_told, unit_told, view_told};
 use bulk_ops::{Answer, Asks, Part};
 use combiner::Bulk;
 use handles::{Call, CallReply, Limits, Table, law_of_answers, law_of_foresight};
@@ -83,12 +85,12 @@ fn drawn_step(random: &mut Random) -> Do {
 }
 
 // What the step's twin answers. None of them finishes a job.
-fn foreseen(table: &Asking, step: &Prepared) -> Told {
+fn foreseen(table: &Asking, step: &Prepared) -> PlainOutcome {
     match step {
         Prepared::Call(call) => call_told(&table.foresee_serve(call)),
         Prepared::View(handle) => view_told(&table.foresee_view(*handle)),
         Prepared::Freeze(handle, query) => freeze_told(&table.foresee_freeze(*handle, &**query)),
-        Prepared::Finish(_) => Told::Refused(Refusal::NoJob),
+        Prepared::Finish(_) => PlainOutcome::Refused(Refusal::NoJob),
         Prepared::Abandon(job) => unit_told(table.foresee_abandon(*job)),
     }
 }
@@ -104,8 +106,13 @@ pub(super) fn state_of(table: &Asking) -> (u32, u64, u64, u64) {
     (table.entries(), live, pairs, stamps)
 }
 
-// The twin leaves the table and foresees what the step is then told.
-fn assert_foreseen(rt: &impl Abort, alloc: Global, table: &mut Asking, step: &Prepared) -> Told {
+// The twin leaves the table as it is, and foresees the outcome that the step then has.
+fn assert_foreseen(
+    rt: &impl Abort,
+    alloc: Global,
+    table: &mut Asking,
+    step: &Prepared,
+) -> PlainOutcome {
     let before = state_of(table);
     let wanted = foreseen(table, step);
     assert_is(rt, state_of(table), before);
@@ -115,9 +122,9 @@ fn assert_foreseen(rt: &impl Abort, alloc: Global, table: &mut Asking, step: &Pr
 }
 
 // Each kind of answer as a bit of its own.
-fn bit_of(told: Told) -> u32 {
+fn bit_of(told: PlainOutcome) -> u32 {
     match told {
-        Told::Refused(refusal) => bit_of_refusal(refusal),
+        PlainOutcome::Refused(refusal) => bit_of_refusal(refusal),
         _ => 1,
     }
 }
@@ -151,8 +158,8 @@ fn each_call_is_foreseen(rt: HostRuntime) {
 pub(super) fn with_four(rt: &impl Abort, alloc: Global) -> Asking {
     let mut table = table_of(rt, alloc, LARGEST);
     let rows = [
-        (Do::Open(1), Told::Unit),
-        (Do::On(1, Act::Put(97, 4)), Told::Old(None)),
+        (Do::Open(1), PlainOutcome::Unit),
+        (Do::On(1, Act::Put(97, 4)), PlainOutcome::Old(None)),
     ];
     assert_rows(rt, alloc, &mut table, &rows);
     table
@@ -164,7 +171,7 @@ pub(super) fn no_memory(rt: &impl Abort, alloc: Global) -> Vec<Vec<u8>> {
 }
 
 // What the step's twin answers with every request for memory refused.
-fn foreseen_without(rt: &impl Abort, alloc: Global, table: &Asking, what: Do) -> Told {
+fn foreseen_without(rt: &impl Abort, alloc: Global, table: &Asking, what: Do) -> PlainOutcome {
     let step = step(rt, alloc, what);
     let _taken = no_memory(rt, alloc);
     foreseen(table, &step)
@@ -174,9 +181,12 @@ fn foreseen_without(rt: &impl Abort, alloc: Global, table: &Asking, what: Do) ->
 fn twins_make_no_request(rt: HostRuntime) {
     let table = with_four(&rt, rt.alloc());
     let rows = [
-        (Do::On(1, Act::Get(97)), Told::Old(Some(4))),
-        (Do::View(1), Told::Viewed(1, Some(4))),
-        (Do::Freeze(1, Ask::Count(4, 4)), Told::Frozen(0, 1, Some(4))),
+        (Do::On(1, Act::Get(97)), PlainOutcome::Old(Some(4))),
+        (Do::View(1), PlainOutcome::Viewed(1, Some(4))),
+        (
+            Do::Freeze(1, Ask::Count(4, 4)),
+            PlainOutcome::Frozen(0, 1, Some(4)),
+        ),
     ];
     for (what, want) in rows {
         assert_is(&rt, foreseen_without(&rt, rt.alloc(), &table, what), want);
@@ -201,22 +211,27 @@ fn dropped_as_foreseen<K: PathKey + Drop, V: Eq + Drop, Q: Asks<K, V> + Drop>(
 #[test]
 fn what_was_foreseen_is_an_outcome_of_the_step(rt: HostRuntime) {
     let mut table = table_of(&rt, rt.alloc(), LARGEST);
-    assert_rows(&rt, rt.alloc(), &mut table, &[(Do::Open(1), Told::Unit)]);
-    for want in [Told::Unit, Told::Refused(Refusal::NoHandle)] {
+    assert_rows(
+        &rt,
+        rt.alloc(),
+        &mut table,
+        &[(Do::Open(1), PlainOutcome::Unit)],
+    );
+    for want in [PlainOutcome::Unit, PlainOutcome::Refused(Refusal::NoHandle)] {
         let dropped = dropped_as_foreseen(rt.alloc(), &mut table, 1);
         assert_is(&rt, call_told(&dropped), want);
     }
     assert_entries(&rt, &table, 3);
 }
 
-// What is foreseen of the job's finish by the part, and what the finish then tells: the same.
+// What is foreseen of the job's finish by the part, and what the finish then returns: the same.
 fn closed_as_foreseen<K: PathKey + Drop, V: Eq + Drop, Q: Asks<K, V> + Drop>(
     table: &mut Table<K, V, Q>,
     job: u64,
     part: Q::Part,
 ) -> Result<(Answer<K, V, Q::Item>, Answer<K, V, Q::Item>), Refusal>
     requires { IfSome (job_at table.old job) (λ asking. Q.answers asking.query asking.frozen part) }
-    ensures { IfOk result (λ both. told_of both.0 ≡ told_of both.1) }
+    ensures { IfOk result (λ both. summary_of both.0 ≡ summary_of both.1) }
 {
     let foreseen = table.foresee_finish(job, &part)?;
     let told = table.finish(job, part)?;
@@ -224,17 +239,24 @@ fn closed_as_foreseen<K: PathKey + Drop, V: Eq + Drop, Q: Asks<K, V> + Drop>(
 }
 
 // Both, as plain values.
-fn told_twice(table: &mut Asking, job: u64, part: Part<ChosenKey, i64, ThreeItems>) -> (Told, Told)
+fn told_twice(
+    table: &mut Asking,
+    job: u64,
+    part: Part<ChosenKey, i64, ThreeItems>,
+) -> (PlainOutcome, PlainOutcome)
     requires { IfSome (job_at table.old job) (λ asking. ⟦<Asked as Bulk<ChosenKey, i64>>⟧.answers asking.query asking.frozen part) }
 {
     match closed_as_foreseen(table, job, part) {
         Ok((foreseen, told)) => (finish_told(&Ok(foreseen)), finish_told(&Ok(told))),
-        Err(refusal) => (Told::Refused(refusal), Told::Refused(refusal)),
+        Err(refusal) => (
+            PlainOutcome::Refused(refusal),
+            PlainOutcome::Refused(refusal),
+        ),
     }
 }
 
-// The job is foreseen to tell this, and tells it, with every request for memory refused.
-fn assert_told(rt: &impl Abort, alloc: Global, table: &mut Asking, job: u64, want: Told) {
+// The job is foreseen to return this, and returns it, with every request for memory refused.
+fn assert_told(rt: &impl Abort, alloc: Global, table: &mut Asking, job: u64, want: PlainOutcome) {
     let part = part_of(alloc, table, job).expect(rt, "no part");
     let taken = no_memory(rt, alloc);
     let both = told_twice(table, job, part);
@@ -249,27 +271,27 @@ fn each_finish_is_foreseen(rt: HostRuntime) {
         &rt,
         rt.alloc(),
         &mut table,
-        &[(Do::On(1, Act::Put(98, 5)), Told::Old(None))],
+        &[(Do::On(1, Act::Put(98, 5)), PlainOutcome::Old(None))],
     );
     let rows = [
-        (Ask::Count(4, 4), Told::Count(1)),
-        (Ask::Exists(4, 4), Told::Truth(true)),
-        (Ask::ForAll(4, 4), Told::Truth(false)),
-        (Ask::Find(5, 5), Told::Found(Some((98, 5)))),
-        (Ask::Filter(4, 4, 2), Told::Made(1)),
-        (Ask::NewValues(7, 3), Told::Made(2)),
-        (Ask::Fold, Told::Item(9, Some(4), Some(5))),
+        (Ask::Count(4, 4), PlainOutcome::Count(1)),
+        (Ask::Exists(4, 4), PlainOutcome::Truth(true)),
+        (Ask::ForAll(4, 4), PlainOutcome::Truth(false)),
+        (Ask::Find(5, 5), PlainOutcome::Found(Some((98, 5)))),
+        (Ask::Filter(4, 4, 2), PlainOutcome::Made(1)),
+        (Ask::NewValues(7, 3), PlainOutcome::Made(2)),
+        (Ask::Fold, PlainOutcome::Item(9, Some(4), Some(5))),
     ];
     let mut job = 0u64;
     for (ask, want) in rows {
-        let frozen = Told::Frozen(job, 2, Some(4));
+        let frozen = PlainOutcome::Frozen(job, 2, Some(4));
         assert_rows(&rt, rt.alloc(), &mut table, &[(Do::Freeze(1, ask), frozen)]);
         assert_told(&rt, rt.alloc(), &mut table, job, want);
         job = job.saturating_add(1);
     }
 }
 
-// What the job's finish by the part would tell.
+// What the job's finish by the part would return.
 fn foreseen_finish<K: PathKey + Drop, V: Eq + Drop, Q: Asks<K, V> + Drop>(
     table: &Table<K, V, Q>,
     job: u64,
@@ -285,5 +307,5 @@ fn a_finish_of_no_job_is_foreseen(rt: HostRuntime) {
     let table = table_of(&rt, rt.alloc(), LARGEST);
     let part = part_of(rt.alloc(), &table, 0).expect(&rt, "no part");
     let told = finish_told(&foreseen_finish(&table, 0, &part));
-    assert_is(&rt, told, Told::Refused(Refusal::NoJob));
+    assert_is(&rt, told, PlainOutcome::Refused(Refusal::NoJob));
 }

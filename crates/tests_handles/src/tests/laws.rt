@@ -5,8 +5,8 @@ ghost use Rattle.handles.specs.Machine.{job_at, map_at};
 use super::foresight::with_four;
 use super::{assert_is, assert_rows};
 use crate::asking::{Ask, Asked, Asking, ThreeItems, query_of};
+use crate::plain_outcome::{PlainOutcome, call_told, finish_told};
 use crate::steps::{Act, Do, command_of, worked};
-use crate::told::{Told, call_told, finish_told};
 use bulk_ops::{Answer, Asks};
 use handles::{
     Call, CallReply, Command, Table, law_of_answers, law_of_freezes, law_of_open_jobs,
@@ -48,16 +48,16 @@ fn refused(
 #[test]
 fn laws_tell_of_calls(rt: HostRuntime) {
     let mut table = with_four(&rt, rt.alloc());
-    let kept = [(Do::On(2, Act::Get(97)), Told::Old(Some(4)))];
+    let kept = [(Do::On(2, Act::Get(97)), PlainOutcome::Old(Some(4)))];
     assert_rows(
         &rt,
         rt.alloc(),
         &mut table,
-        &[(Do::Snapshot(1, 2), Told::Unit)],
+        &[(Do::Snapshot(1, 2), PlainOutcome::Unit)],
     );
     for (act, want) in [
-        (Act::Put(97, 9), Told::Old(Some(4))),
-        (Act::Clear, Told::Cleared),
+        (Act::Put(97, 9), PlainOutcome::Old(Some(4))),
+        (Act::Clear, PlainOutcome::Cleared),
     ] {
         let command = command_of(rt.alloc(), act).expect(&rt, "no command");
         assert_is(
@@ -68,7 +68,7 @@ fn laws_tell_of_calls(rt: HostRuntime) {
     }
     assert_rows(&rt, rt.alloc(), &mut table, &kept);
     let told = call_told(&refused(rt.alloc(), &mut table, Call::Snapshot(1, 2)));
-    assert_is(&rt, told, Told::Refused(Refusal::Taken));
+    assert_is(&rt, told, PlainOutcome::Refused(Refusal::Taken));
     assert_rows(&rt, rt.alloc(), &mut table, &kept);
 }
 
@@ -111,7 +111,7 @@ fn finish<K: PathKey + Drop, V: Eq + Drop, Q: Asks<K, V> + Drop>(
     table.finish(job, part)
 }
 
-// What a job on the handle 1 tells that is worked by the view of its freeze, after the call.
+// What a job on the handle 1 returns that is worked by the view of its freeze, after the call.
 fn told_after(
     alloc: Global,
     table: &mut Asking,
@@ -135,6 +135,6 @@ fn laws_tell_of_jobs(rt: HostRuntime) {
             &query,
             Call::On(1, Command::Clear),
         ));
-        assert_is(&rt, told, Told::Count(want));
+        assert_is(&rt, told, PlainOutcome::Count(want));
     }
 }

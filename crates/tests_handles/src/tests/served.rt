@@ -5,8 +5,8 @@ ghost use Rattle.handles.specs.Views.{is_counted};
 use super::foresight::{CALLS, SMALL, drawn_call, no_memory, state_of, with_four};
 use super::{assert_entries, assert_is, step, table_of};
 use crate::asking::{Asked, Asking};
+use crate::plain_outcome::{PlainOutcome, call_told};
 use crate::steps::{Act, Do, Prepared, take};
-use crate::told::{Told, call_told};
 use bulk_ops::Asks;
 use handles::{Call, CallReply, Table};
 use hash_path::PathKey;
@@ -40,13 +40,13 @@ fn served<K: PathKey + Drop, V: Eq + Drop, Q: Asks<K, V> + Drop>(
 }
 
 // Makes a call so, which shares its key and values. No other step is made.
-fn serve(alloc: Global, table: &mut Asking, step: &Prepared) -> Told {
+fn serve(alloc: Global, table: &mut Asking, step: &Prepared) -> PlainOutcome {
     let Prepared::Call(call) = step else {
-        return Told::Refused(Refusal::NoJob);
+        return PlainOutcome::Refused(Refusal::NoJob);
     };
     match call.try_clone::<Asked>() {
         Ok(call) => call_told(&served(alloc, table, call)),
-        Err(_) => Told::Refused(Refusal::NoMemory),
+        Err(_) => PlainOutcome::Refused(Refusal::NoMemory),
     }
 }
 
@@ -65,17 +65,17 @@ fn a_call_is_made_as_it_was_foreseen(rt: HostRuntime) {
 }
 
 // What leaves a map of the key 97 with the value 4: a get, a size, and writes whose condition does not hold.
-const LEAVING: [(Act, Told); 6] = [
-    (Act::Get(97), Told::Old(Some(4))),
-    (Act::Size, Told::Size(1)),
-    (Act::PutIfAbsent(97, 5), Told::Old(Some(4))),
-    (Act::Replace(98, 5), Told::Old(None)),
-    (Act::ReplaceIf(97, 5, 5), Told::Done(false)),
-    (Act::RemoveIf(97, 5), Told::Done(false)),
+const LEAVING: [(Act, PlainOutcome); 6] = [
+    (Act::Get(97), PlainOutcome::Old(Some(4))),
+    (Act::Size, PlainOutcome::Size(1)),
+    (Act::PutIfAbsent(97, 5), PlainOutcome::Old(Some(4))),
+    (Act::Replace(98, 5), PlainOutcome::Old(None)),
+    (Act::ReplaceIf(97, 5, 5), PlainOutcome::Done(false)),
+    (Act::RemoveIf(97, 5), PlainOutcome::Done(false)),
 ];
 
-// The call is told this with every request for memory refused, and gives none back.
-fn assert_served(rt: &impl Abort, alloc: Global, table: &mut Asking, what: Do, want: Told) {
+// The call has this outcome with every request for memory refused, and gives none back.
+fn assert_served(rt: &impl Abort, alloc: Global, table: &mut Asking, what: Do, want: PlainOutcome) {
     let step = step(rt, alloc, what);
     let taken = no_memory(rt, alloc);
     let told = serve(alloc, table, &step);
@@ -89,11 +89,11 @@ fn what_leaves_the_maps_makes_no_request(rt: HostRuntime) {
     // a view shares the nodes, so that each write has to copy some
     let view = table.view(1).expect(&rt, "no view");
     let (made, live, pairs, stamps) = state_of(&table);
-    let no_memory = Told::Refused(Refusal::NoMemory);
+    let no_memory = PlainOutcome::Refused(Refusal::NoMemory);
     let new = Do::On(1, Act::Put(98, 5));
     assert_served(&rt, rt.alloc(), &mut table, new, no_memory);
     for (act, want) in LEAVING {
-        let on_none = Told::Refused(Refusal::NoHandle);
+        let on_none = PlainOutcome::Refused(Refusal::NoHandle);
         assert_served(&rt, rt.alloc(), &mut table, Do::On(1, act), want);
         assert_served(&rt, rt.alloc(), &mut table, Do::On(7, act), on_none);
     }

@@ -6,13 +6,13 @@
 ghost use Rattle.std.specs.Prelude.{◌≡◌, ◌≤◌, IfErr, IfOk};
 ghost use Rattle.std.specs.Thread.{IsSync};
 
-use super::outcomes::{Outcome, Seen, seen_in, told_of_answer};
+use super::outcomes::{Outcome, Seen, answer_outcome, seen_in};
 use super::questions::{Query, worked};
 use super::waiting::TestGate;
 use bulk_ops::Part;
 use combiner::Bulk;
 use handles::{Call, CallReply};
-use locked_map::{Crew, Room, Seat, SharedMap, Ticket};
+use locked_map::{Crew, JournalName, Seat, SharedMap, Ticket};
 use std::alloc::Global;
 use std::sync::{Arc, Wait};
 use std::thread::Threads;
@@ -23,11 +23,11 @@ type TestSeat<J> = Seat<ChosenKey, u64, Query, J>;
 
 /// A shared map of the tests.
 #[derive(Drop)]
-pub struct Lent<'a, J: Room>(pub &'a SharedMap<ChosenKey, u64, Query, J>);
+pub struct Lent<'a, J: JournalName>(pub &'a SharedMap<ChosenKey, u64, Query, J>);
 
 /// A ticket of one.
 #[derive(Drop)]
-pub struct TestTicket<J: Room>(Ticket<ChosenKey, u64, Query, J>);
+pub struct TestTicket<J: JournalName>(Ticket<ChosenKey, u64, Query, J>);
 
 /// A part of a query of the tests.
 #[derive(Drop)]
@@ -93,7 +93,7 @@ pub trait AnyMap {
     fn work(alloc: Global, ticket: &Self::Ticket) -> Result<Self::Part, NoMemory>
         ensures { IfOk result (λ part. answers ticket.now part) };
 
-    /// Finishes the job by the part, and gives what is told.
+    /// Finishes the job by the part, and returns the outcome.
     fn finish<R: Wait>(
         &self,
         rt: &R,
@@ -113,7 +113,7 @@ pub trait AnyMap {
         ticket: Self::Ticket,
     ) -> Result<(), (Refusal, Self::Ticket)>;
 
-    /// Has a crew answer the query, which asks the gate before each piece, and gives what is told.
+    /// Has a crew answer the query, which asks the gate before each piece, and returns the outcome.
     fn bulk<R: Threads + Wait + Sync>(
         &self,
         rt: &R,
@@ -130,7 +130,7 @@ pub trait AnyMap {
         requires most_grain { crew.grain ≤ 65536 };
 }
 
-impl<'a, J: Room> AnyMap for Lent<'a, J> {
+impl<'a, J: JournalName> AnyMap for Lent<'a, J> {
     type Seat = Seat<ChosenKey, u64, Query, J>;
 
     type Ticket = TestTicket<J>;
@@ -204,7 +204,7 @@ impl<'a, J: Room> AnyMap for Lent<'a, J> {
         part: TestPart,
     ) -> Result<Outcome, (Refusal, TestTicket<J>, TestPart)> {
         match self.0.finish(rt, seat, ticket.0, part.0) {
-            Ok(answer) => Ok(told_of_answer(&answer)),
+            Ok(answer) => Ok(answer_outcome(&answer)),
             Err((refusal, ticket, part)) => Err((refusal, TestTicket(ticket), TestPart(part))),
         }
     }
@@ -231,7 +231,7 @@ impl<'a, J: Room> AnyMap for Lent<'a, J> {
         gate: &TestGate<'_>,
     ) -> Result<Outcome, (Refusal, Option<TestTicket<J>>)> {
         match self.0.bulk(rt, seat, handle, query, crew, gate) {
-            Ok(answer) => Ok(told_of_answer(&answer)),
+            Ok(answer) => Ok(answer_outcome(&answer)),
             Err((refusal, Some(ticket))) => Err((refusal, Some(TestTicket(ticket)))),
             Err((refusal, None)) => Err((refusal, None)),
         }

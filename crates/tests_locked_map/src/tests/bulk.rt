@@ -1,14 +1,14 @@
 //! Bulk calls: what they answer, and the two entries that each of them files.
 use super::jobs::FOUR_AND_FIVE;
 use super::outcomes::Outcome;
-use super::questions::{ALL, EVEN, Question};
-use super::requests::Do::{Get, Put, Size};
-use super::requests::Request::{Finish, Freeze, On, Open};
 use super::script::assert_steps;
 use super::steps::Step;
 use super::steps::Step::{Ask, Bulk, Files};
 use super::{A, B, LARGEST};
 use handles::Limits;
+use test_machine::Do::{Get, Put, Size};
+use test_machine::Request::{Finish, Freeze, On, Open};
+use test_machine::{ALL, EVEN, Question};
 use versions::Refusal;
 
 const EVEN_PAIRS: Question = Question::Count(EVEN);

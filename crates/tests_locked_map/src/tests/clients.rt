@@ -4,21 +4,22 @@ use super::entries::{Entered, Exchange, TestClosed, value_at};
 use super::making::act;
 use super::model::replayed;
 use super::outcomes::Outcome;
-use super::requests::Do::{Put, PutIfAbsent};
-use super::requests::Request::{On, Open};
-use super::requests::{Deed, Request};
+use super::requests::Deed;
 use super::running::{Playing, Plays, run_clients};
 use super::{A, LARGEST, assert_is};
 use std::alloc::Global;
 use std::process::Abort;
 use std::sync::Wait;
 use std::thread::Threads;
+use test_machine::Do::{Put, PutIfAbsent};
+use test_machine::Request;
+use test_machine::Request::{On, Open};
 use versions::Refusal;
 
 // How often two clients run.
 const TIMES: u32 = 300;
 
-// A client that opens handle 1, and does something then. It comes to what it was told of both.
+// A client that opens handle 1, and does something then. It comes to the outcomes of both.
 #[derive(Drop)]
 struct Opener {
     then: Deed,
@@ -43,10 +44,10 @@ impl Plays for Opener {
 
 const FIRST: Deed = Deed::Ask(Open(1));
 
-// What the first and the second client were told.
+// The outcomes of the first and of the second client.
 type Two = ((Outcome, Outcome), (Outcome, Outcome));
 
-// Two such clients, each with what it does then: what they were told, and what is left of the map.
+// Two such clients, each with what it does then: their outcomes, and what is left of the map.
 fn run_two<R: AllocGlobal + Abort + Threads + Wait + Sync>(
     rt: &R,
     first: Deed,
@@ -94,7 +95,7 @@ fn assert_filed(rt: &impl Abort, entries: &[Entered], seat: u32, wanted: [Exchan
     assert_is(rt, rest.next().copied(), None);
 }
 
-// The journal has what both were told, and nothing else.
+// The journal has the outcomes of both, and nothing else.
 fn assert_journal(rt: &impl Abort, alloc: Global, closed: &TestClosed, told: Two) {
     let entries = replayed(rt, alloc, LARGEST, closed);
     assert_is(rt, entries.len(), 4);

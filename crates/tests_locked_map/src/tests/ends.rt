@@ -1,14 +1,13 @@
 //! Refusals that are entries, and those that are not.
 use super::outcomes::{NOTHING, Outcome};
-use super::questions::{ALL, EVEN, Question};
-use super::requests::Do::{Get, Put, PutIfAbsent, Size};
-use super::requests::Request;
-use super::requests::Request::{Abandon, Finish, Freeze, On, Open, Snapshot, View};
 use super::script::assert_steps;
 use super::steps::Step::{Ask, Dry};
 use super::steps::{Step, filled};
 use super::{A, B, LARGEST};
 use handles::Limits;
+use test_machine::Do::{Get, Put, PutIfAbsent, Size};
+use test_machine::Request::{Abandon, Finish, Freeze, On, Open, Snapshot, View};
+use test_machine::{ALL, EVEN, Question, Request};
 use versions::Refusal;
 
 const NO_HANDLE: Outcome = Outcome::Refused(Refusal::NoHandle);
@@ -45,7 +44,7 @@ fn a_full_journal_is_no_entry(rt: HostRuntime) {
     assert_steps(&rt, 1, FOUR_ENTRIES, &FULL_JOURNAL);
 }
 
-// Room for as many entries as are made before, with one to spare: a journal is full when fewer than two are left.
+// Space for as many entries as are made before, with one to spare: a journal is full when fewer than two are left.
 const FEW_ENTRIES: Limits = Limits {
     pairs: 16,
     entries: 33,

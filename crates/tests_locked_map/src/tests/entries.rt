@@ -1,11 +1,12 @@
 //! What is left of a map that was closed, as plain values.
-use super::outcomes::{Outcome, outcome_of};
+use super::outcomes::{Outcome, plain_outcome};
 use super::questions::Query;
-use super::requests::{Request, key_of, request_of};
+use super::requests::request_of;
 use locked_map::{Closed, Entry};
 use std::alloc::Global;
 use std::process::Abort;
 use test_keys::ChosenKey;
+use test_machine::Request;
 use versions::Version;
 
 /// What is left of a map of the tests.
@@ -14,7 +15,7 @@ pub type TestClosed = Closed<ChosenKey, u64, Query>;
 /// The version of a handle.
 pub type TestVersion = Version<ChosenKey, u64>;
 
-/// What a seat asked and was told.
+/// A request of a seat, and its outcome.
 pub type Exchange = (Request, Outcome);
 
 /// An entry of the journal.
@@ -29,7 +30,7 @@ fn plainly(entry: &Entry<ChosenKey, u64, Query, i128>) -> Entered {
     Entered {
         seat: entry.seat(),
         request: request_of(entry.asked()),
-        outcome: outcome_of(entry.told()),
+        outcome: plain_outcome(entry.response()),
     }
 }
 
@@ -52,9 +53,9 @@ pub fn entries_of(rt: &impl Abort, alloc: Global, closed: &TestClosed) -> Vec<En
 }
 
 /// The value of the key on the handle whose place is among these, where it has one.
-pub fn value_at(places: &[Option<TestVersion>], handle: u32, key: u64) -> Option<u64> {
+pub fn value_at(places: &[Option<TestVersion>], handle: u32, key: ChosenKey) -> Option<u64> {
     match places.get(handle as usize)? {
-        Some(version) => Some(**version.get(&key_of(key))?),
+        Some(version) => Some(**version.get(&key)?),
         None => None,
     }
 }

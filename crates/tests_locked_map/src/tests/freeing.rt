@@ -2,20 +2,20 @@
 ghost use Rattle.std.specs.Prelude.{⊤};
 ghost use Rattle.std.specs.Thread.{IsSync};
 
-use super::requests::shared_key;
-use super::waiting::wait_for;
+use super::waiting::MOST_TURNS;
 use super::{A, LARGEST, assert_is};
 use bulk_ops::{NoImages, PairFn, Query, Stored};
 use combiner::Sum;
 use handles::{Call, Command};
-use locked_map::{Client, Crew, Free, MOST_SEATS, Room, Seat, SharedMap, with_clients};
+use locked_map::{Client, Crew, Free, JournalName, MOST_SEATS, Seat, SharedMap, with_clients};
 use std::alloc::Global;
 use std::marker::Model;
 use std::process::Abort;
 use std::sync::atomic::{AtomicU32, Ordering};
 use std::sync::{Arc, Wait};
 use std::thread::Threads;
-use test_keys::ChosenKey;
+use test_keys::{ChosenKey, wait_for};
+use test_machine::shared_key;
 
 // What two clients tell one another. Each number counts up from 0.
 #[derive(Drop)]
@@ -70,7 +70,7 @@ impl Drop for Waiting {
         let Waiting { number: _, signs } = self;
         if let Some(signs) = signs {
             signs.dropping.store(1, Ordering::SeqCst);
-            let count = if wait_for(&signs.answered) {
+            let count = if wait_for(&signs.answered, MOST_TURNS) {
                 &signs.free
             } else {
                 &signs.held
@@ -134,7 +134,7 @@ impl PairFn<ChosenKey, Waiting, i128> for NoItem {
 
 type Signing = Query<ChosenKey, Waiting, NoTest, Signed, Sum, NoItem, NoImages>;
 
-// A map of such values by its calls alone, which tell whether they were answered.
+// A map of such values by its calls alone, which return whether they were answered.
 trait WaitingMap {
     // A seat of the map.
     type Seat;
@@ -157,7 +157,7 @@ trait WaitingMap {
         requires sync { IsSync R.row };
 }
 
-impl<J: Room> WaitingMap for SharedMap<ChosenKey, Waiting, Signing, J> {
+impl<J: JournalName> WaitingMap for SharedMap<ChosenKey, Waiting, Signing, J> {
     type Seat = Seat<ChosenKey, Waiting, Signing, J>;
 
     fn is_called<R: Wait>(
@@ -200,7 +200,7 @@ impl Client<ChosenKey, Waiting, Signing> for Freer {
 
     ghost gives = { λ _ _ _. ⊤ };
 
-    fn run<J: Room, R: Threads + Wait + Sync>(
+    fn run<J: JournalName, R: Threads + Wait + Sync>(
         self,
         rt: &R,
         alloc: Global,
@@ -268,7 +268,7 @@ fn let_go<M: WaitingMap, R: Wait>(rt: &R, map: &M, seat: &mut M::Seat, clears: b
 }
 
 fn open<M: WaitingMap, R: Wait>(rt: &R, map: &M, seat: &mut M::Seat, signs: &Signs) -> bool {
-    let is_opened = wait_for(&signs.dropping) && map.is_called(rt, seat, Call::Open(3));
+    let is_opened = wait_for(&signs.dropping, MOST_TURNS) && map.is_called(rt, seat, Call::Open(3));
     signs.answered.store(1, Ordering::SeqCst);
     is_opened
 }
@@ -319,7 +319,7 @@ fn dropped<R: AllocGlobal + Abort + Threads + Wait + Sync>(rt: &R, clears: bool)
     )
 }
 
-// Were the value dropped under the lock, the call would wait for its end, and it for the call's answer in vain.
+// Were the value dropped under the lock, the call would wait for the drop to end, and the drop for the call's answer.
 #[test]
 fn a_map_is_freed_with_no_lock_held(rt: HostRuntime) {
     assert_is(&rt, dropped(&rt, false), (1, 0));

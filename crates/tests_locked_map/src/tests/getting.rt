@@ -1,11 +1,11 @@
 //! A value that is made where there is none.
 use super::outcomes::Outcome;
-use super::requests::Do::{Get, Put, PutIfAbsent};
-use super::requests::Request::{On, Open};
 use super::script::assert_steps;
 use super::steps::Step;
 use super::steps::Step::{Ask, Files, GetOrStore};
 use super::{A, B, LARGEST};
+use test_machine::Do::{Get, Put, PutIfAbsent};
+use test_machine::Request::{On, Open};
 use versions::Refusal;
 
 const NO_HANDLE: Outcome = Outcome::Refused(Refusal::NoHandle);

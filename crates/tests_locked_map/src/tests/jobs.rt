@@ -1,13 +1,12 @@
 //! Jobs: what a ticket's answer is of, and how a job ends.
 use super::outcomes::{NOTHING, Outcome, Seen};
-use super::questions::{ALL, EVEN, Question};
-use super::requests::Do::{Get, Put, Size};
-use super::requests::Request;
-use super::requests::Request::{Abandon, Finish, Freeze, On, Open};
 use super::script::{assert_ends, assert_steps};
 use super::steps::Step;
 use super::steps::Step::{Ask, Lose};
 use super::{A, B, LARGEST};
+use test_machine::Do::{Get, Put, Size};
+use test_machine::Request::{Abandon, Finish, Freeze, On, Open};
+use test_machine::{ALL, EVEN, Question, Request};
 use versions::Refusal;
 
 /// The values 4 of A and 5 of B.

@@ -1,9 +1,9 @@
 //! How a seat does what is a plain value.
 //!
 //! Nothing here returns early, and what the test itself lacks is an outcome too, which no test wants: so no function
-//! has values to let go on the way.
+//! has values to drop on the way.
 use super::any_map::AnyMap;
-use super::outcomes::{Outcome, told_of_call, told_of_got, told_of_view};
+use super::outcomes::{Outcome, told_of_call, told_of_got, view_outcome};
 use super::questions::Query;
 use super::requests::{Deed, Prepared, prepare};
 use super::waiting::TestGate;
@@ -50,7 +50,7 @@ pub fn take<M: AnyMap, R: Threads + Wait + Sync>(
 ) -> Outcome {
     match prepared {
         Prepared::Call(call) => make_call(rt, map, seat, call),
-        Prepared::View(handle) => told_of_view(&map.view(rt, seat, *handle)),
+        Prepared::View(handle) => view_outcome(&map.view(rt, seat, *handle)),
         Prepared::Freeze(handle, query) => freeze(rt, map, seat, tickets, *handle, query),
         Prepared::Finish(job) => finish(rt, alloc, map, seat, tickets, *job),
         Prepared::Abandon(job) => abandon(rt, map, seat, tickets, *job),
@@ -94,7 +94,7 @@ fn freeze<M: AnyMap, R: Wait>(
     }
 }
 
-// Adds the ticket: what was told, unless the ticket is lost.
+// Adds the ticket: the outcome `told`, unless the ticket is lost.
 fn kept<T: Drop>(tickets: &mut Vec<T>, ticket: T, told: Outcome) -> Outcome {
     match tickets.push(ticket) {
         Ok(()) => told,

@@ -1,12 +1,12 @@
 //! Two seats that meet, and a view that is kept.
 use super::outcomes::{Outcome, Seen};
-use super::requests::Do::{Get, Put};
-use super::requests::Request;
-use super::requests::Request::{On, Open};
 use super::script::assert_steps;
 use super::steps::Step;
 use super::steps::Step::{Ask, Keep, Meet};
 use super::{A, B, LARGEST};
+use test_machine::Do::{Get, Put};
+use test_machine::Request;
+use test_machine::Request::{On, Open};
 
 const MET: [Step; 4] = [
     Ask(0, Open(1), Outcome::Unit),

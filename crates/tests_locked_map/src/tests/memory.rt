@@ -35,7 +35,7 @@ pub fn dry<M: AnyMap, R: Threads + Wait + Sync>(
     told
 }
 
-/// The seat does it with no memory, with a little, and so on, until memory is not wanting. It is wanting at least once.
+/// The seat does it with no memory, with a little, and so on, until there is enough. Memory runs out at least once.
 pub fn short<M: AnyMap, R: Threads + Wait + Sync>(
     rt: &R,
     alloc: Global,
@@ -80,7 +80,7 @@ fn short_of_all<M: AnyMap, R: Threads + Wait + Sync>(
     Outcome::Lost
 }
 
-// How many bytes are given after this was told, with so many gets made; none where memory was not wanting.
+// How many bytes are given after this outcome, with `gets` gets made; none where memory did not run out.
 fn bytes_after(told: Outcome, gets: usize) -> usize {
     match told {
         Outcome::Refused(Refusal::NoMemory) => STEP,
@@ -90,7 +90,7 @@ fn bytes_after(told: Outcome, gets: usize) -> usize {
     }
 }
 
-// The same of a finish. The job is worked before memory is wanting.
+// The same of a finish. The job is worked before memory runs out.
 fn short_finish<M: AnyMap, R: Wait>(
     rt: &R,
     alloc: Global,
@@ -111,7 +111,7 @@ fn short_finish<M: AnyMap, R: Wait>(
     }
 }
 
-// The ticket and the part are handed back where memory was wanting, and used again. None where it never was.
+// The ticket and the part are handed back where memory ran out, and used again. None where it never did.
 fn finish<M: AnyMap, R: Wait>(
     rt: &R,
     alloc: Global,

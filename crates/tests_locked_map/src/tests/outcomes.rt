@@ -1,11 +1,11 @@
-//! What seats are told, as plain values.
+//! The outcomes of seats, as plain values.
 use super::KEYS;
-use super::requests::key_of;
 use bulk_ops::Answer;
-use handles::{CallReply, Reply};
-use locked_map::Told;
+use handles::CallReply;
+use locked_map::Response;
 use std::sync::Arc;
 use test_keys::ChosenKey;
+use test_machine::{PlainPair, TableOutcome, outcome_of_reply, value_of};
 use versions::{Refusal, View};
 
 /// What a view shows: how many pairs there are, and the value of each key of the tests.
@@ -21,7 +21,7 @@ pub const NOTHING: Seen = Seen {
     values: [None; 4],
 };
 
-/// What a seat is told, as a plain value.
+/// What a call of a seat returns, as a plain value.
 #[derive(Clone, Copy, Debug, PartialEq, Eq)]
 pub enum Outcome {
     Unit,
@@ -62,7 +62,7 @@ impl Outcome {
 pub fn seen_in(view: &View<ChosenKey, u64>) -> Seen {
     let mut values = [None; 4];
     for (value, key) in values.iter_mut().zip(KEYS) {
-        *value = match view.get(&key_of(key)) {
+        *value = match view.get(&key) {
             Some(found) => Some(**found),
             None => None,
         };
@@ -73,7 +73,17 @@ pub fn seen_in(view: &View<ChosenKey, u64>) -> Seen {
     }
 }
 
-/// What is told of a value that was got or stored.
+/// What a view of the rows shows.
+pub fn shown(rows: &[PlainPair]) -> Seen {
+    let mut shown = NOTHING;
+    shown.len = rows.len() as u64;
+    for (value, key) in shown.values.iter_mut().zip(KEYS) {
+        *value = value_of(rows, key);
+    }
+    shown
+}
+
+/// The outcome of a value that was got or stored.
 pub fn told_of_got(is_made: bool, answer: &Result<Arc<u64>, Refusal>) -> Outcome {
     match answer {
         Ok(value) => Outcome::Got(is_made, **value),
@@ -81,54 +91,64 @@ pub fn told_of_got(is_made: bool, answer: &Result<Arc<u64>, Refusal>) -> Outcome
     }
 }
 
-/// What a call is told.
+/// What a call returns.
 pub fn told_of_call(answer: &Result<CallReply<u64>, Refusal>) -> Outcome {
     match answer {
-        Ok(reply) => reply_told(reply),
+        Ok(reply) => reply_outcome(reply),
         Err(refusal) => Outcome::Refused(*refusal),
     }
 }
 
-/// What a view is told.
-pub fn told_of_view(answer: &Result<View<ChosenKey, u64>, Refusal>) -> Outcome {
+/// What a view returns.
+pub fn view_outcome(answer: &Result<View<ChosenKey, u64>, Refusal>) -> Outcome {
     match answer {
         Ok(view) => Outcome::View(seen_in(view)),
         Err(refusal) => Outcome::Refused(*refusal),
     }
 }
 
-fn reply_told(reply: &CallReply<u64>) -> Outcome {
-    match reply {
-        CallReply::Unit => Outcome::Unit,
-        CallReply::Reply(Reply::Old(None)) => Outcome::Old(None),
-        CallReply::Reply(Reply::Old(Some(value))) => Outcome::Old(Some(**value)),
-        CallReply::Reply(Reply::Done(done)) => Outcome::Done(*done),
-        CallReply::Reply(Reply::Size(count)) => Outcome::Size(*count),
-        CallReply::Reply(Reply::Cleared) => Outcome::Cleared,
-    }
+/// What the answer of a job says.
+pub fn answer_outcome(answer: &Answer<ChosenKey, u64, i128>) -> Outcome {
+    let found = match answer {
+        Answer::Found(Some((key, value))) => Some((key.path, **value)),
+        _ => None,
+    };
+    outcome_of(test_machine::outcome_of_answer(answer), NOTHING, found)
 }
 
-/// What the answer of a job tells.
-pub fn told_of_answer(answer: &Answer<ChosenKey, u64, i128>) -> Outcome {
-    match answer {
-        Answer::Count(count) => Outcome::Count(*count),
-        Answer::Truth(truth) => Outcome::Truth(*truth),
-        Answer::Found(Some((key, value))) => Outcome::Found(Some((key.path, **value))),
-        Answer::Found(None) => Outcome::Found(None),
-        Answer::Made(count) => Outcome::Made(*count),
-        Answer::Images(map) => Outcome::Made(map.len()),
-        Answer::Item(total) => Outcome::Total(*total),
-    }
+// What a reply says.
+fn reply_outcome(reply: &CallReply<u64>) -> Outcome {
+    outcome_of(outcome_of_reply(reply), NOTHING, None)
 }
 
-/// What was told, as a plain value.
-pub fn outcome_of(told: &Told<ChosenKey, u64, i128>) -> Outcome {
+/// The outcome of a request, with what a view or a freeze shows and the pair that is found.
+pub fn outcome_of(told: TableOutcome, seen: Seen, found: Option<(u64, u64)>) -> Outcome {
     match told {
-        Told::Reply(reply) => reply_told(reply),
-        Told::View(view) => Outcome::View(seen_in(view)),
-        Told::Frozen(job, view) => Outcome::Frozen(*job, seen_in(view)),
-        Told::Answer(answer) => told_of_answer(answer),
-        Told::Abandoned => Outcome::Abandoned,
-        Told::Refused(refusal) => Outcome::Refused(*refusal),
+        TableOutcome::Unit => Outcome::Unit,
+        TableOutcome::Old(value) => Outcome::Old(value),
+        TableOutcome::Done(done) => Outcome::Done(done),
+        TableOutcome::Size(count) => Outcome::Size(count),
+        TableOutcome::Cleared => Outcome::Cleared,
+        TableOutcome::Viewed => Outcome::View(seen),
+        TableOutcome::Frozen(job) => Outcome::Frozen(job, seen),
+        TableOutcome::Count(count) => Outcome::Count(count),
+        TableOutcome::Truth(truth) => Outcome::Truth(truth),
+        TableOutcome::Found(_) => Outcome::Found(found),
+        TableOutcome::Made(count) => Outcome::Made(count),
+        TableOutcome::Total(total) => Outcome::Total(total),
+        TableOutcome::Abandoned => Outcome::Abandoned,
+        TableOutcome::Refused(refusal) => Outcome::Refused(refusal),
+    }
+}
+
+/// A response as a plain value.
+pub fn plain_outcome(told: &Response<ChosenKey, u64, i128>) -> Outcome {
+    match told {
+        Response::Reply(reply) => reply_outcome(reply),
+        Response::View(view) => Outcome::View(seen_in(view)),
+        Response::Frozen(job, view) => Outcome::Frozen(*job, seen_in(view)),
+        Response::Answer(answer) => answer_outcome(answer),
+        Response::Abandoned => Outcome::Abandoned,
+        Response::Refused(refusal) => Outcome::Refused(*refusal),
     }
 }

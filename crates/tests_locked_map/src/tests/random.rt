@@ -1,17 +1,17 @@
-//! A client that makes random requests, and notes down what it is told.
-use super::KEYS;
+//! A client that makes random requests, and notes down what they return.
 use super::any_map::AnyMap;
 use super::entries::Exchange;
 use super::making::act;
 use super::outcomes::Outcome;
-use super::questions::{ALL, EVEN, Passing, Question};
-use super::requests::{Deed, Do, Request};
+use super::requests::Deed;
 use super::running::Plays;
+use super::{A, KEYS};
 use std::alloc::Global;
 use std::sync::atomic::{AtomicU64, Ordering};
 use std::sync::{Arc, Wait};
 use std::thread::Threads;
-use test_keys::Random;
+use test_keys::{ChosenKey, Random};
+use test_machine::{ALL, Do, EVEN, Passing, Question, Request};
 
 // How many calls a client makes.
 const CALLS: u32 = 500;
@@ -31,8 +31,8 @@ impl Draws {
         self.0.next(below)
     }
 
-    fn key(&mut self) -> u64 {
-        KEYS.get(self.next(4) as usize).copied().unwrap_or(0)
+    fn key(&mut self) -> ChosenKey {
+        KEYS.get(self.next(4) as usize).copied().unwrap_or(A)
     }
 
     fn value(&mut self) -> u64 {
@@ -112,7 +112,7 @@ impl Draws {
     }
 }
 
-/// What a client was told of a call, and the time by the clients' clock before the call and after it.
+/// A client's call and what it returned, and the time by the clients' clock before the call and after it.
 #[derive(Clone, Copy, Debug)]
 pub struct Note {
     pub begun: u64,
@@ -128,7 +128,7 @@ pub const MOST_NOTES: usize = 1_000;
 pub struct Player {
     pub number: u32,
     pub draws: Draws,
-    /// Of so many calls it closes its first job by one, its second by one, and so on.
+    /// Of this many calls it closes its first job by one, its second by one, and so on.
     pub jobs: u32,
     /// Goes on with each look at it.
     pub clock: Arc<AtomicU64>,
@@ -197,7 +197,7 @@ fn add(notes: &mut Vec<Note>, times: Times, request: Request, told: Outcome) {
     });
 }
 
-// Notes down what was asked and told by one call: of a value that was got or stored, a get, and a put_if_absent where
+// Notes down the requests and outcomes of one call: of a value that was got or stored, a get, and a put_if_absent where
 // the value was made.
 fn note_down(notes: &mut Vec<Note>, times: Times, deed: Deed, told: Outcome) {
     match deed {
@@ -217,7 +217,7 @@ fn note_down(notes: &mut Vec<Note>, times: Times, deed: Deed, told: Outcome) {
     }
 }
 
-// Whether the value was made, and what the last of the requests must have been told.
+// Whether the value was made, and what the last of the requests must have returned.
 fn got_of(told: Outcome, made: u64) -> (bool, Outcome) {
     match told {
         Outcome::Got(true, value) if value == made => (true, Outcome::Old(None)),

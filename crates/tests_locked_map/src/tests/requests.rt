@@ -1,44 +1,18 @@
 //! What seats do, as plain values.
-use super::questions::{Query, Question, query_of, question_of};
+use super::questions::{Query, question_of};
 use handles::{Call, Command};
 use locked_map::Asked;
 use std::alloc::{AllocError, Global};
 use std::sync::Arc;
 use test_keys::ChosenKey;
-
-/// What is done on one map, at the key of a path word where there is one.
-#[derive(Clone, Copy, Debug, PartialEq, Eq)]
-pub enum Do {
-    Get(u64),
-    Put(u64, u64),
-    PutIfAbsent(u64, u64),
-    Replace(u64, u64),
-    ReplaceIf(u64, u64, u64),
-    Remove(u64),
-    RemoveIf(u64, u64),
-    Size,
-    Clear,
-}
-
-/// What a seat asks.
-#[derive(Clone, Copy, Debug, PartialEq, Eq)]
-pub enum Request {
-    Open(u32),
-    Snapshot(u32, u32),
-    Drop(u32),
-    On(u32, Do),
-    View(u32),
-    Freeze(u32, Question),
-    Finish(u64),
-    Abandon(u64),
-}
+use test_machine::{Do, Question, Request, command_of, query_of, shared_key};
 
 /// What a seat does: one request, or what makes up to two.
 #[derive(Clone, Copy)]
 pub enum Deed {
     Ask(Request),
     /// Gets the value of the key on the handle, or stores this one.
-    GetOrStore(u32, u64, u64),
+    GetOrStore(u32, ChosenKey, u64),
     /// Has a crew answer the question about the handle's map.
     Bulk(u32, Question),
 }
@@ -55,46 +29,8 @@ pub enum Prepared {
     Bulk(u32, Arc<Query>),
 }
 
-/// The key of a path word.
-pub fn key_of(path: u64) -> ChosenKey {
-    ChosenKey { path, id: 0 }
-}
-
-/// The same, as calls take it.
-pub fn shared_key(alloc: Global, path: u64) -> Result<Arc<ChosenKey>, AllocError> {
-    Ok(Arc::new(alloc, key_of(path))?)
-}
-
-fn shared_value(alloc: Global, value: u64) -> Result<Arc<u64>, AllocError> {
-    Ok(Arc::new(alloc, value)?)
-}
-
 fn shared_query(alloc: Global, question: Question) -> Result<Arc<Query>, AllocError> {
     Ok(Arc::new(alloc, query_of(question))?)
-}
-
-// The command of what is done.
-fn command_of(alloc: Global, what: Do) -> Result<Command<ChosenKey, u64>, AllocError> {
-    Ok(match what {
-        Do::Get(key) => Command::Get(shared_key(alloc, key)?),
-        Do::Put(key, value) => Command::Put(shared_key(alloc, key)?, shared_value(alloc, value)?),
-        Do::PutIfAbsent(key, value) => {
-            Command::PutIfAbsent(shared_key(alloc, key)?, shared_value(alloc, value)?)
-        }
-        Do::Replace(key, value) => {
-            Command::Replace(shared_key(alloc, key)?, shared_value(alloc, value)?)
-        }
-        Do::ReplaceIf(key, old, value) => {
-            let (old, value) = (shared_value(alloc, old)?, shared_value(alloc, value)?);
-            Command::ReplaceIf(shared_key(alloc, key)?, old, value)
-        }
-        Do::Remove(key) => Command::Remove(shared_key(alloc, key)?),
-        Do::RemoveIf(key, value) => {
-            Command::RemoveIf(shared_key(alloc, key)?, shared_value(alloc, value)?)
-        }
-        Do::Size => Command::Size,
-        Do::Clear => Command::Clear,
-    })
 }
 
 fn prepare_request(alloc: Global, request: Request) -> Result<Prepared, AllocError> {
@@ -147,13 +83,13 @@ fn plain_call(call: &Call<ChosenKey, u64>) -> Request {
 
 fn plain_command(command: &Command<ChosenKey, u64>) -> Do {
     match command {
-        Command::Get(key) => Do::Get(key.path),
-        Command::Put(key, value) => Do::Put(key.path, **value),
-        Command::PutIfAbsent(key, value) => Do::PutIfAbsent(key.path, **value),
-        Command::Replace(key, value) => Do::Replace(key.path, **value),
-        Command::ReplaceIf(key, old, value) => Do::ReplaceIf(key.path, **old, **value),
-        Command::Remove(key) => Do::Remove(key.path),
-        Command::RemoveIf(key, value) => Do::RemoveIf(key.path, **value),
+        Command::Get(key) => Do::Get(**key),
+        Command::Put(key, value) => Do::Put(**key, **value),
+        Command::PutIfAbsent(key, value) => Do::PutIfAbsent(**key, **value),
+        Command::Replace(key, value) => Do::Replace(**key, **value),
+        Command::ReplaceIf(key, old, value) => Do::ReplaceIf(**key, **old, **value),
+        Command::Remove(key) => Do::Remove(**key),
+        Command::RemoveIf(key, value) => Do::RemoveIf(**key, **value),
         Command::Size => Do::Size,
         Command::Clear => Do::Clear,
     }

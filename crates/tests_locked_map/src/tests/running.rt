@@ -7,7 +7,7 @@ use super::assert_limits;
 use super::entries::TestClosed;
 use super::questions::Query;
 use handles::Limits;
-use locked_map::{Client, MOST_SEATS, Room, Seat, SharedMap, with_clients};
+use locked_map::{Client, JournalName, MOST_SEATS, Seat, SharedMap, with_clients};
 use std::alloc::Global;
 use std::process::Abort;
 use std::sync::Wait;
@@ -41,7 +41,7 @@ impl<P: Plays> Client<ChosenKey, u64, Query> for Playing<P> {
 
     ghost gives = { λ _ _ _. ⊤ };
 
-    fn run<J: Room, R: Threads + Wait + Sync>(
+    fn run<J: JournalName, R: Threads + Wait + Sync>(
         self,
         rt: &R,
         alloc: Global,

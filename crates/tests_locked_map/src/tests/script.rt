@@ -1,6 +1,6 @@
 //! One thread that has all seats, plays a list of steps and closes the map.
 //!
-//! Most tests are such a list, each step beside what it is told: a list is no work to prove.
+//! Most tests are such a list, each step beside its outcome: a list is no work to prove.
 ghost use Rattle.std.specs.Prelude.{⊤};
 
 use super::any_map::{AnyMap, Lent};
@@ -10,16 +10,17 @@ use super::memory::{dry, short};
 use super::model::replayed;
 use super::outcomes::{Outcome, seen_in};
 use super::questions::Query;
-use super::requests::{Deed, Request, prepare};
+use super::requests::{Deed, prepare};
 use super::steps::{Memory, Step, entry_in, told_in, turn_of};
 use super::{assert_is, assert_limits};
 use handles::Limits;
-use locked_map::{MOST_SEATS, Room, Seat, SharedMap, Use, with};
+use locked_map::{JournalName, MOST_SEATS, Seat, SharedMap, Use, with};
 use std::alloc::Global;
 use std::process::Abort;
 use std::sync::Wait;
 use std::thread::Threads;
 use test_keys::ChosenKey;
+use test_machine::Request;
 use versions::{Refusal, View};
 
 /// The seats by which the map is closed.
@@ -37,8 +38,8 @@ pub enum Ending {
     WithoutLast,
 }
 
-// What the steps are told, and the views that are kept.
-type Told = (Vec<Outcome>, Vec<View<ChosenKey, u64>>);
+// The outcomes of the steps, and the views that are kept.
+type OutcomesAndViews = (Vec<Outcome>, Vec<View<ChosenKey, u64>>);
 
 #[derive(Drop)]
 struct Script {
@@ -52,19 +53,19 @@ struct Script {
 const TICKETS: usize = 64;
 
 impl Use<ChosenKey, u64, Query> for Script {
-    type Out = Told;
+    type Out = OutcomesAndViews;
 
     ghost needs = { λ _ _. ⊤ };
 
     ghost gives = { λ _ _ _. ⊤ };
 
-    fn run<J: Room + Send + Sync, R: Threads + Wait + Sync>(
+    fn run<J: JournalName + Send + Sync, R: Threads + Wait + Sync>(
         self,
         rt: &R,
         alloc: Global,
         map: &SharedMap<ChosenKey, u64, Query, J>,
         seats: &mut Vec<Seat<ChosenKey, u64, Query, J>>,
-    ) -> Told {
+    ) -> OutcomesAndViews {
         play(rt, alloc, &Lent(map), seats, self)
     }
 }
@@ -75,7 +76,7 @@ fn play<M: AnyMap, R: Threads + Wait + Sync>(
     map: &M,
     seats: &mut Vec<M::Seat>,
     script: Script,
-) -> Told {
+) -> OutcomesAndViews {
     let Script {
         steps,
         ending,
@@ -130,7 +131,7 @@ fn take_turn<M: AnyMap, R: Threads + Wait + Sync>(
     }
 }
 
-// A step that is no request. It is told `Unit` where it asks for nothing.
+// A step that is no request. It returns `Unit` where it asks for nothing.
 fn take_other<M: AnyMap, R: Threads + Wait + Sync>(
     rt: &R,
     alloc: Global,
@@ -178,7 +179,7 @@ fn keep<M: AnyMap, R: Wait>(
     }
 }
 
-// Finishes each job: what is told of each, or what is told of one of which something else is.
+// Finishes each job: returns `told` if that is the outcome of each, or else the first other outcome.
 fn finish_all<M: AnyMap, R: Threads + Wait + Sync>(
     rt: &R,
     alloc: Global,
@@ -242,14 +243,14 @@ fn arrange<S: Drop>(seats: &mut Vec<S>, ending: Ending) {
     }
 }
 
-// Plays the steps on a new map with this number of seats: what they are told, and what is left of the map where it was
+// Plays the steps on a new map with this number of seats: their outcomes, and what is left of the map where it was
 // closed.
 fn lent<R: AllocGlobal + Abort + Threads + Wait + Sync>(
     rt: &R,
     seats: u32,
     limits: Limits,
     script: Script,
-) -> (Told, Option<TestClosed>) {
+) -> (OutcomesAndViews, Option<TestClosed>) {
     assert_limits(rt, limits);
     assert!(rt; 1 <= seats && seats <= MOST_SEATS);
     match with(rt, rt.alloc(), seats, limits, script) {
@@ -283,7 +284,7 @@ pub fn closed_len<R: AllocGlobal + Abort + Threads + Wait + Sync>(
     }
 }
 
-// Each step is told this, and the views that are kept show what they showed.
+// Each step has its outcome.
 fn assert_told(rt: &impl Abort, told: &[Outcome], steps: &[Step]) {
     assert_is(rt, told.len(), steps.len());
     for (told, step) in told.iter().zip(steps) {
@@ -291,6 +292,7 @@ fn assert_told(rt: &impl Abort, told: &[Outcome], steps: &[Step]) {
     }
 }
 
+// The views that are kept show what they showed.
 fn assert_kept(rt: &impl Abort, views: &[View<ChosenKey, u64>], steps: &[Step]) {
     let mut rest = views.iter();
     for step in steps {
@@ -320,8 +322,8 @@ fn assert_closed(
     entries
 }
 
-/// Each step is told as it says, and the map closes. A plain program comes to the same table from the entries of its
-/// journal, which are handed over.
+/// Each step has the outcome that it says, and the map closes. A plain program comes to the same table from the entries
+/// of its journal, which are handed over.
 pub fn played<R: AllocGlobal + Abort + Threads + Wait + Sync>(
     rt: &R,
     seats: u32,

@@ -1,31 +1,32 @@
-//! The steps of a list, as plain values: what each does, what it is told, and what it files.
+//! The steps of a list, as plain values: what each does, its outcome, and what it files.
 use super::entries::Entered;
 use super::outcomes::{Outcome, Seen};
-use super::questions::Question;
-use super::requests::{Deed, Do, Request};
+use super::requests::Deed;
 use std::alloc::Global;
 use std::process::Abort;
+use test_keys::ChosenKey;
+use test_machine::{Do, Question, Request};
 
 /// A step of the thread. The first number is that of the seat.
 #[derive(Clone, Copy)]
 pub enum Step {
-    /// The seat makes the request, and is told so.
+    /// The seat makes the request, with this outcome.
     Ask(u32, Request, Outcome),
     /// The same with every request for memory refused.
     Dry(u32, Request, Outcome),
     /// The same with requests for memory refused until one more is not.
     Short(u32, Request, Outcome),
-    /// The seat gets the value of the key on the handle or stores this one, and is told so.
-    GetOrStore(u32, u32, u64, u64, Outcome),
+    /// The seat gets the value of the key on the handle or stores this one, with this outcome.
+    GetOrStore(u32, u32, ChosenKey, u64, Outcome),
     /// The same with requests for memory refused until one more is not.
-    ShortGet(u32, u32, u64, u64, Outcome),
-    /// A crew answers the question about the handle's map, and the seat is told so.
+    ShortGet(u32, u32, ChosenKey, u64, Outcome),
+    /// A crew answers the question about the handle's map, with this outcome.
     Bulk(u32, u32, Question, Outcome),
     /// The same with every request for memory refused.
     DryBulk(u32, u32, Question, Outcome),
     /// The same with requests for memory refused until one more is not.
     ShortBulk(u32, u32, Question, Outcome),
-    /// The seat finishes every job whose ticket there is, and is told this of each.
+    /// The seat finishes every job whose ticket there is, each with this outcome.
     FinishAll(u32, Outcome),
     /// The seat takes a view of the handle that shows this, and shows it still once the map is gone.
     Keep(u32, u32, Seen),
@@ -45,7 +46,7 @@ pub enum Memory {
     None,
 }
 
-/// What a seat does in a step, and what it is told.
+/// What a seat does in a step, and its outcome.
 pub type Turn = (u32, Memory, Deed, Outcome);
 
 /// What a seat does in the step, if it is such a step.
@@ -77,7 +78,7 @@ pub fn turn_of(step: Step) -> Option<Turn> {
     }
 }
 
-/// What a step is to be told.
+/// The outcome that a step has to have.
 pub fn told_in(step: Step) -> Outcome {
     match step {
         Step::Keep(_, _, seen) => Outcome::View(seen),
@@ -110,7 +111,7 @@ pub fn entry_in(step: Step) -> Option<Entered> {
     }
 }
 
-/// The first steps, and so many sizes of handle 1 with so many pairs that there are as many steps as there are to be.
+/// The first steps, and then sizes of handle 1, which has `pairs` pairs, until there are `count` steps.
 pub fn filled(
     rt: &impl Abort,
     alloc: Global,

@@ -1,11 +1,11 @@
 //! The seats by which a map closes.
 use super::outcomes::Outcome;
-use super::requests::Do::Put;
-use super::requests::Request::{On, Open};
 use super::script::{Ending, closed_len};
 use super::steps::Step;
 use super::steps::Step::Ask;
 use super::{A, B, LARGEST, assert_is};
+use test_machine::Do::Put;
+use test_machine::Request::{On, Open};
 
 // Each of the three seats files something.
 const EACH_FILES: [Step; 3] = [

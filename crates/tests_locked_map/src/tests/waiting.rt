@@ -4,10 +4,7 @@ use super::entries::Entered;
 use super::making::{WORKERS, act, bulk};
 use super::model::replayed;
 use super::outcomes::{Outcome, Seen};
-use super::questions::{ALL, Question, query_of};
-use super::requests::Do::{Get, Put, PutIfAbsent};
-use super::requests::Request::{Finish, Freeze, On, Open};
-use super::requests::{Deed, Request, shared_key};
+use super::requests::Deed;
 use super::running::{Playing, Plays, run_clients};
 use super::{A, LARGEST, assert_is};
 use hash_path::Bound;
@@ -16,11 +13,14 @@ use std::alloc::Global;
 use std::process::Abort;
 use std::sync::atomic::{AtomicU32, Ordering};
 use std::sync::{Arc, Wait};
-use std::thread;
 use std::thread::Threads;
+use test_keys::{ChosenKey, wait_for};
+use test_machine::Do::{Get, Put, PutIfAbsent};
+use test_machine::Request::{Finish, Freeze, On, Open};
+use test_machine::{ALL, Question, Request, query_of, shared_key};
 
-// How often a thread lets others run before it gives up.
-const MOST_TURNS: u32 = 10_000_000;
+/// How often a thread lets others run before it gives up.
+pub const MOST_TURNS: u32 = 10_000_000;
 
 /// What the threads of a test tell one another. Each number counts up from 0.
 #[derive(Drop)]
@@ -48,17 +48,6 @@ fn no_signs() -> Signs {
     }
 }
 
-/// Waits until the sign is set, and answers whether it was.
-pub fn wait_for(sign: &AtomicU32) -> bool {
-    for _ in 0..MOST_TURNS {
-        if sign.load(Ordering::SeqCst) != 0 {
-            return true;
-        }
-        thread::yield_now();
-    }
-    false
-}
-
 // The first piece that is begun is held until the other worker has begun one and the put has been answered.
 impl Gate for Signs {
     fn before(&self, worker: u32, _lo: Bound, _hi: Bound) {
@@ -67,7 +56,7 @@ impl Gate for Signs {
         }
         if self.begun.fetch_add(1, Ordering::SeqCst) > 0 {
             self.others.store(1, Ordering::SeqCst);
-        } else if !wait_for(&self.others) || !wait_for(&self.answered) {
+        } else if !wait_for(&self.others, MOST_TURNS) || !wait_for(&self.answered, MOST_TURNS) {
             self.ran_out.store(1, Ordering::SeqCst);
         }
     }
@@ -79,12 +68,12 @@ pub enum TestGate<'a> {
     /// Nothing: every piece begins at once.
     Free,
     /// The signs of a test.
-    Held(&'a Signs),
+    Signed(&'a Signs),
 }
 
 impl Gate for TestGate<'_> {
     fn before(&self, worker: u32, lo: Bound, hi: Bound) {
-        if let TestGate::Held(signs) = self {
+        if let TestGate::Signed(signs) = self {
             signs.before(worker, lo, hi);
         }
     }
@@ -94,7 +83,7 @@ impl Signs {
     // A value that is made is held until the put has been answered.
     fn make(&self) -> u64 {
         self.begun.store(1, Ordering::SeqCst);
-        if !wait_for(&self.answered) {
+        if !wait_for(&self.answered, MOST_TURNS) {
             self.ran_out.store(1, Ordering::SeqCst);
         }
         7
@@ -160,14 +149,15 @@ fn play_counter<M: AnyMap, R: Threads + Wait + Sync>(
 ) -> Outcome {
     let mut tickets = Vec::new(alloc);
     act(rt, alloc, map, seat, &mut tickets, Deed::Ask(Open(1)));
-    for key in 0..PAIRS {
+    for path in 0..PAIRS {
+        let key = ChosenKey { path, id: 0 };
         act(
             rt,
             alloc,
             map,
             seat,
             &mut tickets,
-            Deed::Ask(On(1, Put(key, key))),
+            Deed::Ask(On(1, Put(key, path))),
         );
     }
     match Arc::new(alloc, query_of(Question::Count(ALL))) {
@@ -178,7 +168,7 @@ fn play_counter<M: AnyMap, R: Threads + Wait + Sync>(
             &mut tickets,
             1,
             query,
-            &TestGate::Held(signs),
+            &TestGate::Signed(signs),
         ),
         Err(_) => Outcome::Lost,
     }
@@ -192,7 +182,7 @@ fn play_putter<M: AnyMap, R: Threads + Wait + Sync>(
     signs: &Signs,
 ) -> Outcome {
     let mut tickets = Vec::new(alloc);
-    if !wait_for(&signs.begun) {
+    if !wait_for(&signs.begun, MOST_TURNS) {
         return Outcome::Lost;
     }
     let told = act(
@@ -229,7 +219,7 @@ fn two_clients(
     clients
 }
 
-// What both clients were told, how many waits ran out, how many pieces the caller of the crew began, and the entries.
+// The outcomes of both clients, how many waits ran out, how many pieces the caller of the crew began, and the entries.
 type Met = (Vec<Outcome>, u32, u32, Vec<Entered>);
 
 fn run_pair<R: AllocGlobal + Abort + Threads + Wait + Sync>(rt: &R, counts: bool) -> Met {
@@ -243,8 +233,8 @@ fn run_pair<R: AllocGlobal + Abort + Threads + Wait + Sync>(rt: &R, counts: bool
     (told, ran_out, callers, entries)
 }
 
-// The first client is told this and the put finds nothing, no wait runs out, the caller begins no piece, and behind so
-// many entries there are these.
+// The first client has this outcome and the put finds nothing, no wait runs out, the caller begins no piece, and behind
+// `before` entries there are these.
 fn assert_met<R: AllocGlobal + Abort + Threads + Wait + Sync>(
     rt: &R,
     counts: bool,

@@ -2,17 +2,16 @@
 use super::entries::Entered;
 use super::jobs::FOUR_AND_FIVE;
 use super::outcomes::{Outcome, Seen};
-use super::questions::{ALL, EVEN, Question};
-use super::requests::Do::{Clear, Get, Put, PutIfAbsent, Remove};
-use super::requests::Request;
-use super::requests::Request::{Abandon, Finish, Freeze, On, Open, Snapshot, View};
 use super::script::{assert_steps, played};
 use super::steps::Step::{Ask, DryBulk, Files, FinishAll, Short, ShortBulk, ShortGet};
 use super::steps::{Step, filled};
-use super::{A, B, LARGEST, assert_is};
+use super::{A, B, C, LARGEST, assert_is};
 use std::process::Abort;
 use std::sync::Wait;
 use std::thread::Threads;
+use test_machine::Do::{Clear, Get, Put, PutIfAbsent, Remove};
+use test_machine::Request::{Abandon, Finish, Freeze, On, Open, Snapshot, View};
+use test_machine::{ALL, EVEN, Question, Request};
 use versions::Refusal;
 
 // How many entries there are before something is tried: as many as the first bucket of the vector of entries has, and
@@ -34,8 +33,8 @@ const ONE: [Step; 2] = [
     Ask(0, On(1, Put(A, 4)), Outcome::Old(None)),
 ];
 
-// Behind the first steps and so many sizes as there may be entries before, what is tried is refused some times, after
-// which the map and the seat are as before, and then made.
+// The first steps are followed by sizes, up to `ENTRIES` steps. Then the request is refused some times, after which the
+// map and the seat are as before. At last it is made.
 fn assert_short<R: AllocGlobal + Abort + Threads + Wait + Sync>(
     rt: &R,
     first: &[Step],
@@ -133,7 +132,7 @@ const WITH_ROOM: [Step; 5] = [
 const FINISHED: [Step; 4] = [
     DryBulk(0, 1, COUNT, Outcome::Returned(Refusal::NoMemory)),
     Files(0, Freeze(1, COUNT), Outcome::Frozen(1, FOUR_AND_FIVE)),
-    Ask(1, On(1, Put(99, 6)), Outcome::Old(None)),
+    Ask(1, On(1, Put(C, 6)), Outcome::Old(None)),
     Ask(1, Finish(1), Outcome::Count(2)),
 ];
 
@@ -151,7 +150,7 @@ fn the_ticket_of_a_bulk_call_comes_back(rt: HostRuntime) {
 const IN_TURN: [Step; 4] = [
     DryBulk(0, 1, COUNT, Outcome::Refused(Refusal::NoMemory)),
     ShortBulk(0, 1, COUNT, Outcome::Count(2)),
-    Ask(1, On(1, Put(99, 6)), Outcome::Old(None)),
+    Ask(1, On(1, Put(C, 6)), Outcome::Old(None)),
     FinishAll(1, Outcome::Count(2)),
 ];
 

@@ -168,8 +168,8 @@ fn all_empty(rt: &impl Abort, alloc: Global) -> Vec<Both> {
     all
 }
 
-// Makes the call that the number picks: one in 16 forks a version in place of another, the others write. It tells what
-// the list and the version answer.
+// Makes the call that the number picks: one in 16 forks a version in place of another, the others write. It returns
+// what the list and the version answer.
 fn call(
     rt: &impl Abort,
     alloc: Global,
@@ -195,10 +195,10 @@ fn many_calls_are_answered_as_by_sorted_lists(rt: HostRuntime) {
     let mut source = Source::new();
     let mut all = all_empty(&rt, alloc);
     let mut number = 2463534242;
-    for turn in 0..CALLS {
+    for round in 0..CALLS {
         number = shuffled(number);
         let (listed, found) = call(&rt, alloc, &mut all, &mut source, number);
-        assert_is(&rt, (turn, listed), (turn, found));
+        assert_is(&rt, (round, listed), (round, found));
     }
     for both in &all {
         let alike = (both.is_alike(), both.has_shape(&rt, alloc));

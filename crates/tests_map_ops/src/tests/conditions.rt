@@ -18,7 +18,7 @@ fn put_text_where<C: Condition<i64>>(
     let key = text(rt, alloc, at);
     let value = shared(rt, alloc, value);
     let change = version.put_where(alloc, key, value, condition)?;
-    Ok((plainly(change.previous), change.done))
+    Ok((plainly(change.previous), change.written))
 }
 
 // Removes the text where the condition holds. It answers the value before and whether it was done.
@@ -32,7 +32,7 @@ fn remove_text_where<C: Condition<i64>>(
     let key = text(rt, alloc, at);
     let change = version.remove_where(alloc, &*key, condition);
     let change = change.expect(rt, "not removed");
-    (plainly(change.previous), change.done)
+    (plainly(change.previous), change.written)
 }
 
 // What a put of the text under a condition is answered: the value before, and whether it was done.

@@ -33,7 +33,7 @@ enum Answer {
 }
 
 // A call, its key, and what it answers.
-type Row<'a> = (Call, &'a str, Result<Answer, Refusal>);
+type Case<'a> = (Call, &'a str, Result<Answer, Refusal>);
 
 // Puts the value, and answers the one before.
 fn put_at(
@@ -147,7 +147,7 @@ fn answer_of(
 }
 
 // The calls are made one after another, and answered so.
-fn assert_answers(rt: &impl Abort, alloc: Global, map: &mut Texts, rows: &[Row<'_>]) {
+fn assert_answers(rt: &impl Abort, alloc: Global, map: &mut Texts, rows: &[Case<'_>]) {
     for (number, (call, at, want)) in rows.iter().enumerate() {
         let seen = answer_of(rt, alloc, map, *call, at);
         assert_is(rt, (number, seen), (number, *want));

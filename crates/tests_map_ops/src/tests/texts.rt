@@ -33,7 +33,7 @@ fn removed_where(alloc: Global, version: &mut Texts) -> Result<[(Option<i64>, bo
     let other = version.remove_where(alloc, "a", &IfEqual(&5))?;
     let equal = version.remove_where(alloc, b"a".as_slice(), &IfEqual(&1))?;
     let absent = version.remove_where(alloc, "a", &IfEqual(&1))?;
-    Ok([other, equal, absent].map(|change| (plainly(change.previous), change.done)))
+    Ok([other, equal, absent].map(|change| (plainly(change.previous), change.written)))
 }
 
 #[test]

@@ -2,7 +2,7 @@
 
 use super::row_of;
 use crate::maps::{Map, map_of, random_map, view_of};
-use crate::plain::{Row, rows_between};
+use crate::plain::{PlainPair, rows_between};
 use iter::BunchedPairs;
 use splitter::{Cut, Piece, cut, whole};
 use std::alloc::{AllocError, Global};
@@ -17,7 +17,7 @@ type Bunched<'a> = BunchedPairs<'a, ChosenKey, i64>;
 const MAPS: u32 = 100;
 
 // The walk gives these rows and no more.
-fn assert_bunched(rt: &impl Abort, walk: &mut Bunched<'_>, rows: &[Row]) {
+fn assert_bunched(rt: &impl Abort, walk: &mut Bunched<'_>, rows: &[PlainPair]) {
     for row in rows {
         assert_eq!(rt; row_of(walk.next()), Some(*row));
     }
@@ -26,7 +26,7 @@ fn assert_bunched(rt: &impl Abort, walk: &mut Bunched<'_>, rows: &[Row]) {
 }
 
 // The map has these rows, and each half of it has its rows of them.
-fn assert_halves(rt: &impl Abort, alloc: Global, map: &Map, rows: &[Row]) {
+fn assert_halves(rt: &impl Abort, alloc: Global, map: &Map, rows: &[PlainPair]) {
     let piece = whole(alloc, view_of(rt, map));
     assert_bunched(rt, &mut piece.bunched_pairs(), rows);
     if let Ok(Cut::Two(lower, upper)) = cut(piece, 1) {
@@ -47,7 +47,7 @@ fn bunches_list_random_maps_and_their_halves(rt: HostRuntime) {
     }
 }
 
-// This path word, so many times.
+// This path word, `count` times.
 fn same(alloc: Global, word: u64, count: usize) -> Result<Vec<u64>, AllocError> {
     let mut words = Vec::new(alloc);
     for _ in 0..count {
@@ -56,7 +56,7 @@ fn same(alloc: Global, word: u64, count: usize) -> Result<Vec<u64>, AllocError> 
     Ok(words)
 }
 
-// One path word so many times, beside one that has its first digit and one that has not.
+// One path word `count` times, beside one that has its first digit and one that has not.
 fn beside_bucket(alloc: Global, count: usize) -> Result<Vec<u64>, AllocError> {
     let mut words = same(alloc, 7, count)?;
     words.push(39)?;
@@ -64,7 +64,7 @@ fn beside_bucket(alloc: Global, count: usize) -> Result<Vec<u64>, AllocError> {
     Ok(words)
 }
 
-// So many path words, all with the same two first digits.
+// `count` path words, all with the same two first digits.
 fn near(alloc: Global, count: u64) -> Result<Vec<u64>, AllocError> {
     let mut words = Vec::new(alloc);
     for n in 0..count {
@@ -90,7 +90,7 @@ fn bunches_end_where_they_are_full(rt: HostRuntime) {
     }
 }
 
-// So many near path words, and so many that are one.
+// `count` near path words, and `count` that are one.
 fn near_and_same(alloc: Global, count: usize) -> Result<Vec<u64>, AllocError> {
     let mut words = near(alloc, count as u64)?;
     words.extend_from_slice(&same(alloc, 7, count)?)?;
@@ -98,7 +98,7 @@ fn near_and_same(alloc: Global, count: usize) -> Result<Vec<u64>, AllocError> {
 }
 
 // How many pairs the piece's walk gives, and its last.
-fn end_of(piece: &Piece<ChosenKey, i64>) -> (usize, Option<Row>) {
+fn end_of(piece: &Piece<ChosenKey, i64>) -> (usize, Option<PlainPair>) {
     let mut count = 0usize;
     let mut last = None;
     for (key, value) in piece.bunched_pairs() {

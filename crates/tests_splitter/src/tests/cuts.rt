@@ -2,7 +2,7 @@
 
 use super::{MAPS, assert_gives};
 use crate::maps::{Map, random_map, view_of};
-use crate::plain::{Row, cut_point, rows_between};
+use crate::plain::{PlainPair, middle_of_rows, rows_between};
 use splitter::{Cut, Piece, cut, whole};
 use std::alloc::Global;
 use std::panic::Expect;
@@ -12,7 +12,7 @@ use test_keys::{ChosenKey, Random};
 type Part = Piece<ChosenKey, i64>;
 
 // Pieces that wait to be cut, each beside its rows.
-type Pieces = Vec<(Part, Vec<Row>)>;
+type Pieces = Vec<(Part, Vec<PlainPair>)>;
 
 // A map of 300 keys has no more pieces than these on the way to pieces of one.
 const MOST_PIECES: u32 = 600;
@@ -20,7 +20,7 @@ const MOST_PIECES: u32 = 600;
 const END: u128 = 1 << 64;
 
 // The piece has these rows.
-fn assert_piece(rt: &impl Abort, piece: &Part, rows: &[Row]) {
+fn assert_piece(rt: &impl Abort, piece: &Part, rows: &[PlainPair]) {
     let mut walk = piece.pairs().expect(rt, "no walk");
     assert_eq!(rt; piece.len(), rows.len() as u64);
     assert_gives(rt, &mut walk, rows);
@@ -50,7 +50,7 @@ fn cut_at(rt: &impl Abort, piece: Part, grain: u64, point: Option<u128>) -> Cut<
 }
 
 // Adds the piece beside its rows, which are some of these.
-fn push(rt: &impl Abort, alloc: Global, pieces: &mut Pieces, piece: Part, rows: &[Row]) {
+fn push(rt: &impl Abort, alloc: Global, pieces: &mut Pieces, piece: Part, rows: &[PlainPair]) {
     let rows = rows_between(rt, alloc, rows, piece.lo(), piece.hi());
     pieces.push((piece, rows)).expect(rt, "no room");
 }
@@ -61,7 +61,7 @@ fn push_cut(
     alloc: Global,
     pieces: &mut Pieces,
     cut: Cut<ChosenKey, i64>,
-    rows: &[Row],
+    rows: &[PlainPair],
 ) -> Option<(u128, u128)> {
     match cut {
         Cut::Two(lower, upper) => {
@@ -75,7 +75,7 @@ fn push_cut(
 
 // Cuts the map until no piece can be cut, each piece beside its rows. The last pieces stand one after another and end
 // at the last position.
-fn assert_divides(rt: &impl Abort, alloc: Global, map: &Map, rows: &[Row], grain: u64) {
+fn assert_divides(rt: &impl Abort, alloc: Global, map: &Map, rows: &[PlainPair], grain: u64) {
     let mut pieces = Vec::new(alloc);
     push(rt, alloc, &mut pieces, whole(alloc, view_of(rt, map)), rows);
     let mut end = 0;
@@ -84,7 +84,7 @@ fn assert_divides(rt: &impl Abort, alloc: Global, map: &Map, rows: &[Row], grain
             break;
         };
         assert_piece(rt, &piece, &rows);
-        let cut = cut_at(rt, piece, grain, cut_point(rt, alloc, &rows, grain));
+        let cut = cut_at(rt, piece, grain, middle_of_rows(rt, alloc, &rows, grain));
         if let Some((lo, hi)) = push_cut(rt, alloc, &mut pieces, cut, &rows) {
             assert_eq!(rt; lo, end);
             end = hi;

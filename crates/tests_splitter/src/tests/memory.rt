@@ -2,7 +2,7 @@
 
 use super::{Walk, row_of};
 use crate::maps::{random_map, view_of};
-use crate::plain::{Row, cut_point};
+use crate::plain::{PlainPair, middle_of_rows};
 use iter::{pairs, pairs_of};
 use splitter::{Cut, Piece, cut, whole};
 use std::panic::Expect;
@@ -10,7 +10,7 @@ use test_keys::{ChosenKey, Random, take_all};
 use trie_node::NoMemory;
 
 // The last pair of a walk and the number of its pairs, where the walk was made.
-fn end_of(walk: Result<Walk<'_>, NoMemory>) -> Option<(Option<Row>, u64)> {
+fn end_of(walk: Result<Walk<'_>, NoMemory>) -> Option<(Option<PlainPair>, u64)> {
     let mut walk = walk.ok()?;
     let mut last = None;
     let mut count = 0u64;
@@ -28,7 +28,13 @@ fn end_of(walk: Result<Walk<'_>, NoMemory>) -> Option<(Option<Row>, u64)> {
 fn meeting(
     piece: Piece<ChosenKey, i64>,
     grain: u64,
-) -> Option<(u128, Option<(Option<Row>, u64)>, Option<(Option<Row>, u64)>)> {
+) -> Option<
+    (
+        u128,
+        Option<(Option<PlainPair>, u64)>,
+        Option<(Option<PlainPair>, u64)>,
+    ),
+> {
     match cut(piece, grain) {
         Ok(Cut::Two(lower, upper)) => {
             Some((lower.hi(), end_of(lower.pairs()), end_of(upper.pairs())))
@@ -42,7 +48,7 @@ fn walks_and_cuts_make_no_request(rt: HostRuntime) {
     let alloc = rt.alloc();
     let (map, rows) = random_map(&rt, alloc, &mut Random(14));
     let (view, kept) = (view_of(&rt, &map), view_of(&rt, &map));
-    let point = cut_point(&rt, alloc, &rows, 1);
+    let point = middle_of_rows(&rt, alloc, &rows, 1);
     let taken = take_all(alloc).expect(&rt, "no list");
     let (of_view, of_map) = (end_of(pairs(alloc, &view)), end_of(pairs_of(alloc, &map)));
     let met = meeting(whole(alloc, kept), 1);

@@ -7,7 +7,7 @@ ghost use Rattle.trie_shape.specs.View.{tree};
 
 use super::row_of;
 use crate::maps::{Map, empty, map_of, put, random_map, view_of};
-use crate::plain::{Row, rows_between};
+use crate::plain::{PlainPair, rows_between};
 use hash_path::WORD_DIGITS;
 use splitter::{Cut, Piece, cut, whole};
 use std::alloc::{AllocError, Global};
@@ -266,8 +266,8 @@ fn a_lone_branch_stays_below_its_digits(rt: HostRuntime) {
     assert_nodes(&rt, alloc, &upper, &[((0, Some(1 << 1), 2), NEW), bucket]);
 }
 
-// How often want of memory refuses the piece its root, where each time there are 32 bytes more; none where it never
-// gets one.
+// How often the piece is refused its root because memory runs out, where each time there are 32 bytes more; none where
+// it never gets one.
 fn refusals(rt: &impl Abort, alloc: Global, piece: &Part) -> Option<u32> {
     let mut shortage = Shortage::new(alloc).expect(rt, "no list");
     for refused in 0..400 {
@@ -280,7 +280,7 @@ fn refusals(rt: &impl Abort, alloc: Global, piece: &Part) -> Option<u32> {
 }
 
 // It has the rows of the map from its first position on and before its end.
-fn assert_has(rt: &impl Abort, alloc: Global, piece: &Part, rows: &[Row]) {
+fn assert_has(rt: &impl Abort, alloc: Global, piece: &Part, rows: &[PlainPair]) {
     let own = rows_between(rt, alloc, rows, piece.lo(), piece.hi());
     let mut walk = piece.bunched_pairs();
     assert_eq!(rt; piece.len(), own.len() as u64);

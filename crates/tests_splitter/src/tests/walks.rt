@@ -2,7 +2,7 @@
 
 use super::{MAPS, Walk, assert_gives};
 use crate::maps::{random_map, view_of};
-use crate::plain::{Row, nodes_between};
+use crate::plain::{PlainPair, nodes_between};
 use iter::{pairs, pairs_of};
 use std::alloc::{AllocError, Global};
 use std::panic::Expect;
@@ -24,7 +24,7 @@ fn walks_list_random_maps(rt: HostRuntime) {
 }
 
 // The positions of rows, each once, with the number of its rows.
-fn positions_of(alloc: Global, rows: &[Row]) -> Result<Vec<(u128, u32)>, AllocError> {
+fn positions_of(alloc: Global, rows: &[PlainPair]) -> Result<Vec<(u128, u32)>, AllocError> {
     let mut positions = Vec::new(alloc);
     let mut count = 0u32;
     for (n, row) in rows.iter().enumerate() {

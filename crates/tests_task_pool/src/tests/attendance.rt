@@ -19,7 +19,7 @@ const WORKERS: u32 = 16;
 // How often a thread lets others run before it gives up.
 const TURNS: u32 = 10_000_000;
 
-// No worker ends for want of patience.
+// No worker gives up.
 const CREW: Crew = Crew {
     workers: WORKERS,
     grain: 1,

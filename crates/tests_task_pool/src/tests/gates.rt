@@ -10,7 +10,7 @@ use std::test::*;
 use std::thread;
 use std::thread::Threads;
 use task_pool::{Crew, Gate};
-use test_keys::ChosenKey;
+use test_keys::{ChosenKey, wait_for};
 
 // How often a thread lets others run before it gives up.
 const TURNS: u32 = 10_000_000;
@@ -43,17 +43,6 @@ fn no_signs() -> Signs {
     }
 }
 
-// Waits until the sign is set, and answers whether it was.
-fn wait_for(sign: &AtomicU32) -> bool {
-    for _ in 0..TURNS {
-        if sign.load(Ordering::SeqCst) != 0 {
-            return true;
-        }
-        thread::yield_now();
-    }
-    false
-}
-
 // The first piece that is begun is held until the other worker has begun one and the put has been answered.
 impl Gate for Signs {
     fn before(&self, worker: u32, _lo: Bound, _hi: Bound) {
@@ -62,7 +51,7 @@ impl Gate for Signs {
         }
         if self.begun.fetch_add(1, Ordering::SeqCst) > 0 {
             self.others.store(1, Ordering::SeqCst);
-        } else if !wait_for(&self.others) || !wait_for(&self.answered) {
+        } else if !wait_for(&self.others, TURNS) || !wait_for(&self.answered, TURNS) {
             self.ran_out.store(1, Ordering::SeqCst);
         }
     }
@@ -86,7 +75,7 @@ fn count<R: AllocGlobal + Threads + Wait + Abort + Sync>(
 
 // Puts a pair into the map once a piece was begun.
 fn put_meanwhile<R: Wait + Abort>(rt: &R, alloc: Global, map: &Mutex<Map>, signs: &Signs) {
-    if wait_for(&signs.begun) {
+    if wait_for(&signs.begun, TURNS) {
         put(rt, alloc, &mut map.lock(rt), ChosenKey { path: 64, id: 64 });
         signs.answered.store(1, Ordering::SeqCst);
     }

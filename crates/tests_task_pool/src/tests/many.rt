@@ -1,4 +1,4 @@
-//! Many runs of many workers that have no patience, on few pairs.
+//! Many runs of many workers with `patience` 0, on few pairs.
 ghost use Rattle.std.specs.Prelude.{◌≡◌};
 
 use super::{Asked, Seen, all, assert_is, equal, listed, seen};
@@ -22,11 +22,15 @@ fn hasty() -> Crew
     }
 }
 
-// What is told of an answer: a truth, or the number of the key and the value of a pair that was found.
-type Told = (Option<bool>, Option<(u32, u64)>);
+// What an answer says: a truth, or the number of the key and the value of a pair that was found.
+type Answers = (Option<bool>, Option<(u32, u64)>);
 
-// What such a crew is told of the view, where it is told something.
-fn told<R: AllocGlobal + Threads + Wait + Abort + Sync>(rt: &R, view: &Seen, query: &Asked) -> Told
+// What such a crew answers about the view, where it says something.
+fn told<R: AllocGlobal + Threads + Wait + Abort + Sync>(
+    rt: &R,
+    view: &Seen,
+    query: &Asked,
+) -> Answers
     requires { ⟦<Asked as combiner::Bulk<test_keys::ChosenKey, u64>>⟧.ready query.now }
 {
     let view = view.try_clone().expect(rt, "no view");

@@ -1,4 +1,4 @@
-//! Counts where memory is wanting: at each request of a caller that runs all workers, since no thread can be started
+//! Counts where memory runs out: at each request of a caller that runs all workers, since no thread can be started
 //! then, and from some piece on, while threads work.
 use super::{Counted, Seen, assert_is, counted, seen};
 use hash_path::Bound;
@@ -30,7 +30,7 @@ const TRIES: u32 = 7_680;
 // How far the pieces are apart before which memory ends, since taking all of it costs a quarter of a second.
 const APART: u32 = 9;
 
-// Counts with no memory, with a little, and so on, until memory is not wanting: how often it was, and what was counted.
+// Counts with no memory, with a little, and so on, until there is enough: how often it ran out, and what was counted.
 fn refused_and_counted<R: Threads + Wait + Abort + Sync>(
     rt: &R,
     alloc: Global,
@@ -85,7 +85,7 @@ impl Gate for Taker {
     }
 }
 
-// Whether all pairs are counted where memory is wanting from the piece on, or nothing where it is another number.
+// Whether all pairs are counted where memory runs out from the piece on, or nothing where it is another number.
 fn is_counted_until<R: Threads + Wait + Sync>(
     rt: &R,
     alloc: Global,
@@ -105,15 +105,15 @@ fn is_counted_until<R: Threads + Wait + Sync>(
     }
 }
 
-// It catches a worker whose want of memory is taken for a piece that it has worked. The thread that begins the first piece
-// has no room for its interval yet, so some of the counts are refused.
+// It catches a worker that takes a piece for worked though memory ran out for it. The thread that begins the first
+// piece has no room for its interval yet, so some of the counts are refused.
 #[test]
 fn memory_is_wanting_from_some_piece_on(rt: HostRuntime) {
     let alloc = rt.alloc();
     let view = seen(&rt, alloc, PAIRS, false);
     let mut refused = 0u32;
-    for turn in 0..PAIRS / APART + 1 {
-        let at = turn.wrapping_mul(APART);
+    for round in 0..PAIRS / APART + 1 {
+        let at = round.wrapping_mul(APART);
         let told = is_counted_until(&rt, alloc, &view, at);
         assert!(rt; told.is_some(), "from piece {at} on");
         if told == Some(false) {

@@ -22,7 +22,7 @@ const WORKERS: u32 = 16;
 
 const RUNS: u32 = 20;
 
-// So many workers, none of which ends for want of patience.
+// A crew of `workers` workers, none of which gives up.
 fn crew(workers: u32, grain: u64) -> Crew
     ensures { result ≡ record { workers = workers; grain = grain; patience = 4294967295 } }
 {
@@ -84,7 +84,7 @@ fn counting<'a>(steps: &'a Steps) -> StoredTest<ChosenKey, u64, Counted<'a>> {
 
 type Tested<'a> = Query<ChosenKey, u64, Counted<'a>, Zero, Sum, Values, NoImages>;
 
-// What one worker does that counts pairs, where pieces have up to so many of them.
+// What one worker does that counts pairs, where pieces have at most `grain` of them.
 fn steps_of<R: AllocGlobal + Threads + Wait + Abort + Sync>(rt: &R, grain: u64) -> [u32; 3]
     requires least_grain { 1 ≤ grain }
     requires most_grain { grain ≤ 65536 }

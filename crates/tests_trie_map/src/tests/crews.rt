@@ -33,7 +33,8 @@ fn equal_to(value: u64) -> StoredTest<ChosenKey, u64, Is> {
     Stored::new(Is(value))
 }
 
-// So many workers, each of which has its pieces cut down to single pairs. None ends before the last piece is worked.
+// A crew of `workers` workers, each of which has its pieces cut down to single pairs. None ends before the last piece
+// is worked.
 fn crew_of(workers: u32) -> Crew {
     Crew {
         workers,

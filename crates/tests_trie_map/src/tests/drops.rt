@@ -1,11 +1,11 @@
-//! When the pairs that a map lets go are dropped.
+//! When the pairs that a map releases are dropped.
 use super::{assert_is, key};
 use std::alloc::Global;
 use std::sync::atomic::{AtomicU32, Ordering};
 use std::sync::{Arc, Wait};
 use std::thread;
 use std::thread::Threads;
-use test_keys::ChosenKey;
+use test_keys::{ChosenKey, wait_for};
 use trie_map::{PutError, TrieMap};
 
 // How often a thread lets others run before it gives up.
@@ -23,17 +23,6 @@ struct Signs {
     held: AtomicU32,
 }
 
-// Waits for another thread to set the sign, and answers whether it did.
-fn wait_for(sign: &AtomicU32) -> bool {
-    for _ in 0..PATIENCE {
-        if sign.load(Ordering::SeqCst) != 0 {
-            return true;
-        }
-        thread::yield_now();
-    }
-    false
-}
-
 // A value whose drop waits until another thread has locked all stripes.
 struct Waiting {
     signs: Arc<Signs, Global>,
@@ -43,7 +32,7 @@ impl Drop for Waiting {
     fn drop(self) {
         let Waiting { signs } = self;
         signs.dropping.store(1, Ordering::SeqCst);
-        let count = if wait_for(&signs.locked) {
+        let count = if wait_for(&signs.locked, PATIENCE) {
             &signs.free
         } else {
             &signs.held
@@ -68,7 +57,7 @@ fn put_and_clear<R: Wait>(
 
 // Locks all stripes once a value is being dropped.
 fn lock_all<R: Wait>(rt: &R, map: &Values, signs: &Signs) {
-    if wait_for(&signs.dropping) {
+    if wait_for(&signs.dropping, PATIENCE) {
         map.len(rt);
         signs.locked.store(1, Ordering::SeqCst);
     }

@@ -8,7 +8,7 @@ use trie_map::Reader;
 // What one thread reads such a map by.
 type OwnReader<'r> = Reader<'r, ChosenKey, u64>;
 
-// After so many misses a reader of a map of fewer than 32 pairs makes its first base.
+// After this many misses a reader of a map of fewer than 32 pairs makes its first base.
 const MISSES: u32 = 64;
 
 // How many pairs the map has, each in a stripe of its own.

@@ -54,7 +54,7 @@ fn reads_make_no_request_and_writes_are_refused(rt: HostRuntime) {
     assert_is(&rt, map.len(&rt), 2);
 }
 
-// So many blocks of a size. Each that is dropped once all memory is taken is room for one request.
+// `count` blocks of a size. Each that is dropped once all memory is taken is room for one request.
 fn blocks(alloc: Global, count: usize, size: usize) -> Result<Vec<Vec<u8>>, AllocError> {
     let mut blocks = Vec::with_capacity(alloc, count)?;
     for _ in 0..count {
@@ -63,7 +63,7 @@ fn blocks(alloc: Global, count: usize, size: usize) -> Result<Vec<Vec<u8>>, Allo
     Ok(blocks)
 }
 
-// What a put of a third key answers where there is room for so many requests of each size alone.
+// What a put of a third key answers where there is room for `small` small requests and `large` large ones alone.
 fn put_in_room<R: Wait + Abort>(
     rt: &R,
     alloc: Global,
@@ -81,8 +81,8 @@ fn put_in_room<R: Wait + Abort>(
     Ok(plain(answer?))
 }
 
-// What a put of a third key is answered where there is room for so many requests of each size alone, and the values of
-// the first and the third key then. The three stand side by side, below the first digit that they share.
+// What a put of a third key answers where there is room for `small` small requests and `large` large ones alone, and
+// the values of the first and the third key then. The three stand side by side, below the first digit that they share.
 fn put_beside<R: AllocGlobal + Wait + Abort>(
     rt: &R,
     small: usize,

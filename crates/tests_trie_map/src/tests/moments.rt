@@ -63,7 +63,7 @@ fn put_and_clear<R: Wait>(
 }
 
 // One turn of the writer, there and back.
-fn turn<R: Wait>(
+fn write_and_undo<R: Wait>(
     rt: &R,
     map: &Map,
     writes: Writes,
@@ -96,7 +96,7 @@ fn write<R: Wait>(
     second: ChosenKey,
 ) -> Result<(), PutError> {
     for _ in 0..TURNS {
-        turn(rt, map, writes, first, second)?;
+        write_and_undo(rt, map, writes, first, second)?;
     }
     Ok(())
 }

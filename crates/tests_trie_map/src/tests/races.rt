@@ -29,7 +29,7 @@ enum Calls {
 }
 
 // What the answers of one thread add up to.
-type Told = Result<u64, PutError>;
+type PutResult = Result<u64, PutError>;
 
 fn the_key() -> ChosenKey {
     key(5, 0)
@@ -41,19 +41,19 @@ fn one_if(done: bool) -> u64 {
 }
 
 // The pairs that this thread added, less those that it removed.
-fn put_and_remove<R: Wait>(rt: &R, map: &Map) -> Told {
+fn put_and_remove<R: Wait>(rt: &R, map: &Map) -> PutResult {
     let added = one_if(map.put_if_absent(rt, the_key(), 1)?.is_none());
     let removed = one_if(map.remove_if(rt, &the_key(), &1)?);
     Ok(added.wrapping_sub(removed))
 }
 
-fn put_and_remove_where<R: Wait>(rt: &R, map: &Map) -> Told {
+fn put_and_remove_where<R: Wait>(rt: &R, map: &Map) -> PutResult {
     let added = one_if(map.put_if_absent(rt, the_key(), 1)?.is_none());
     let removed = map.remove_where(rt, &the_key(), |value| *value == 1)?;
     Ok(added.wrapping_sub(one_if(removed.is_some())))
 }
 
-fn put_replace_and_remove<R: Wait>(rt: &R, map: &Map) -> Told {
+fn put_replace_and_remove<R: Wait>(rt: &R, map: &Map) -> PutResult {
     let added = one_if(map.put(rt, the_key(), 1)?.is_none());
     map.replace(rt, the_key(), 2)?;
     let removed = one_if(map.remove(rt, &the_key())?.is_some());
@@ -61,14 +61,14 @@ fn put_replace_and_remove<R: Wait>(rt: &R, map: &Map) -> Told {
 }
 
 // 1 where this thread made the value one more.
-fn replace<R: Wait>(rt: &R, map: &Map) -> Told {
+fn replace<R: Wait>(rt: &R, map: &Map) -> PutResult {
     let value = map.get_copied(rt, &the_key()).unwrap_or(0);
     let done = map.replace_if(rt, the_key(), &value, value.wrapping_add(1))?;
     Ok(one_if(done))
 }
 
 // The number that this thread drew.
-fn draw<R: Wait>(rt: &R, map: &Map) -> Told {
+fn draw<R: Wait>(rt: &R, map: &Map) -> PutResult {
     map.update_with(rt, the_key(), |old| {
         let next = old.map_or(1, |n| n.wrapping_add(1));
         (Some(next), next)
@@ -76,7 +76,7 @@ fn draw<R: Wait>(rt: &R, map: &Map) -> Told {
 }
 
 // 1 where this thread was a fourth inside.
-fn enter<R: Wait>(rt: &R, map: &Map) -> Told {
+fn enter<R: Wait>(rt: &R, map: &Map) -> PutResult {
     let entered = map.try_update(rt, the_key(), |old| match old {
         Some(inside) if *inside >= 3 => Err(()),
         Some(inside) => Ok(Some(inside.wrapping_add(1))),
@@ -92,7 +92,7 @@ fn enter<R: Wait>(rt: &R, map: &Map) -> Told {
     Ok(one_if(before == 0 || before > 3))
 }
 
-fn call<R: Wait>(rt: &R, map: &Map, calls: Calls) -> Told {
+fn call<R: Wait>(rt: &R, map: &Map, calls: Calls) -> PutResult {
     match calls {
         Calls::PutAndRemove => put_and_remove(rt, map),
         Calls::PutAndRemoveWhere => put_and_remove_where(rt, map),
@@ -104,7 +104,7 @@ fn call<R: Wait>(rt: &R, map: &Map, calls: Calls) -> Told {
 }
 
 // The answers of all calls of one thread.
-fn all_calls<R: Wait>(rt: &R, map: &Map, calls: Calls) -> Told {
+fn all_calls<R: Wait>(rt: &R, map: &Map, calls: Calls) -> PutResult {
     let mut sum = 0u64;
     for _ in 0..TIMES {
         sum = sum.wrapping_add(call(rt, map, calls)?);

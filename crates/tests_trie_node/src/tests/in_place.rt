@@ -76,7 +76,7 @@ fn a_refused_put_leaves_a_bucket_as_it_stands(rt: HostRuntime) {
     assert_holds(&rt, alloc, &trie, &[(w, 1), (x, 2), (y, 4), (z, 3)]);
 }
 
-// Puts Q with so many requests granted. Whether it is done.
+// Puts Q with `given` requests granted. Whether it is done.
 fn is_put_with(rt: &impl Abort, alloc: Global, trie: &mut Trie, given: usize) -> bool {
     let key = shared_key(rt, alloc, Q);
     let value = shared_value(rt, alloc, 3);
@@ -142,7 +142,7 @@ fn a_full_row_grows_or_stays_as_it_is(rt: HostRuntime) {
     );
 }
 
-// Removes Q with so many requests granted. Whether it is done.
+// Removes Q with `given` requests granted. Whether it is done.
 fn is_removed_with(rt: &impl Abort, alloc: Global, trie: &mut Trie, given: usize) -> bool {
     let mut spare = spare_blocks(rt, alloc);
     let _taken = take_all_but(rt, alloc, &mut spare, given);

@@ -21,7 +21,7 @@ pub(super) const WAY: usize = 7;
 // The bytes of a row of two places: the count of its handles, and its nodes.
 pub(super) const TWO: usize = 72;
 
-// A block of so many bytes.
+// A block of `size` bytes.
 pub(super) fn block(rt: &impl Abort, alloc: Global, size: usize) -> Vec<u8> {
     Vec::with_capacity(alloc, size).expect(rt, "no block")
 }
@@ -36,7 +36,7 @@ pub(super) fn spare_blocks(rt: &impl Abort, alloc: Global) -> Vec<Vec<u8>> {
     blocks
 }
 
-// All memory but for so many of the last blocks, which are dropped.
+// All memory but for the last `given` blocks, which are dropped.
 pub(super) fn take_all_but(
     rt: &impl Abort,
     alloc: Global,
@@ -63,7 +63,7 @@ pub(super) fn assert_same(rt: &impl Abort, alloc: Global, trie: &Trie, before: &
     super::assert_pairs(rt, &now.pairs, &before.pairs);
 }
 
-// Puts 3 at the key with so many requests granted.
+// Puts 3 at the key with `given` requests granted.
 fn put_with(
     rt: &impl Abort,
     alloc: Global,
@@ -78,7 +78,7 @@ fn put_with(
     trie.with_put(alloc, key, value, Stamp(2))
 }
 
-// Removes the key with so many requests granted.
+// Removes the key with `given` requests granted.
 fn removed_with(
     rt: &impl Abort,
     alloc: Global,
@@ -152,20 +152,13 @@ const STEPS: usize = 64;
 
 const STEP: usize = 64;
 
-// No memory but for so many bytes next to one another.
-fn shortage(rt: &impl Abort, alloc: Global, bytes: usize) -> Shortage {
-    let mut shortage = Shortage::new(alloc).expect(rt, "no list");
-    shortage.give(alloc, bytes).expect(rt, "not given");
-    shortage
-}
-
-// Whether the key is put with so many bytes left: in a root of its own, and where a root stands that another holds.
+// Whether the key is put with `bytes` bytes left: in a root of its own, and where a root stands that another holds.
 fn are_put(rt: &impl Abort, alloc: Global, trie: &Trie, bytes: usize) -> (bool, bool) {
     let mut place = super::copy(rt, trie);
     let (first, second) = (shared_key(rt, alloc, LAST), shared_key(rt, alloc, LAST));
     let value = shared_value(rt, alloc, 3);
     let same = Arc::try_clone(&value).expect(rt, "no handle");
-    let _shortage = shortage(rt, alloc, bytes);
+    let _shortage = Shortage::with_bytes(alloc, bytes).expect(rt, "no shortage");
     let made = trie.with_put(alloc, first, value, Stamp(2)).is_ok();
     let placed = place.put_in(alloc, second, same, Stamp(2)).is_ok();
     (made, placed)
@@ -174,7 +167,7 @@ fn are_put(rt: &impl Abort, alloc: Global, trie: &Trie, bytes: usize) -> (bool, 
 // The same of a removal.
 fn are_removed(rt: &impl Abort, alloc: Global, trie: &Trie, bytes: usize) -> (bool, bool) {
     let mut place = super::copy(rt, trie);
-    let _shortage = shortage(rt, alloc, bytes);
+    let _shortage = Shortage::with_bytes(alloc, bytes).expect(rt, "no shortage");
     let made = trie.with_removed(alloc, &LAST, Stamp(2)).is_ok();
     let placed = place.remove_in(alloc, &LAST, Stamp(2)).is_ok();
     (made, placed)

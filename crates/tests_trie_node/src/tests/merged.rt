@@ -163,7 +163,7 @@ fn random_merges_agree_with_ordered_maps(rt: HostRuntime) {
     }
 }
 
-// The bytes of so many children.
+// The bytes of `children` children.
 fn bytes_of(children: usize) -> usize
     requires { children < 64 }
 {
@@ -183,7 +183,7 @@ fn requested(rt: &impl Abort, alloc: Global) -> Vec<Vec<u8>> {
     blocks
 }
 
-// Whether the roots are merged with so many requests granted.
+// Whether the roots are merged with `given` requests granted.
 fn is_merged_with(
     rt: &impl Abort,
     alloc: Global,

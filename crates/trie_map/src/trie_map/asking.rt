@@ -6,7 +6,7 @@ ghost use Rattle.bulk_ops.specs.Meanings.{MayAnswer, Means};
 ghost use Rattle.bulk_ops.specs.Parts.{pair_of};
 ghost use Rattle.combiner.specs.Monoids.{folded};
 ghost use Rattle.stripes.specs.Rules.{AllKeep};
-ghost use Rattle.trie_map.specs.Questions.{IsAnsweredOfKept, IsFound, changed};
+ghost use Rattle.map_view.specs.Questions.{IsAnsweredOfKept, IsFound, changed};
 ghost use Rattle.versions.specs.Map.{Map};
 ghost use Rattle.versions.specs.declared.version.TheConstants.{MOST_PAIRS};
 
@@ -121,7 +121,7 @@ impl<K: PathKey + Drop + Send + Sync, V: Drop + Send + Sync, P: Keeps<K, V>> Tri
     /// What `query` answers, of the map as it stands at one moment of the call, worked by a crew of threads over a view.
     ///
     /// The stripes are held for the view alone, as by `view`: while the crew works no lock is held, and writers go on.
-    /// What runs where, and what is refused, is as for [`View::par_query`](crate::View::par_query): a map with no more
+    /// What runs where, and what is refused, is as for [`View::par_query`](map_view::View::par_query): a map with no more
     /// pairs than the crew's grain is worked by the caller alone.
     pub fn par_query<R, Q>(
         &self,

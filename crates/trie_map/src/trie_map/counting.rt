@@ -22,7 +22,8 @@ impl<K: PathKey + Drop, V: Drop, P: Keeps<K, V>> TrieMap<K, V, P> {
     }
 
     /// How many pairs there are, counted stripe by stripe: one lock is held at a time, so writers of other stripes go
-    /// on. Where others write meanwhile, there may have been no moment at which there were so many. It takes no memory.
+    /// on. Where others write meanwhile, there may have been no moment at which there were that many. It takes no
+    /// memory.
     pub fn approx_len<R: Wait>(&self, rt: &R) -> u64
         ensures { result ≤ MOST_PAIRS }
     {

@@ -99,8 +99,8 @@ impl<K: PathKey + Drop, V: Drop, P: Keeps<K, V>> TrieMap<K, V, P> {
     /// Removes the key where it has a value of which the test holds, as one step, and answers the value that was
     /// removed, or none.
     ///
-    /// The test runs at most once, while the stripe of the key is locked, as `change` does in `update`. It is refused
-    /// for want of memory alone; the test has then run, and the map is as before.
+    /// The test runs at most once, while the stripe of the key is locked, as `change` does in `update`. The only error
+    /// is `NoMemory`, if memory runs out; the test has then run, and the map is as before.
     pub fn remove_where<R: Wait, Q: Sought<K>, F: FnOnce(&V) -> bool>(
         &self,
         rt: &R,

@@ -2,13 +2,13 @@
 ghost use Rattle.std.specs.Prelude.{◌≡◌, ◌≤◌, All, Bool, IfOk, IfSome, IsTrue, OnErr, Some, false, if◌then◌else◌, is_some, length, true};
 ghost use Rattle.bulk_ops.specs.Meanings.{MayAnswer, Means};
 ghost use Rattle.stripes.specs.Rules.{AllKeep, first_digit as digit_of};
-ghost use Rattle.trie_map.specs.Questions.{failing};
+ghost use Rattle.map_view.specs.Questions.{failing};
 ghost use Rattle.versions.specs.Map.{Map, value_at, without};
 
 use super::TrieMap;
-use crate::view::View;
 use closure_ops::answer_at;
 use hash_path::{Path, PathKey};
+use map_view::View;
 use std::alloc::Global;
 use std::sync::{Arc, Wait};
 use stripes::{Keeps, Stripe};
@@ -23,8 +23,8 @@ impl<K: PathKey + Drop, V: Drop, P: Keeps<K, V>> TrieMap<K, V, P> {
     /// though it fails.
     ///
     /// The test runs on the walk with no lock held, and once more before a removal, while the stripe of the key is
-    /// locked: there it must not call the map. Where the call is refused, for want of memory, what it has removed by
-    /// then is gone.
+    /// locked: there it must not call the map. If memory runs out, the call fails, and what it has removed by then is
+    /// gone.
     pub fn retain<R: Wait, F: Fn(&K, &V) -> bool>(&self, rt: &R, test: F) -> Result<u64, NoMemory>
         requires callable { F.IsAlwaysCallable test }
         ensures few { IfOk result (λ removed. (m : Map K V) × AllKeep K.cmp P.holds m × ((p : K → V → Bool) → Means (MayAnswer F.Fn test) p → removed ≤ length (failing p m)) × (removed ≤ length m)) }
@@ -91,8 +91,8 @@ impl<K: PathKey + Drop, V: Drop, P: Keeps<K, V>> TrieMap<K, V, P> {
     }
 }
 
-// Removes the key from its stripe where its value fails the test, and answers the value that was removed, or none. It
-// is refused for want of memory alone, and the stripe is then as before.
+// Removes the key from its stripe where its value fails the test, and answers the value that was removed, or none. The
+// only error is `NoMemory`, if memory runs out. The stripe is then as before.
 fn remove_failing<K: PathKey + Drop, V: Drop, P: Keeps<K, V>, F: Fn(&K, &V) -> bool>(
     alloc: Global,
     stripe: &mut Stripe<K, V, P>,

@@ -8,13 +8,12 @@ ghost use Rattle.versions.specs.Map.{value_at, with_pair, without};
 ghost use Rattle.versions.specs.Puts.{FullExactly};
 
 use super::Version;
-use crate::change::Change;
 use crate::refusal::Refusal;
 use crate::room::WithinRoom;
 use hash_path::{Path, PathKey, Sought};
 use std::alloc::Global;
 use std::sync::Arc;
-use trie_node::{Always, Condition, NoMemory, root_is_map, writes_keep_stamps_below};
+use trie_node::{Always, Change, Condition, NoMemory, root_is_map, writes_keep_stamps_below};
 
 impl<K: PathKey + Drop, V: Drop> Version<K, V> {
     /// `get`, where the caller has the key's path word already: the key is not hashed again.
@@ -36,11 +35,11 @@ impl<K: PathKey + Drop, V: Drop> Version<K, V> {
     ) -> Result<Change<V>, Refusal>
         requires { path.0 ≡ K.path_of key.value }
         ensures before { IfOk result (λ change. option_map arc_value change.previous ≡ value_at K.cmp self.old.entries key.value) }
-        ensures done { IfOk result (λ change. change.done ≡ C.holds condition.now (value_at K.cmp self.old.entries key.value)) }
-        ensures entries { IfOk result (λ change. self.new.entries ≡ (if change.done then with_pair K.cmp self.old.entries key.value value.value else self.old.entries)) }
+        ensures written { IfOk result (λ change. change.written ≡ C.holds condition.now (value_at K.cmp self.old.entries key.value)) }
+        ensures entries { IfOk result (λ change. self.new.entries ≡ (if change.written then with_pair K.cmp self.old.entries key.value value.value else self.old.entries)) }
         ensures limit { self.new.limit ≡ self.old.limit }
         ensures stamp { self.new.stamp ≡ self.old.stamp }
-        ensures nodes { IfOk result (λ change. RestampsIf change.done self.old.stamp (word_of K.path_of key.value) self.old.nodes self.new.nodes) }
+        ensures nodes { IfOk result (λ change. RestampsIf change.written self.old.stamp (word_of K.path_of key.value) self.old.nodes self.new.nodes) }
         ensures full { FullExactly result (C.holds condition.now None && is_full_for K.cmp self.old.limit self.old.entries key.value) }
         ensures err { OnErr result (self.new ≡ self.old) }
     {
@@ -48,25 +47,19 @@ impl<K: PathKey + Drop, V: Drop> Version<K, V> {
         let full = self.len() == self.limit;
         let room = WithinRoom { condition, full };
         let mut root = self.root.take();
-        let done = trie_node::put_in_where_along(
+        let change = trie_node::put_in_where_along(
             alloc, &mut root, key, path, value, self.stamp, &room,
         );
         self.root.put_back(root);
-        let done = done?;
-        if done.written {
-            return Ok(Change {
-                previous: done.previous,
-                done: true,
-            });
+        let change = change?;
+        if change.written {
+            return Ok(change);
         }
-        let found = done.previous.as_ref();
+        let found = change.previous.as_ref();
         if full && found.is_none() && condition.holds(found) {
             return Err(Refusal::Full);
         }
-        Ok(Change {
-            previous: done.previous,
-            done: false,
-        })
+        Ok(change)
     }
 
     /// `remove`, where the caller has the key's path word already: the key is not hashed again.
@@ -97,30 +90,25 @@ impl<K: PathKey + Drop, V: Drop> Version<K, V> {
     ) -> Result<Change<V>, NoMemory>
         requires { path.0 ≡ K.path_of (Q.key_of key) }
         ensures before { IfOk result (λ change. option_map arc_value change.previous ≡ value_at K.cmp self.old.entries (Q.key_of key)) }
-        ensures done { IfOk result (λ change. change.done ≡ (is_some (value_at K.cmp self.old.entries (Q.key_of key)) && C.holds condition.now (value_at K.cmp self.old.entries (Q.key_of key)))) }
-        ensures entries { IfOk result (λ change. self.new.entries ≡ (if change.done then without K.cmp self.old.entries (Q.key_of key) else self.old.entries)) }
+        ensures written { IfOk result (λ change. change.written ≡ (is_some (value_at K.cmp self.old.entries (Q.key_of key)) && C.holds condition.now (value_at K.cmp self.old.entries (Q.key_of key)))) }
+        ensures entries { IfOk result (λ change. self.new.entries ≡ (if change.written then without K.cmp self.old.entries (Q.key_of key) else self.old.entries)) }
         ensures limit { self.new.limit ≡ self.old.limit }
         ensures stamp { self.new.stamp ≡ self.old.stamp }
-        ensures nodes { IfOk result (λ change. RestampsIf change.done self.old.stamp (word_of K.path_of (Q.key_of key)) self.old.nodes self.new.nodes) }
+        ensures nodes { IfOk result (λ change. RestampsIf change.written self.old.stamp (word_of K.path_of (Q.key_of key)) self.old.nodes self.new.nodes) }
         ensures err { OnErr result (self.new ≡ self.old) }
     {
         root_is_map::<K, V>();
         writes_keep_stamps_below();
         let mut root = self.root.take();
-        let done = trie_node::remove_in_where_along(
+        let change = trie_node::remove_in_where_along(
             alloc, &mut root, key, path, self.stamp, condition,
         );
         self.root.put_back(root);
-        let done = done?;
-        if done.written {
-            return Ok(Change {
-                previous: done.previous,
-                done: true,
-            });
+        let change = change?;
+        // Where a pair was removed the invariant has another proof than where none was.
+        if change.written {
+            return Ok(change);
         }
-        Ok(Change {
-            previous: done.previous,
-            done: false,
-        })
+        Ok(change)
     }
 }

@@ -1,5 +1,5 @@
 use Rattle.std.proofs.Common.{rules, ◌≡◌, IfOk, subst, sym}
-use Rattle.bulk_ops.specs.Told.{told_of}
+use Rattle.bulk_ops.specs.Summaries.{summary_of}
 use Rattle.handles.specs.Machine.{freeze}
 use Rattle.questions.specs.Program.{told_reply}
 use Rattle.batch_cli.specs.Filing.{FilesService}
@@ -11,7 +11,7 @@ returns-in-Ok g c =
     let query : c.in_ok-new.field-0.value ≡ c.args.query = search rules in
     let files = bulk_told _ _ c.args.handle c.in_ok-new.field-0.value c.args.seat.now c.bulk.new.seat c.in-Ok.answer c.in-Ok.ensures in
     subst (λ reply. FilesService c.args.seat.now (freeze c.args.handle c.args.query) reply c.bulk.new.seat) (sym c.told.ensures)
-    (subst (λ q. FilesService c.args.seat.now (freeze c.args.handle q) (told_reply (told_of c.in-Ok.answer)) c.bulk.new.seat) query files)
+    (subst (λ q. FilesService c.args.seat.now (freeze c.args.handle q) (told_reply (summary_of c.in-Ok.answer)) c.bulk.new.seat) query files)
 
 pub returns : goal.returns
 returns g c =

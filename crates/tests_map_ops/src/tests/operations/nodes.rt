@@ -17,8 +17,8 @@ fn forked(rt: &impl Abort, alloc: Global) -> (Texts, Texts) {
     (map, fork)
 }
 
-// The calls are made one after another, and answered so; after each the map has so many pairs, and so many nodes of its
-// own.
+// The calls are made one after another, and answered so; after each the map has the row's number of pairs, and its
+// number of nodes of its own.
 fn assert_writes(
     rt: &impl Abort,
     alloc: Global,

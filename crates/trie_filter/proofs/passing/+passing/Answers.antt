@@ -12,9 +12,6 @@ use Rattle.trie_filter.proofs.Underway.{IsUnderway, next_trie, rest_more, room, 
 use Rattle.trie_filter.proofs.passing.+passing.Goals as goal
 use Rattle.trie_filter.proofs.passing.+passing.Goals.{pass_children-in-Some+in_ok-row, pass_children-in_default}
 
-pub pass_children-fetch_pairs-requires : goal.pass_children-fetch_pairs-requires
-pass_children-fetch_pairs-requires g t c = record { fits = trie_fits g.K.Ord.cmp g.K.PathKey.path_of c.args.level (tree c.args.node.now) c.requires.trie }
-
 pub pass_children-loop-n-init : goal.pass_children-loop-n-init
 pass_children-loop-n-init g t c = record {
   underway = underway_start g.K.Ord.cmp g.K.PathKey.path_of (MayAnswer g.F.Fn c.args.test.now) c.args.level c.args.stamp.0 (tree c.args.node.now) c.args.bitmap c.requires.branch c.requires.trie;

@@ -2,9 +2,9 @@ use Rattle.std.proofs.Common.{Some, map, sym, ap, ◌∙◌, subst, true≢false
 use Rattle.std.proofs.lemmas.List.{length-map}
 use Rattle.trie_shape.specs.Tree.{bucket}
 use Rattle.trie_shape.specs.View.{pair_values}
-use Rattle.trie_node.specs.Writes.{Writes}
-use Rattle.trie_node.proofs.Standing.{map_insert}
-use Rattle.trie_node.proofs.Words.{puts_in_word}
+use Rattle.trie_copy.specs.Writes.{Writes}
+use Rattle.trie_copy.proofs.Cases.{map_insert}
+use Rattle.trie_copy.proofs.Words.{puts_in_word}
 use Rattle.trie_node.proofs.bucket_in_place.insert_pair.Goals as goal
 
 pub returns-clause-ok : goal.returns-clause-ok

@@ -2,7 +2,7 @@ use Rattle.std.proofs.Common.{Some, sym, ap, ◌∙◌, subst, true≢false, set
 use Rattle.std.specs.Arc.{arc_value}
 use Rattle.trie_shape.specs.Tree.{bucket}
 use Rattle.trie_shape.specs.View.{pair_values}
-use Rattle.trie_node.specs.Writes.{Writes}
+use Rattle.trie_copy.specs.Writes.{Writes}
 use Rattle.trie_node.proofs.Placing.{writes_there}
 use Rattle.trie_node.proofs.bucket_in_place.put_in_pair.Goals as goal
 

@@ -5,9 +5,9 @@ use Rattle.std.proofs.lemmas.Bool.{or_right}
 use Rattle.std.proofs.lemmas.List.{length-map, get_or-map, map-set}
 use Rattle.trie_shape.specs.Tree.{bucket}
 use Rattle.trie_node.specs.PutInPlace.{PutsIn}
-use Rattle.trie_node.specs.Removals.{IsAt}
+use Rattle.trie_copy.specs.Removals.{IsAt}
 use Rattle.trie_shape.specs.View.{pair_values}
-use Rattle.trie_node.proofs.Standing.{at_err}
+use Rattle.trie_copy.proofs.Cases.{at_err}
 use Rattle.trie_shape.proofs.Views.{on_ok}
 use Rattle.trie_node.proofs.bucket_in_place.put_in_pairs.Goals as goal
 

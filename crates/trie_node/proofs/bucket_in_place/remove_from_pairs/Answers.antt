@@ -2,12 +2,12 @@ use Rattle.std.proofs.Common.{◌<◌, ◌+◌, ◌&&◌, map, length, Some, Non
 use Rattle.std.proofs.lemmas.List.{length-map, get_or-map}
 use Rattle.std.proofs.lemmas.List.Edits.{length-remove}
 use Rattle.trie_shape.specs.Tree.{bucket, entries}
-use Rattle.trie_node.specs.Removals.{IsAt}
+use Rattle.trie_copy.specs.Removals.{IsAt}
 use Rattle.trie_shape.specs.View.{pair_values}
-use Rattle.trie_node.specs.Writes.{Writes}
-use Rattle.trie_node.proofs.Standing.{at_err}
+use Rattle.trie_copy.specs.Writes.{Writes}
+use Rattle.trie_copy.proofs.Cases.{at_err}
 use Rattle.trie_shape.proofs.Shortened.{map_remove}
-use Rattle.trie_node.proofs.Taken.{removes_pair}
+use Rattle.trie_copy.proofs.Taken.{removes_pair}
 use Rattle.trie_node.proofs.bucket_in_place.remove_from_pairs.Goals as goal
 
 pub returns-in_err-value-clause-due : goal.returns-in_err-value-clause-due

@@ -9,13 +9,14 @@ use Rattle.trie_shape.proofs.Divides.{trie_fits}
 use Rattle.trie_shape.proofs.Views.{on_ok, tree-Two, tree-Four, tree-Eight, tree-Sixteen, tree-All}
 use Rattle.trie_shape.proofs.Ways.{turn, gap_within, absent, children_long}
 use Rattle.trie_node.specs.PutInPlace.{is_refusable}
-use Rattle.trie_node.specs.Writes.{KeysAgree}
+use Rattle.trie_copy.specs.Writes.{KeysAgree}
 use Rattle.trie_node.proofs.InRows.{row_has, place_used, place_in_row, way_in_row, held_there, set_in_row, same_in_row}
 use Rattle.trie_node.proofs.Placing.{puts_leaf}
-use Rattle.trie_node.proofs.PutsBelow.{agree_below, child_put}
+use Rattle.trie_copy.proofs.PutsBelow.{agree_below, child_put}
 use Rattle.trie_node.proofs.PuttingInPlace.{leaf_inside, inside_equal, refusable_absent}
-use Rattle.trie_node.proofs.Standing.{at_err, puts_equal, when_not, when_not_not}
-use Rattle.trie_node.proofs.Taken.{equal_of_index}
+use Rattle.trie_copy.proofs.Cases.{at_err, when_not, when_not_not}
+use Rattle.trie_node.proofs.Standing.{puts_equal}
+use Rattle.trie_copy.proofs.Taken.{equal_of_index}
 use Rattle.trie_node.proofs.put_in_place.+put_in.Goals as goal
 
 pub put_in_branch-put_leaf-requires-clause-at : goal.put_in_branch-put_leaf-requires-clause-at

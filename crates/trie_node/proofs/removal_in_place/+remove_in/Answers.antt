@@ -11,9 +11,10 @@ use Rattle.trie_shape.proofs.Ways.{turn}
 use Rattle.trie_node.specs.RemovalInPlace.{TakesOut, TakesInside}
 use Rattle.trie_node.specs.declared.removal_in_place.TakenInside.TheVariants.{Done}
 use Rattle.trie_node.proofs.InRows.{row_has, place_used, place_in_row, way_in_row, held_there, set_in_row, same_in_row}
-use Rattle.trie_node.proofs.Removing.{absent_below, nothing_below}
+use Rattle.trie_copy.proofs.Removing.{absent_below, nothing_below}
 use Rattle.trie_node.proofs.RemovingInPlace.{size_where_gone, size_where_left, gone_in_place, left_in_place}
-use Rattle.trie_node.proofs.Standing.{at_err, takes_equal}
+use Rattle.trie_copy.proofs.Cases.{at_err}
+use Rattle.trie_node.proofs.Standing.{takes_equal}
 use Rattle.trie_node.proofs.removal_in_place.+remove_in.Goals as goal
 
 pub remove_in_branch-returns-then-not-has_digit-clause-ok : goal.remove_in_branch-returns-then-not-has_digit-clause-ok

@@ -4,7 +4,7 @@ use Rattle.std.specs.Ordering.{nat_cmp}
 use Rattle.versions.specs.Map.{value_at, without}
 use Rattle.versions.specs.declared.refusal.Refusal.{Refusal}
 use Rattle.bulk_ops.specs.Answers as plain
-use Rattle.bulk_ops.specs.Told.{told_of}
+use Rattle.bulk_ops.specs.Summaries.{summary_of}
 use Rattle.bulk_ops.specs.declared.asks.Answer.{Answer}
 use Rattle.handles.specs.Jobs.{live_with_answer}
 use Rattle.handles.specs.Machine.{State, finish, is_entry, job_at}
@@ -81,7 +81,7 @@ returns-clause-step g c =
 
 pub returns-clause-told : goal.returns-clause-told
 returns-clause-told g c =
-    let Tells = λ (r : Result (Answer g.row.K.Denot g.row.V.Denot g.row.Q-Item.Denot) Refusal). IfOk r (λ answer. told_of answer ≡ plain.told (g.Q.Asks.answer_of c.args.part)) in
+    let Tells = λ (r : Result (Answer g.row.K.Denot g.row.V.Denot g.row.Q-Item.Denot) Refusal). IfOk r (λ answer. summary_of answer ≡ plain.summary (g.Q.Asks.answer_of c.args.part)) in
     elim c.match-refusal_of.branch [
       | in-Some w ↦ subst Tells (sym (c.counted.ensures.same ∙ w.answer-is)) tt
       | in-None w ↦ subst Tells (sym (c.counted.ensures.same ∙ w.answer-is)) w.close_job-answer.ensures.told

@@ -1,7 +1,7 @@
 use Rattle.std.proofs.Common.{rules, ◌≡◌, ◌+◌, Some, ap, sym, subst, ◌∙◌, length}
 use Rattle.std.specs.Ordering.{nat_cmp}
 use Rattle.versions.specs.Map.{value_at}
-use Rattle.bulk_ops.specs.Told.{MakesFor}
+use Rattle.bulk_ops.specs.Summaries.{MakesFor}
 use Rattle.handles.specs.Machine.{Job}
 use Rattle.handles.specs.Jobs.{IsPlace, job_of, live_with_made, stamps_with_made}
 use Rattle.handles.proofs.JobMaps.{can_finish}
@@ -14,15 +14,15 @@ conclude-answer-requires g c =
     let named : value_at nat_cmp c.args.jobs.now.jobs c.args.job ≡ Some j = search rules in
     ∣ (j.frozen, subst (λ q. g.Q.Bulk.answers q j.frozen c.args.part) (sym c.deref-2.ensures) (c.requires.answers j named)) ∣₁
 
-pub settle-requires-clause-place : goal.settle-requires-clause-place
-settle-requires-clause-place g c =
+pub open_target-requires-clause-place : goal.open_target-requires-clause-place
+open_target-requires-clause-place g c =
     let j = (job_of c.in-Some.open.now).1 in
     let named : value_at nat_cmp c.args.jobs.now.jobs c.args.job ≡ Some j = search rules in
     let can = can_finish g.Q.Asks.target_of c.args.places.now.limit c.args.jobs.now.jobs c.args.job j c.requires.can named in
     subst IsPlace (ap g.Q.Asks.target_of (sym c.deref.ensures) ∙ sym c.target-target.ensures) can.place
 
-pub settle-requires-clause-fits : goal.settle-requires-clause-fits
-settle-requires-clause-fits g c =
+pub open_target-requires-clause-fits : goal.open_target-requires-clause-fits
+open_target-requires-clause-fits g c =
     let j = (job_of c.in-Some.open.now).1 in
     let named : value_at nat_cmp c.args.jobs.now.jobs c.args.job ≡ Some j = search rules in
     let can = can_finish g.Q.Asks.target_of c.args.places.now.limit c.args.jobs.now.jobs c.args.job j c.requires.can named in
@@ -43,8 +43,8 @@ returns-clause-done g c =
       named = named;
       is_answer = subst (λ q. g.Q.Asks.answered q j.frozen answer) c.deref-2.ensures (c.conclude-answer.ensures.answered j.frozen answers);
       is_told = c.conclude-answer.ensures.told;
-      live = c.settle.ensures.live ∙ (λ i. live_with_made c.args.places.now.live (target i) c.conclude-answer.result.1) ∙ live_made c.args.places.now.live (g.Q.Asks.target_of j.query) answer c.conclude-answer.result.1 makes;
-      fresh = c.settle.ensures.fresh ∙ (λ i. stamps_with_made c.args.places.now.stamps (c.args.places.now.issued + 1) (target i) c.conclude-answer.result.1) ∙ stamps_made c.args.places.now.stamps (c.args.places.now.issued + 1) (g.Q.Asks.target_of j.query) answer c.conclude-answer.result.1 makes;
+      live = c.open_target.ensures.live ∙ (λ i. live_with_made c.args.places.now.live (target i) c.conclude-answer.result.1) ∙ live_made c.args.places.now.live (g.Q.Asks.target_of j.query) answer c.conclude-answer.result.1 makes;
+      fresh = c.open_target.ensures.fresh ∙ (λ i. stamps_with_made c.args.places.now.stamps (c.args.places.now.issued + 1) (target i) c.conclude-answer.result.1) ∙ stamps_made c.args.places.now.stamps (c.args.places.now.issued + 1) (g.Q.Asks.target_of j.query) answer c.conclude-answer.result.1 makes;
       closed = c.close.ensures.jobs;
       kept = c.close.ensures.next;
     }

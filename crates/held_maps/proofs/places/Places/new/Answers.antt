@@ -1,5 +1,5 @@
 use Rattle.std.proofs.Common.{rules, ◌≡◌, ◌++◌, ◌∷◌, [], None, ◌∙◌, ap}
-use Rattle.held_maps.specs.Held.{entries_of, live_from, maps_in, stamp_of, stamps_in, version_in}
+use Rattle.held_maps.specs.HeldMaps.{entries_of, live_from, maps_in, stamp_of, stamps_in, version_in}
 use Rattle.held_maps.proofs.Live.{none_more}
 use Rattle.held_maps.proofs.Kept.{none_added}
 use Rattle.held_maps.proofs.places.Places.new.Goals as goal

@@ -1,5 +1,5 @@
 use Rattle.std.proofs.Common.{◌≡◌, ◌≤◌, ◌-◌, ℕ, length, [], None}
-use Rattle.held_maps.specs.Held.{live_from, maps_in, stamps_in, version_in}
+use Rattle.held_maps.specs.HeldMaps.{live_from, maps_in, stamps_in, version_in}
 use Rattle.held_maps.proofs.places.Places.new.Given as goal
 
 abbrev pub invariant-places : goal.invariant-places

@@ -19,12 +19,12 @@ invariant_of-self-2 g c =
     let yes : IsTrue c.was_opened_by.result = search rules in
     let opened : WasOpenedBy l.table c.args.job c.args.opener.now.value = opened_in _ l.table c.args.job c.args.opener.now.value (c.was_opened_by.ensures.opened yes) (search rules) in
     let step : Step kind l.table r made c.abandon.new.self = abandons kind l.table c.abandon.new.self c.args.job opened.job c.abandon.result opened.stands c.abandon.ensures.memory c.abandon.ensures.step in
-    let shows : Shows g.J.Room.table c.in_ok-token.mine = search rules in
+    let shows : Shows g.J.JournalName.table c.in_ok-token.mine = search rules in
     let entry : entry_at c.in_ok-token.mine ≡ record { seat = c.args.caller.seat; request = r; outcome = made } = search rules in
     let is : c.push_reserved.new.self.items ≡ l.journal.items ++ c.in_ok-token.mine ∷ [] = search rules in
-    let beside : AllOpen g.J.Room.table c.abandon.new.self c.close.new.freezes.items = subst (AllOpen g.J.Room.table c.abandon.new.self) (sym c.close.ensures.others)
-    (closed_still g.J.Room.table l.table c.abandon.new.self c.args.job l.freezes.items (λ q e. abandon_keeps kind l.table c.abandon.new.self c.args.job q step e) c.self.invariant.beside) in
-    kept_more kind g.J.Room.table l.table c.abandon.new.self l.journal.items c.push_reserved.new.self.items l.freezes.items c.close.new.freezes.items c.in_ok-token.mine c.args.caller.seat r made
+    let beside : AllOpen g.J.JournalName.table c.abandon.new.self c.close.new.freezes.items = subst (AllOpen g.J.JournalName.table c.abandon.new.self) (sym c.close.ensures.others)
+    (closed_still g.J.JournalName.table l.table c.abandon.new.self c.args.job l.freezes.items (λ q e. abandon_keeps kind l.table c.abandon.new.self c.args.job q step e) c.self.invariant.beside) in
+    kept_more kind g.J.JournalName.table l.table c.abandon.new.self l.journal.items c.push_reserved.new.self.items l.freezes.items c.close.new.freezes.items c.in_ok-token.mine c.args.caller.seat r made
     is c.self.invariant shows entry refl step beside
     (each_closed l.table c.abandon.new.self c.args.job l.freezes.items c.close.new.freezes.items (ap (λ x. x.jobs) step.1) c.close.ensures.others c.self.invariant.each)
 
@@ -36,10 +36,10 @@ returns-clause-filed g c =
     let yes : IsTrue c.was_opened_by.result = search rules in
     let opened : WasOpenedBy l.table c.args.job c.args.opener.now.value = opened_in _ l.table c.args.job c.args.opener.now.value (c.was_opened_by.ensures.opened yes) (search rules) in
     let step : Step kind l.table r made c.abandon.new.self = abandons kind l.table c.abandon.new.self c.args.job opened.job c.abandon.result opened.stands c.abandon.ensures.memory c.abandon.ensures.step in
-    let shows : Shows g.J.Room.table c.in_ok-token.token = search rules in
+    let shows : Shows g.J.JournalName.table c.in_ok-token.token = search rules in
     let entry : entry_at c.in_ok-token.token ≡ record { seat = c.args.caller.seat; request = r; outcome = made } = search rules in
     let is : c.push_reserved.new.self.items ≡ l.journal.items ++ c.in_ok-token.mine ∷ [] = search rules in
-    files_event kind g.J.Room.table l.table c.abandon.new.self l.journal.items c.push_reserved.new.self.items c.in_ok-token.token c.in_ok-token.mine c.args.caller.seat r made _ c.args.self.now (openers_of l.freezes.items) (openers_of c.close.new.freezes.items)
+    files_event kind g.J.JournalName.table l.table c.abandon.new.self l.journal.items c.push_reserved.new.self.items c.in_ok-token.token c.in_ok-token.mine c.args.caller.seat r made _ c.args.self.now (openers_of l.freezes.items) (openers_of c.close.new.freezes.items)
     c.self.view_is is c.in_ok-token.ensures.same shows entry (search rules) refl step
     (ap openers_of c.close.ensures.others ∙ openers_of-filter c.args.job l.freezes.items)
 

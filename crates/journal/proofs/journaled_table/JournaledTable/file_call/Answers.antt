@@ -24,13 +24,13 @@ invariant_of-self-2 g c =
     let l = c.self.inside in
     let r : Request g.row.K.Denot g.row.V.Denot g.row.Q.Denot = request_of c.args.call in
     let step : Step kind l.table r (answered call_outcome c.args.answer) c.serve_foreseen.new.self = subst (λ o. Step kind l.table r o c.serve_foreseen.new.self) (outcome_answered c.args.answer) (search rules) in
-    let shows : Shows g.J.Room.table c.in_ok-token.mine = search rules in
+    let shows : Shows g.J.JournalName.table c.in_ok-token.mine = search rules in
     let entry : entry_at c.in_ok-token.mine ≡ record { seat = c.args.caller.seat; request = r; outcome = answered call_outcome c.args.answer } = search rules in
     let is : c.push_reserved.new.self.items ≡ l.journal.items ++ c.in_ok-token.mine ∷ [] = search rules in
     let jobs = c.law_of_open_jobs.ensures l.table c.serve_foreseen.new.self r (answered call_outcome c.args.answer) (call_opens_no_job _ c.args.call) (call_names_no_job _ c.args.call) step in
-    kept_more kind g.J.Room.table l.table c.serve_foreseen.new.self l.journal.items c.push_reserved.new.self.items l.freezes.items l.freezes.items c.in_ok-token.mine c.args.caller.seat r (answered call_outcome c.args.answer)
-    is c.self.invariant shows entry (filed_as_counted kind call_outcome c.args.answer (call_is_filed g.row.K.Denot g.row.V.Denot (plain.Told g.row.K.Denot g.row.V.Denot g.row.Q-Item.Denot)) c.requires.counted) step
-    (open_still g.J.Room.table l.table c.serve_foreseen.new.self l.freezes.items jobs c.self.invariant.beside) (each_still l.table c.serve_foreseen.new.self l.freezes.items jobs c.self.invariant.each)
+    kept_more kind g.J.JournalName.table l.table c.serve_foreseen.new.self l.journal.items c.push_reserved.new.self.items l.freezes.items l.freezes.items c.in_ok-token.mine c.args.caller.seat r (answered call_outcome c.args.answer)
+    is c.self.invariant shows entry (filed_as_counted kind call_outcome c.args.answer (call_is_filed g.row.K.Denot g.row.V.Denot (plain.Summary g.row.K.Denot g.row.V.Denot g.row.Q-Item.Denot)) c.requires.counted) step
+    (open_still g.J.JournalName.table l.table c.serve_foreseen.new.self l.freezes.items jobs c.self.invariant.beside) (each_still l.table c.serve_foreseen.new.self l.freezes.items jobs c.self.invariant.each)
 
 pub returns-clause-filed : goal.returns-clause-filed
 returns-clause-filed g c =
@@ -38,9 +38,9 @@ returns-clause-filed g c =
     let l = c.self.inside in
     let r : Request g.row.K.Denot g.row.V.Denot g.row.Q.Denot = request_of c.args.call in
     let step : Step kind l.table r (answered call_outcome c.args.answer) c.serve_foreseen.new.self = subst (λ o. Step kind l.table r o c.serve_foreseen.new.self) (outcome_answered c.args.answer) (search rules) in
-    let shows : Shows g.J.Room.table c.in_ok-token.token = search rules in
+    let shows : Shows g.J.JournalName.table c.in_ok-token.token = search rules in
     let entry : entry_at c.in_ok-token.token ≡ record { seat = c.args.caller.seat; request = r; outcome = answered call_outcome c.args.answer } = search rules in
     let is : c.push_reserved.new.self.items ≡ l.journal.items ++ c.in_ok-token.mine ∷ [] = search rules in
-    files_event kind g.J.Room.table l.table c.serve_foreseen.new.self l.journal.items c.push_reserved.new.self.items c.in_ok-token.token c.in_ok-token.mine c.args.caller.seat r (answered call_outcome c.args.answer) _ c.args.self.now (openers_of l.freezes.items) (openers_of l.freezes.items)
-    c.self.view_is is c.in_ok-token.ensures.same shows entry (search rules) (filed_as_counted kind call_outcome c.args.answer (call_is_filed g.row.K.Denot g.row.V.Denot (plain.Told g.row.K.Denot g.row.V.Denot g.row.Q-Item.Denot)) c.requires.counted) step
+    files_event kind g.J.JournalName.table l.table c.serve_foreseen.new.self l.journal.items c.push_reserved.new.self.items c.in_ok-token.token c.in_ok-token.mine c.args.caller.seat r (answered call_outcome c.args.answer) _ c.args.self.now (openers_of l.freezes.items) (openers_of l.freezes.items)
+    c.self.view_is is c.in_ok-token.ensures.same shows entry (search rules) (filed_as_counted kind call_outcome c.args.answer (call_is_filed g.row.K.Denot g.row.V.Denot (plain.Summary g.row.K.Denot g.row.V.Denot g.row.Q-Item.Denot)) c.requires.counted) step
     (sym (call_keeps_openers _ (openers_of l.freezes.items) c.args.call (answered call_outcome c.args.answer) c.in_ok-token.token.index))

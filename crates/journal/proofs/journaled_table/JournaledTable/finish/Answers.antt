@@ -2,7 +2,7 @@ use Rattle.std.proofs.Common.{rules, ◌≡◌, ◌++◌, ◌∷◌, [], refl, �
 use Rattle.std.specs.Prelude.{IsTrue}
 use Rattle.boxcar.specs.Table.{Shows}
 use Rattle.bulk_ops.specs.Answers as plain
-use Rattle.bulk_ops.specs.Told.{told_of}
+use Rattle.bulk_ops.specs.Summaries.{summary_of}
 use Rattle.handles.specs.Machine.{Request, Step, finish, finished}
 use Rattle.handles.specs.Views.{machine}
 use Rattle.journal.specs.Journals.{Entered}
@@ -31,16 +31,16 @@ invariant_of-self-2 g c =
     let kind = machine g.K.Ord.cmp g.V.PartialEq.eq g.Q.Asks.target_of g.Q.Asks.answered in
     let l = c.self.inside in
     let r : Request g.row.K.Denot g.row.V.Denot g.row.Q.Denot = finish c.args.job in
-    let p = plain.told (g.Q.Asks.answer_of c.args.part) in
+    let p = plain.summary (g.Q.Asks.answer_of c.args.part) in
     let yes : IsTrue c.was_opened_by.result = search rules in
     let opened : WasOpenedBy l.table c.args.job c.args.opener.now.value = opened_in _ l.table c.args.job c.args.opener.now.value (c.was_opened_by.ensures.opened yes) (search rules) in
     let step : Step kind l.table r (finished p) c.finish.new.self = finishes kind l.table c.finish.new.self c.args.job opened.job p c.finish.result opened.stands c.finish.ensures.memory c.finish.ensures.told c.finish.ensures.step in
-    let shows : Shows g.J.Room.table c.in-Ok.mine = search rules in
+    let shows : Shows g.J.JournalName.table c.in-Ok.mine = search rules in
     let entry : entry_at c.in-Ok.mine ≡ record { seat = c.args.caller.seat; request = r; outcome = finished p } = search rules in
     let is : c.push_reserved.new.self.items ≡ l.journal.items ++ c.in-Ok.mine ∷ [] = search rules in
-    let beside : AllOpen g.J.Room.table c.finish.new.self c.close.new.freezes.items = subst (AllOpen g.J.Room.table c.finish.new.self) (sym c.close.ensures.others)
-    (closed_still g.J.Room.table l.table c.finish.new.self c.args.job l.freezes.items (λ q e. finish_keeps kind l.table c.finish.new.self c.args.job q p step e) c.self.invariant.beside) in
-    kept_more kind g.J.Room.table l.table c.finish.new.self l.journal.items c.push_reserved.new.self.items l.freezes.items c.close.new.freezes.items c.in-Ok.mine c.args.caller.seat r (finished p)
+    let beside : AllOpen g.J.JournalName.table c.finish.new.self c.close.new.freezes.items = subst (AllOpen g.J.JournalName.table c.finish.new.self) (sym c.close.ensures.others)
+    (closed_still g.J.JournalName.table l.table c.finish.new.self c.args.job l.freezes.items (λ q e. finish_keeps kind l.table c.finish.new.self c.args.job q p step e) c.self.invariant.beside) in
+    kept_more kind g.J.JournalName.table l.table c.finish.new.self l.journal.items c.push_reserved.new.self.items l.freezes.items c.close.new.freezes.items c.in-Ok.mine c.args.caller.seat r (finished p)
     is c.self.invariant shows entry refl step beside
     (each_closed l.table c.finish.new.self c.args.job l.freezes.items c.close.new.freezes.items (ap (λ x. x.jobs) step.1.left) c.close.ensures.others c.self.invariant.each)
 
@@ -49,13 +49,13 @@ returns-clause-filed g c =
     let kind = machine g.K.Ord.cmp g.V.PartialEq.eq g.Q.Asks.target_of g.Q.Asks.answered in
     let l = c.self.inside in
     let r : Request g.row.K.Denot g.row.V.Denot g.row.Q.Denot = finish c.args.job in
-    let t = told_of c.in-Ok-finish.answer in
-    let filed : plain.Told g.row.K.Denot g.row.V.Denot g.row.Q-Item.Denot → Entered g.row.K.Denot g.row.V.Denot g.row.Q.Denot (plain.Told g.row.K.Denot g.row.V.Denot g.row.Q-Item.Denot) = λ x. record { seat = c.args.caller.seat; request = r; outcome = finished x } in
+    let t = summary_of c.in-Ok-finish.answer in
+    let filed : plain.Summary g.row.K.Denot g.row.V.Denot g.row.Q-Item.Denot → Entered g.row.K.Denot g.row.V.Denot g.row.Q.Denot (plain.Summary g.row.K.Denot g.row.V.Denot g.row.Q-Item.Denot) = λ x. record { seat = c.args.caller.seat; request = r; outcome = finished x } in
     let step : Step kind l.table r (finished t) c.finish.new.self = c.in-Ok-finish.ensures.step in
-    let shows : Shows g.J.Room.table c.in-Ok.token = search rules in
+    let shows : Shows g.J.JournalName.table c.in-Ok.token = search rules in
     let entry : entry_at c.in-Ok.token ≡ filed t = c.in-Ok.ensures.entry ∙ ap filed (sym c.in-Ok-finish.ensures.told) in
     let is : c.push_reserved.new.self.items ≡ l.journal.items ++ c.in-Ok.mine ∷ [] = search rules in
-    files_event kind g.J.Room.table l.table c.finish.new.self l.journal.items c.push_reserved.new.self.items c.in-Ok.token c.in-Ok.mine c.args.caller.seat r (finished t) _ c.args.self.now (openers_of l.freezes.items) (openers_of c.close.new.freezes.items)
+    files_event kind g.J.JournalName.table l.table c.finish.new.self l.journal.items c.push_reserved.new.self.items c.in-Ok.token c.in-Ok.mine c.args.caller.seat r (finished t) _ c.args.self.now (openers_of l.freezes.items) (openers_of c.close.new.freezes.items)
     c.self.view_is is c.in-Ok.ensures.same shows entry (search rules) refl step
     (ap openers_of c.close.ensures.others ∙ openers_of-filter c.args.job l.freezes.items)
 

@@ -14,8 +14,8 @@ invariant_of-seat g c =
     let event = c.in-Ok.event in
     let f : Filed g.row.K.Denot g.row.V.Denot g.row.Q.Denot g.row.Q-Item.Denot = record { token = event.token; place = event.place; floor = s.floor } in
     let is : c.file.new.list.items ≡ s.list.items ++ f ∷ [] = search rules in
-    let shows : Shows g.J.Room.table event.token = search rules in
-    all_of_more g.J.Room.table s.list.items c.file.new.list.items f is c.seat.invariant shows
+    let shows : Shows g.J.JournalName.table event.token = search rules in
+    all_of_more g.J.JournalName.table s.list.items c.file.new.list.items f is c.seat.invariant shows
 
 pub returns-in-Ok-clause-adds : goal.returns-in-Ok-clause-adds
 returns-in-Ok-clause-adds g c =
@@ -24,8 +24,8 @@ returns-in-Ok-clause-adds g c =
     let r : Request g.row.K.Denot g.row.V.Denot g.row.Q.Denot = abandon c.ticket.inside.job in
     let f : Filed g.row.K.Denot g.row.V.Denot g.row.Q.Denot g.row.Q-Item.Denot = record { token = c.in-Ok.event.token; place = c.in-Ok.event.place; floor = s.floor } in
     let is : c.file.new.list.items ≡ s.list.items ++ f ∷ [] = search rules in
-    let after : Seated g.row.K.Denot g.row.V.Denot g.row.Q.Denot (plain.Told g.row.K.Denot g.row.V.Denot g.row.Q-Item.Denot) = record { number = s.number; floor = c.file.new.floor; list = placed_all c.file.new.list.items; full = s.full; unknown = s.unknown } in
-    let adds : Adds c.args.seat.now r made after = event_adds kind g.J.Room.table _ _ c.new-caller.result.seat s.number s.floor c.file.new.floor s.full s.unknown s.list.items c.file.new.list.items f r made made c.args.seat.now
+    let after : Seated g.row.K.Denot g.row.V.Denot g.row.Q.Denot (plain.Summary g.row.K.Denot g.row.V.Denot g.row.Q-Item.Denot) = record { number = s.number; floor = c.file.new.floor; list = placed_all c.file.new.list.items; full = s.full; unknown = s.unknown } in
+    let adds : Adds c.args.seat.now r made after = event_adds kind g.J.JournalName.table _ _ c.new-caller.result.seat s.number s.floor c.file.new.floor s.full s.unknown s.list.items c.file.new.list.items f r made made c.args.seat.now
     c.seat.view_is is refl c.file.ensures.floor c.new-caller.ensures.seat c.in-Ok.ensures.filed refl in
     subst (λ t. Adds c.args.seat.now (abandon t.job) made after) c.ticket.view_is adds
 

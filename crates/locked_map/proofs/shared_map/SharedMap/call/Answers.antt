@@ -17,7 +17,7 @@ returns-in-Ok-clause-adds g c =
     let r : Request g.row.K.Denot g.row.V.Denot g.row.Q.Denot = request_of c.args.call in
     let f : Filed g.row.K.Denot g.row.V.Denot g.row.Q.Denot g.row.Q-Item.Denot = record { token = c.in-Ok.event.token; place = c.in-Ok.event.place; floor = s.floor } in
     let is : c.file.new.list.items ≡ s.list.items ++ f ∷ [] = search rules in
-    event_adds kind g.J.Room.table _ _ c.new-caller.result.seat s.number s.floor c.file.new.floor s.full s.unknown s.list.items c.file.new.list.items f r (answered call_outcome c.in-Ok.event.answer) (answered call_outcome c.file.result) c.args.seat.now
+    event_adds kind g.J.JournalName.table _ _ c.new-caller.result.seat s.number s.floor c.file.new.floor s.full s.unknown s.list.items c.file.new.list.items f r (answered call_outcome c.in-Ok.event.answer) (answered call_outcome c.file.result) c.args.seat.now
     c.seat.view_is is refl c.file.ensures.floor c.new-caller.ensures.seat c.in-Ok.ensures.filed (ap (answered call_outcome) c.file.ensures.answer)
 
 pub returns-in-Err-clause-adds : goal.returns-in-Err-clause-adds

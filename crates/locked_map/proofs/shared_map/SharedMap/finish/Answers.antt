@@ -1,6 +1,6 @@
 use Rattle.std.proofs.Common.{rules, ◌≡◌, ◌++◌, ◌∷◌, [], refl, ap, subst}
 use Rattle.bulk_ops.specs.Answers as plain
-use Rattle.bulk_ops.specs.Told.{told_of}
+use Rattle.bulk_ops.specs.Summaries.{summary_of}
 use Rattle.handles.specs.Machine.{Request, finish, finished, refused}
 use Rattle.handles.specs.Views.{machine}
 use Rattle.locked_map.specs.Seats.{Adds, Seated, placed_all}
@@ -15,10 +15,10 @@ returns-in-Ok-clause-adds g c =
     let r : Request g.row.K.Denot g.row.V.Denot g.row.Q.Denot = finish c.ticket.inside.job in
     let f : Filed g.row.K.Denot g.row.V.Denot g.row.Q.Denot g.row.Q-Item.Denot = record { token = c.in-Ok.event.token; place = c.in-Ok.event.place; floor = s.floor } in
     let is : c.file.new.list.items ≡ s.list.items ++ f ∷ [] = search rules in
-    let after : Seated g.row.K.Denot g.row.V.Denot g.row.Q.Denot (plain.Told g.row.K.Denot g.row.V.Denot g.row.Q-Item.Denot) = record { number = s.number; floor = c.file.new.floor; list = placed_all c.file.new.list.items; full = s.full; unknown = s.unknown } in
-    let adds : Adds c.args.seat.now r (finished (told_of c.file.result)) after = event_adds kind g.J.Room.table _ _ c.new-caller.result.seat s.number s.floor c.file.new.floor s.full s.unknown s.list.items c.file.new.list.items f r (finished (told_of c.in-Ok.event.answer)) (finished (told_of c.file.result)) c.args.seat.now
-    c.seat.view_is is refl c.file.ensures.floor c.new-caller.ensures.seat c.in-Ok.ensures.filed (ap (λ a. finished (told_of a)) c.file.ensures.answer) in
-    subst (λ t. Adds c.args.seat.now (finish t.job) (finished (told_of c.file.result)) after) c.ticket.view_is adds
+    let after : Seated g.row.K.Denot g.row.V.Denot g.row.Q.Denot (plain.Summary g.row.K.Denot g.row.V.Denot g.row.Q-Item.Denot) = record { number = s.number; floor = c.file.new.floor; list = placed_all c.file.new.list.items; full = s.full; unknown = s.unknown } in
+    let adds : Adds c.args.seat.now r (finished (summary_of c.file.result)) after = event_adds kind g.J.JournalName.table _ _ c.new-caller.result.seat s.number s.floor c.file.new.floor s.full s.unknown s.list.items c.file.new.list.items f r (finished (summary_of c.in-Ok.event.answer)) (finished (summary_of c.file.result)) c.args.seat.now
+    c.seat.view_is is refl c.file.ensures.floor c.new-caller.ensures.seat c.in-Ok.ensures.filed (ap (λ a. finished (summary_of a)) c.file.ensures.answer) in
+    subst (λ t. Adds c.args.seat.now (finish t.job) (finished (summary_of c.file.result)) after) c.ticket.view_is adds
 
 pub returns-in-Err-clause-adds : goal.returns-in-Err-clause-adds
 returns-in-Err-clause-adds g c =

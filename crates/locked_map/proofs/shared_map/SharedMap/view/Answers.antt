@@ -13,8 +13,8 @@ invariant_of-seat g c =
     let event = c.in-Ok.event in
     let f : Filed g.row.K.Denot g.row.V.Denot g.row.Q.Denot g.row.Q-Item.Denot = record { token = event.token; place = event.place; floor = s.floor } in
     let is : c.file.new.list.items ≡ s.list.items ++ f ∷ [] = search rules in
-    let shows : Shows g.J.Room.table event.token = search rules in
-    all_of_more g.J.Room.table s.list.items c.file.new.list.items f is c.seat.invariant shows
+    let shows : Shows g.J.JournalName.table event.token = search rules in
+    all_of_more g.J.JournalName.table s.list.items c.file.new.list.items f is c.seat.invariant shows
 
 pub returns-in-Ok : goal.returns-in-Ok
 returns-in-Ok g c =
@@ -23,7 +23,7 @@ returns-in-Ok g c =
     let r : Request g.row.K.Denot g.row.V.Denot g.row.Q.Denot = view c.args.handle in
     let f : Filed g.row.K.Denot g.row.V.Denot g.row.Q.Denot g.row.Q-Item.Denot = record { token = c.in-Ok.event.token; place = c.in-Ok.event.place; floor = s.floor } in
     let is : c.file.new.list.items ≡ s.list.items ++ f ∷ [] = search rules in
-    event_adds kind g.J.Room.table _ _ c.new-caller.result.seat s.number s.floor c.file.new.floor s.full s.unknown s.list.items c.file.new.list.items f r (answered view_outcome c.in-Ok.event.answer) (answered view_outcome c.file.result) c.args.seat.now
+    event_adds kind g.J.JournalName.table _ _ c.new-caller.result.seat s.number s.floor c.file.new.floor s.full s.unknown s.list.items c.file.new.list.items f r (answered view_outcome c.in-Ok.event.answer) (answered view_outcome c.file.result) c.args.seat.now
     c.seat.view_is is refl c.file.ensures.floor c.new-caller.ensures.seat c.in-Ok.ensures.filed (ap (answered view_outcome) c.file.ensures.answer)
 
 pub returns-in-Err : goal.returns-in-Err

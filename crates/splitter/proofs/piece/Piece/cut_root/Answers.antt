@@ -22,9 +22,9 @@ returns-in-Some-clause-root g c =
     let v = tree c.in_ok-try_clone.field-0 in
     let same = c.in_ok-try_clone.ensures in
     let high = c.trie_follows_digits.ensures.branch t s.level s.bitmap place.trie place.shown in
-    IfOk-weaker c.above.result _ (λ n. IsRoot R path (tree n))
+    IfOk-weaker c.branch_above.result _ (λ n. IsRoot R path (tree n))
     (λ n is. (root_above R path c.branch_is_its_children.ensures.pairs m i t s.bitmap s.level s.base s.from s.to place c.walk_lists_map.ensures.gathered map g.met.K.Ord.total g.met.K.PathKey.exact g.met.K.PathKey.small c.root_walks_in_order.ensures c.shared_digit.result v (tree n) c.in-Some.ensures.0 high c.shared_digit.ensures.small c.shared_digit.ensures.digit
-    (subst (IsTrie R path 1) (sym same) c.in-Some.ensures.1) (ap entries same ∙ c.in-Some.ensures.2) is).0) c.above.ensures
+    (subst (IsTrie R path 1) (sym same) c.in-Some.ensures.1) (ap entries same ∙ c.in-Some.ensures.2) is).0) c.branch_above.ensures
 
 pub returns-in-Some-clause-pairs : goal.returns-in-Some-clause-pairs
 returns-in-Some-clause-pairs g c =
@@ -39,12 +39,12 @@ returns-in-Some-clause-pairs g c =
     let v = tree c.in_ok-try_clone.field-0 in
     let same = c.in_ok-try_clone.ensures in
     let high = c.trie_follows_digits.ensures.branch t s.level s.bitmap place.trie place.shown in
-    IfOk-weaker c.above.result _ (λ n. map_of R (tree n) ≡ part path m i)
+    IfOk-weaker c.branch_above.result _ (λ n. map_of R (tree n) ≡ part path m i)
     (λ n is. (root_above R path c.branch_is_its_children.ensures.pairs m i t s.bitmap s.level s.base s.from s.to place c.walk_lists_map.ensures.gathered map g.met.K.Ord.total g.met.K.PathKey.exact g.met.K.PathKey.small c.root_walks_in_order.ensures c.shared_digit.result v (tree n) c.in-Some.ensures.0 high c.shared_digit.ensures.small c.shared_digit.ensures.digit
-    (subst (IsTrie R path 1) (sym same) c.in-Some.ensures.1) (ap entries same ∙ c.in-Some.ensures.2) is).1) c.above.ensures
+    (subst (IsTrie R path 1) (sym same) c.in-Some.ensures.1) (ap entries same ∙ c.in-Some.ensures.2) is).1) c.branch_above.ensures
 
-pub hung-requires-clause-shared : goal.hung-requires-clause-shared
-hung-requires-clause-shared g c =
+pub root_of_subtrie-requires-clause-shared : goal.root_of_subtrie-requires-clause-shared
+root_of_subtrie-requires-clause-shared g c =
     let R = g.K.Ord.cmp in
     let path = g.K.PathKey.path_of in
     let m = c.args.self.now.map in
@@ -65,8 +65,8 @@ returns-clause-root g c =
     let place = c.spot-spot.ensures.place in
     let map : IsMap R (part path m i) = subst (IsMap R) (sym (c.parts_follow_intervals.ensures.one m i)) (c.parts_follow_intervals.ensures.map m (i ∷ []) c.spot-spot.ensures.sorted) in
     let all = c.in_ok-branch.ensures.entries in
-    IfOk-weaker c.hung.result _ (λ n. IsRoot R path (tree n))
-    (λ n is. (root_of_place R path c.branch_is_its_children.ensures.pairs m i t s.bitmap s.level s.base s.from s.to place c.walk_lists_map.ensures.gathered map g.met.K.Ord.total g.met.K.PathKey.exact g.met.K.PathKey.small c.root_walks_in_order.ensures (tree n) is.0 (is.1 ∙ all)).0) c.hung.ensures
+    IfOk-weaker c.root_of_subtrie.result _ (λ n. IsRoot R path (tree n))
+    (λ n is. (root_of_place R path c.branch_is_its_children.ensures.pairs m i t s.bitmap s.level s.base s.from s.to place c.walk_lists_map.ensures.gathered map g.met.K.Ord.total g.met.K.PathKey.exact g.met.K.PathKey.small c.root_walks_in_order.ensures (tree n) is.0 (is.1 ∙ all)).0) c.root_of_subtrie.ensures
 
 pub returns-clause-pairs : goal.returns-clause-pairs
 returns-clause-pairs g c =
@@ -79,5 +79,5 @@ returns-clause-pairs g c =
     let place = c.spot-spot.ensures.place in
     let map : IsMap R (part path m i) = subst (IsMap R) (sym (c.parts_follow_intervals.ensures.one m i)) (c.parts_follow_intervals.ensures.map m (i ∷ []) c.spot-spot.ensures.sorted) in
     let all = c.in_ok-branch.ensures.entries in
-    IfOk-weaker c.hung.result _ (λ n. map_of R (tree n) ≡ part path m i)
-    (λ n is. (root_of_place R path c.branch_is_its_children.ensures.pairs m i t s.bitmap s.level s.base s.from s.to place c.walk_lists_map.ensures.gathered map g.met.K.Ord.total g.met.K.PathKey.exact g.met.K.PathKey.small c.root_walks_in_order.ensures (tree n) is.0 (is.1 ∙ all)).1) c.hung.ensures
+    IfOk-weaker c.root_of_subtrie.result _ (λ n. map_of R (tree n) ≡ part path m i)
+    (λ n is. (root_of_place R path c.branch_is_its_children.ensures.pairs m i t s.bitmap s.level s.base s.from s.to place c.walk_lists_map.ensures.gathered map g.met.K.Ord.total g.met.K.PathKey.exact g.met.K.PathKey.small c.root_walks_in_order.ensures (tree n) is.0 (is.1 ∙ all)).1) c.root_of_subtrie.ensures

@@ -10,5 +10,5 @@ invariant_of-self g c =
 pub invariant_of-self-2 : goal.invariant_of-self-2
 invariant_of-self-2 g c = (
   c.in_ok-change.ensures.limit ∙ c.self.invariant.0,
-  kept_remove_if g.K.Ord.cmp (Belongs g.K.PathKey.path_of g.P.Keeps.holds c.self.inside.first_digit) c.law_of_removal.ensures.value c.in_ok-change.change.done c.self.inside.version.entries _ (g.Q.Sought.key_of c.args.key) c.in_ok-change.ensures.entries c.self.invariant.1,
+  kept_remove_if g.K.Ord.cmp (Belongs g.K.PathKey.path_of g.P.Keeps.holds c.self.inside.first_digit) c.law_of_removal.ensures.value c.in_ok-change.change.written c.self.inside.version.entries _ (g.Q.Sought.key_of c.args.key) c.in_ok-change.ensures.entries c.self.invariant.1,
 )

@@ -1,6 +1,6 @@
 use Rattle.std.proofs.Common.{◌≡◌, ap, sym, ◌∙◌}
 use Rattle.hash_path.specs.Digits.{digit}
-use Rattle.trie_node.specs.Changes.{IsPut}
+use Rattle.trie_copy.specs.Changes.{IsPut}
 use Rattle.trie_shape.specs.Roots.{word_of}
 use Rattle.trie_shape.specs.Shape.{nodes}
 use Rattle.trie_shape.specs.View.{tree}

@@ -3,8 +3,8 @@ use Rattle.std.specs.List.Sorted.{IsPermutation}
 use Rattle.std.proofs.lemmas.List.Sorted.{length_permutation}
 use Rattle.std.proofs.lemmas.List.Elements.{All-nil}
 use Rattle.bulk_ops.specs.Meanings.{MayAnswer}
-use Rattle.trie_map.specs.Questions.{failing}
-use Rattle.trie_map.proofs.Counting.{at_most_one, count_permuted, one_more_gone, removal_step}
+use Rattle.map_view.specs.Questions.{failing}
+use Rattle.map_view.proofs.Counting.{at_most_one, count_permuted, one_more_gone, removal_step}
 use Rattle.trie_map.proofs.trie_map.TrieMap.remove_all_failing.Goals as goal
 
 pub loop-key-init : goal.loop-key-init

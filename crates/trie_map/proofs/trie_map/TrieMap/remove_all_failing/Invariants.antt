@@ -1,7 +1,7 @@
 use Rattle.std.proofs.Common.{◌≡◌, ◌+◌, ◌≤◌, Bool, false, length}
 use Rattle.std.specs.Prelude.{All}
 use Rattle.bulk_ops.specs.Meanings.{MayAnswer, Means}
-use Rattle.trie_map.specs.Questions.{failing}
+use Rattle.map_view.specs.Questions.{failing}
 use Rattle.versions.specs.Map.{Map}
 use Rattle.trie_map.proofs.trie_map.TrieMap.remove_all_failing.Given as goal
 

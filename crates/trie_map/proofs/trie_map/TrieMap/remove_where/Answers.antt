@@ -6,7 +6,7 @@ use Rattle.stripes.specs.Stripes.{Content}
 use Rattle.stripes.specs.Updates.{MayPass}
 use Rattle.versions.specs.Map.{value_at}
 use Rattle.trie_map.proofs.Deciding.{removed_passes, removed_where}
-use Rattle.trie_map.proofs.Keeping.{some_keeps}
+use Rattle.map_view.proofs.Keeping.{some_keeps}
 use Rattle.trie_map.proofs.trie_map.TrieMap.remove_where.Goals as goal
 
 pub returns-clause-tested : goal.returns-clause-tested

@@ -4,7 +4,7 @@ use Rattle.stripes.specs.Stripes.{Content}
 use Rattle.stripes.specs.Updates.{MayMake}
 use Rattle.versions.specs.Map.{value_at}
 use Rattle.trie_map.proofs.Deciding.{failed_made}
-use Rattle.trie_map.proofs.Keeping.{some_keeps}
+use Rattle.map_view.proofs.Keeping.{some_keeps}
 use Rattle.trie_map.proofs.trie_map.TrieMap.try_update.Goals as goal
 
 pub returns-in-Ok-clause-failed : goal.returns-in-Ok-clause-failed

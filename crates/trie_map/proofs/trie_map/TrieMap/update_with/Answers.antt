@@ -2,7 +2,7 @@ use Rattle.std.proofs.Common.{Option, IfSome, sym, subst}
 use Rattle.std.specs.Arc.{arc_value}
 use Rattle.std.specs.Prelude.{option_map}
 use Rattle.stripes.specs.Updates.{MayMake}
-use Rattle.trie_map.proofs.Keeping.{mapped_keeps}
+use Rattle.map_view.proofs.Keeping.{mapped_keeps}
 use Rattle.trie_map.proofs.trie_map.TrieMap.update_with.Goals as goal
 
 pub returns-in-Ok-clause-made : goal.returns-in-Ok-clause-made

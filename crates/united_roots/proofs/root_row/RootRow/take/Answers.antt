@@ -3,13 +3,13 @@ use Rattle.std.proofs.lemmas.List.{length-map}
 use Rattle.std.specs.Int.RustNames.{count_ones}
 use Rattle.std.specs.List.{insert}
 use Rattle.hash_path.specs.Digits.{fan_out}
-use Rattle.trie_node.specs.Merges.{child_at}
+use Rattle.trie_copy.specs.Merges.{child_at}
 use Rattle.trie_shape.specs.Map.{union}
 use Rattle.trie_shape.specs.Roots.{map_of}
 use Rattle.trie_shape.specs.Tree.{entries}
 use Rattle.trie_shape.specs.View.{tree}
 use Rattle.trie_shape.proofs.Divides.{trie_fits}
-use Rattle.trie_node.proofs.Standing.{map_insert}
+use Rattle.trie_copy.proofs.Cases.{map_insert}
 use Rattle.united_roots.specs.Rows.{NoneHasDigit, United}
 use Rattle.united_roots.proofs.Taking.{child_below, child_few, row_place, row_size, takes_none, takes_some}
 use Rattle.united_roots.proofs.root_row.RootRow.take.Goals as goal

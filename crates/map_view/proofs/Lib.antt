@@ -1,0 +1,4 @@
+pub mod Counting
+pub mod Equality
+pub mod Keeping
+pub mod Walks

@@ -1,0 +1,96 @@
+//! Questions about all pairs of a view.
+ghost use Rattle.std.specs.Prelude.{◌≡◌, ◌≤◌, Bool, Contains, IfOk, IfSome, length, option_map, true};
+ghost use Rattle.std.specs.List.{list_all, list_any};
+ghost use Rattle.bulk_ops.specs.Answers.{items_of, passes, passing};
+ghost use Rattle.bulk_ops.specs.Meanings.{MayAnswer, Means};
+ghost use Rattle.bulk_ops.specs.Parts.{pair_of};
+ghost use Rattle.combiner.specs.Monoids.{folded};
+ghost use Rattle.map_view.specs.Questions.{IsFound};
+
+use crate::view::View;
+use bulk_ops::{Pair, law_of_folds};
+use closure_ops::answer_at;
+use combiner::Monoid;
+use hash_path::PathKey;
+use std::sync::Arc;
+use stripes::Keeps;
+use trie_node::NoMemory;
+
+/// Each question walks the view on the caller's thread, in the order of `pairs`, and takes no lock. A test is a closure
+/// on a pair, as `|key, lease| lease.port == 443`. What is promised is exact where the closure means something: where
+/// it has one answer for each pair, which it promises itself. No request is made for memory.
+impl<K: PathKey + Drop, V: Drop, P: Keeps<K, V>> View<K, V, P> {
+    /// How many pairs pass the test.
+    pub fn count<F: Fn(&K, &V) -> bool>(&self, test: F) -> u64
+        requires callable { F.IsAlwaysCallable test }
+        ensures count { (p : K → V → Bool) → Means (MayAnswer F.Fn test) p → result ≡ length (passing p self.now) }
+        ensures few { result ≤ length self.now }
+    {
+        self.len();
+        let mut count = 0u64;
+        for (key, value) in self.bunched() {
+            count += u64::from(answer_at(&test, key, value));
+        }
+        count
+    }
+
+    /// Whether some pair passes the test. The walk ends at the first that does.
+    pub fn exists<F: Fn(&K, &V) -> bool>(&self, test: F) -> bool
+        requires callable { F.IsAlwaysCallable test }
+        ensures { (p : K → V → Bool) → Means (MayAnswer F.Fn test) p → result ≡ list_any (passes p) self.now }
+    {
+        for (key, value) in self.bunched() {
+            if answer_at(&test, key, value) {
+                return true;
+            }
+        }
+        false
+    }
+
+    /// Whether every pair passes the test. The walk ends at the first that does not.
+    pub fn for_all<F: Fn(&K, &V) -> bool>(&self, test: F) -> bool
+        requires callable { F.IsAlwaysCallable test }
+        ensures { (p : K → V → Bool) → Means (MayAnswer F.Fn test) p → result ≡ list_all (passes p) self.now }
+    {
+        for (key, value) in self.bunched() {
+            if !answer_at(&test, key, value) {
+                return false;
+            }
+        }
+        true
+    }
+
+    /// A pair that passes the test, if there is one: the first on a walk. It keeps the rule.
+    pub fn find<F: Fn(&K, &V) -> bool>(&self, test: F) -> Result<Option<Pair<K, V>>, NoMemory>
+        requires callable { F.IsAlwaysCallable test }
+        ensures found { IfOk result (λ found. (p : K → V → Bool) → Means (MayAnswer F.Fn test) p → IsFound p self.now (option_map pair_of found)) }
+        ensures kept { IfOk result (λ found. IfSome found (λ pair. P.holds pair.0.value pair.1.value)) }
+    {
+        for (key, value) in self.bunched() {
+            if answer_at(&test, key, value) {
+                return Ok(Some(shared_pair(key, value)?));
+            }
+        }
+        Ok(None)
+    }
+
+    /// The items of all pairs combined by the monoid, as by `Sum`, `Least` or `Greatest`.
+    pub fn fold<M: Monoid, G: Fn(&K, &V) -> M::Item>(&self, monoid: &M, item: G) -> M::Item
+        requires callable { G.IsAlwaysCallable item }
+        ensures { (i : K → V → M.Item) → Means (MayAnswer G.Fn item) i → result ≡ folded (M.combine monoid.now) (M.unit_of monoid.now) (items_of i self.now) }
+    {
+        law_of_folds::<K, V, M>();
+        let mut all = monoid.unit();
+        for (key, value) in self.bunched() {
+            all = monoid.op(&answer_at(&item, key, value), &all);
+        }
+        all
+    }
+}
+
+// Other handles on the key and the value.
+fn shared_pair<K: Drop, V: Drop>(key: &Arc<K>, value: &Arc<V>) -> Result<Pair<K, V>, NoMemory>
+    ensures { IfOk result (λ pair. pair_of pair ≡ (key.now.value, value.now.value)) }
+{
+    Ok((Arc::try_clone(key)?, Arc::try_clone(value)?))
+}

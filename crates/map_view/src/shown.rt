@@ -1,0 +1,15 @@
+//! Views in text.
+ghost use Rattle.std.specs.Prelude.{◌≡◌};
+
+use crate::view::View;
+use hash_path::PathKey;
+use std::fmt;
+use std::fmt::{Debug, Formatter};
+use stripes::Keeps;
+
+/// All pairs, in the order of `iter`, as `{"a": 1, "b": 2}`.
+impl<K: PathKey + Debug + Drop, V: Debug + Drop, P: Keeps<K, V>> Debug for View<K, V, P> {
+    fn fmt<W: fmt::Write>(&self, f: &mut Formatter<W>) -> fmt::Result {
+        f.debug_map().entries(self.iter()).finish()
+    }
+}

@@ -1,0 +1,200 @@
+//! A map as it stood at one moment.
+ghost use Rattle.std.specs.Prelude.{◌≡◌, ◌↔◌, ◌≤◌, [], All, IfOk, IfSome, IsPermutation, IsTrue, is_some, length, map, option_map};
+ghost use Rattle.bulk_ops.specs.Summaries.{IsAnswered};
+ghost use Rattle.stripes.specs.Rules.{AllKeep};
+ghost use Rattle.trie_shape.specs.Order.{walked};
+ghost use Rattle.versions.specs.Map.{IsMap, value_at};
+ghost use Rattle.versions.specs.declared.version.TheConstants.{MOST_PAIRS};
+
+mod equality;
+mod making;
+mod many;
+mod walking;
+
+use crate::crew::within_limits;
+use crate::keys_and_values::{Keys, Values};
+use bulk_ops::{Answer, Asks, ask};
+use combiner::Bulk;
+use hash_path::{PathKey, Sought};
+use iter::Pairs;
+use std::alloc::Global;
+use std::marker::{Model, PhantomData};
+use std::sync::{Arc, Wait};
+use std::thread::Threads;
+use stripes::{Anything, Keeps};
+use task_pool::{Crew, Free, ask_crew, run_crew};
+use trie_node::{NoMemory, walk_lists_map};
+use versions::Version;
+
+/// A map that never changes, as it stood at one moment when nobody wrote it. It is read with no lock, by any number of
+/// threads.
+#[derive(Drop)]
+pub struct View<K: PathKey, V, P: Keeps<K, V> = Anything> {
+    alloc: Global,
+    plain: versions::View<K, V>,
+    rule: PhantomData<P>,
+}
+
+impl<K: PathKey, V, P: Keeps<K, V>> Model for View<K, V, P> {
+    ghost use Rattle.stripes.specs.Rules.{AllKeep};
+    ghost use Rattle.versions.specs.Map.{Map};
+
+    ghost Value = { Map K V };
+
+    ghost view = { λ v. v.plain };
+
+    ghost invariant = { λ v. AllKeep K.cmp P.holds v.plain };
+}
+
+impl<K: PathKey + Drop, V: Drop, P: Keeps<K, V>> View<K, V, P> {
+    /// The view of a map whose pairs keep the rule.
+    pub fn new(alloc: Global, plain: versions::View<K, V>) -> View<K, V, P>
+        requires { AllKeep K.cmp P.holds plain }
+        ensures { result ≡ plain }
+    {
+        View {
+            alloc,
+            plain,
+            rule: PhantomData,
+        }
+    }
+
+    /// The value of the key, or none. It takes no memory.
+    pub fn get<Q: Sought<K>>(&self, key: Q) -> Option<&Arc<V>>
+        ensures value { option_map (λ value. value.now.value) result ≡ value_at K.cmp self.now (Q.key_of key) }
+        ensures kept { IfSome result (λ value. P.holds (Q.key_of key) value.now.value) }
+    {
+        self.plain.get(key)
+    }
+
+    /// Whether the key has a value. It takes no memory.
+    pub fn contains_key<Q: Sought<K>>(&self, key: Q) -> bool
+        ensures { result ≡ is_some (value_at K.cmp self.now (Q.key_of key)) }
+    {
+        self.plain.contains_key(key)
+    }
+
+    /// How many pairs there are. It takes no memory.
+    pub fn len(&self) -> u64
+        ensures count { result ≡ length self.now }
+        ensures few { length self.now ≤ MOST_PAIRS }
+        ensures sorted { IsMap K.cmp self.now }
+    {
+        self.plain.len()
+    }
+
+    /// Whether there is no pair. It takes no memory.
+    pub fn is_empty(&self) -> bool
+        ensures { IsTrue result ↔ (self.now ≡ []) }
+    {
+        self.plain.is_empty()
+    }
+
+    /// A walk over all pairs, each once, in order of position and, within one position, of key. Each of them keeps the
+    /// rule.
+    pub fn pairs(&self) -> Pairs<'_, K, V>
+        ensures rest { result.rest ≡ walked K.cmp K.path_of self.now }
+        ensures once { IsPermutation self.now result.rest }
+        ensures kept { All (λ pair. P.holds pair.0 pair.1) result.rest }
+    {
+        self.iter()
+    }
+
+    /// A walk over all keys, each once, in the order of `pairs`.
+    pub fn keys(&self) -> Keys<'_, K, V>
+        ensures rest { result ≡ map (λ pair. pair.0) (walked K.cmp K.path_of self.now) }
+        ensures once { IsPermutation (map (λ pair. pair.0) self.now) result }
+    {
+        Keys::of(self.pairs())
+    }
+
+    /// A walk over the values of all keys, in the order of `pairs`.
+    pub fn values(&self) -> Values<'_, K, V>
+        ensures rest { result ≡ map (λ pair. pair.1) (walked K.cmp K.path_of self.now) }
+        ensures once { IsPermutation (map (λ pair. pair.1) self.now) result }
+    {
+        Values::of(self.pairs())
+    }
+
+    /// What each pair of the view keeps: the rule, at its key and on a walk, which has each pair once. It does nothing.
+    pub fn law(&self)
+        ensures at_key { AllKeep K.cmp P.holds self.now }
+        ensures walked { All (λ pair. P.holds pair.0 pair.1) (walked K.cmp K.path_of self.now) }
+        ensures once { IsPermutation self.now (walked K.cmp K.path_of self.now) }
+    {
+        walk_lists_map::<K, V>();
+        self.plain.len();
+    }
+
+    /// What the query is answered for the whole view, and the map that it makes where it has a target.
+    pub fn query<Q: Asks<K, V>>(
+        &self,
+        query: &Q,
+    ) -> Result<(Answer<K, V, Q::Item>, Option<Version<K, V>>), NoMemory>
+        requires { Q.ready query.now }
+        ensures { IfOk result (λ answer. IsAnswered (Q.answered query.now self.now) (Q.target_of query.now) answer.0 answer.1) }
+    {
+        ask(self.alloc, self.plain.try_clone()?, query)
+    }
+
+    /// The same view with no word of the rule, for calls that take one, as those of walks and pieces.
+    pub fn plain(&self) -> &versions::View<K, V>
+        ensures map { result.now ≡ self.now }
+    {
+        &self.plain
+    }
+
+    /// Another handle on the same view. It makes no request for memory, but the clone may be refused.
+    pub fn try_clone(&self) -> Result<View<K, V, P>, NoMemory>
+        ensures { IfOk result (λ view. view ≡ self.now) }
+    {
+        Ok(View {
+            alloc: self.alloc,
+            plain: self.plain.try_clone()?,
+            rule: PhantomData,
+        })
+    }
+}
+
+impl<K: PathKey + Drop + Send + Sync, V: Drop + Send + Sync, P: Keeps<K, V>> View<K, V, P> {
+    /// What `query` answers, worked by a crew: the view is cut into pieces, which the threads of the crew take from one
+    /// another, and the caller works what they leave.
+    ///
+    /// The closures of the query run on these threads, several at once. No lock is held while they work: who writes the
+    /// map that the view was taken of goes on. The threads have ended when the call returns. A view with no more pairs
+    /// than the crew's grain is worked by the caller alone. Where a number of the crew is beyond its limits, the nearest
+    /// within them is taken.
+    ///
+    /// It fails if memory runs out. A thread that cannot be started is no error: the others, or the caller, work its
+    /// pieces.
+    pub fn par_query<R, Q>(
+        &self,
+        rt: &R,
+        query: &Q,
+        crew: Crew,
+    ) -> Result<(Answer<K, V, Q::Item>, Option<Version<K, V>>), NoMemory>
+    where
+        R: Threads + Wait + Sync,
+        Q: Asks<K, V> + Sync,
+        Q::Part: Send,
+        requires { Q.ready query.now }
+        ensures { IfOk result (λ answer. IsAnswered (Q.answered query.now self.now) (Q.target_of query.now) answer.0 answer.1) }
+    {
+        let view = self.plain.try_clone()?;
+        ask_crew(rt, self.alloc, view, query, within_limits(crew))
+    }
+
+    /// The part of all pairs, worked by a crew as `par_query` works a query, for any operation on maps.
+    pub(crate) fn worked_by<R, B>(&self, rt: &R, bulk: &B, crew: Crew) -> Result<B::Part, NoMemory>
+    where
+        R: Threads + Wait + Sync,
+        B: Bulk<K, V> + Sync,
+        B::Part: Send,
+        requires { B.ready bulk.now }
+        ensures { IfOk result (λ part. B.answers bulk.now self.now part) }
+    {
+        let crew = within_limits(crew);
+        let report = run_crew(rt, self.alloc, &self.plain, bulk, crew, &Free)?;
+        Ok(report.part)
+    }
+}

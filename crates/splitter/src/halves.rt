@@ -1,0 +1,101 @@
+//! Where a piece is cut.
+
+ghost use Rattle.std.specs.Prelude.{◌≡◌, Some, None, IfOk, MatchOption};
+ghost use Rattle.iter.specs.Intervals.{part};
+ghost use Rattle.splitter.specs.Cuts.{middle_of, words_of};
+ghost use Rattle.splitter.specs.Laws.{below, from};
+ghost use Rattle.splitter.specs.Spots.{IsCutAt};
+
+use crate::digits::nth_digit;
+use crate::piece::Piece;
+use crate::place::{Spot, count_between};
+use hash_path::laws::{
+    digits_determine_word, position_is_bijection, positions_follow_digits,
+    shared_digits_are_interval,
+};
+use hash_path::{Bound, PathKey, Word, weight_at};
+use iter::{Interval, intervals_tile, parts_follow_intervals};
+use trie_node::{
+    Look, NoMemory, bitmap_counts_children, branch_is_its_children, child, leaf_is_its_pairs, look,
+    trie_follows_digits, walk_lists_map,
+};
+
+impl<K: PathKey, V> Piece<K, V> {
+    /// The branch at which the pairs of the piece part, where they have two path words or more: there
+    /// two of its children or more have them.
+    fn cut_spot(&self) -> Option<Spot<'_, K, V>>
+        ensures { IsCutAt K.cmp K.path_of self.now.map self.now.interval result }
+    {
+        bitmap_counts_children::<K, V>();
+        branch_is_its_children::<K, V>();
+        digits_determine_word();
+        leaf_is_its_pairs::<K, V>();
+        parts_follow_intervals::<K, V>();
+        position_is_bijection();
+        shared_digits_are_interval();
+        trie_follows_digits::<K, V>();
+        walk_lists_map::<K, V>();
+        let mut spot = self.spot();
+        while spot.to - spot.from == 1 {
+            let only = child(spot.branch, spot.from);
+            let Look::Branch(bitmap) = look(only) else {
+                return None;
+            };
+            let digit = nth_digit(spot.bitmap, spot.from);
+            spot = Spot {
+                branch: only,
+                bitmap,
+                level: spot.level + 1,
+                base: spot.base + Word::from(digit) * weight_at(spot.level),
+                from: 0,
+                to: bitmap.count_ones(),
+            };
+        }
+        if spot.from == spot.to {
+            return None;
+        }
+        Some(spot)
+    }
+}
+
+impl<K: PathKey + Drop, V: Drop> Piece<K, V> {
+    /// The pieces below the middle and from there on, where the piece has a middle.
+    pub(crate) fn halves(&self) -> Result<Option<(Piece<K, V>, Piece<K, V>)>, NoMemory>
+        ensures middle { IfOk result (λ halves. MatchOption halves (middle_of (words_of K.path_of (part K.path_of self.now.map self.now.interval)) ≡ None) (λ two. middle_of (words_of K.path_of (part K.path_of self.now.map self.now.interval)) ≡ Some two.0.interval.hi)) }
+        ensures lower { IfOk result (λ halves. MatchOption halves (Unit {0}) (λ two. two.0 ≡ record self.now { interval = below self.now.interval two.0.interval.hi })) }
+        ensures upper { IfOk result (λ halves. MatchOption halves (Unit {0}) (λ two. two.1 ≡ record self.now { interval = from self.now.interval two.0.interval.hi })) }
+    {
+        bitmap_counts_children::<K, V>();
+        branch_is_its_children::<K, V>();
+        digits_determine_word();
+        intervals_tile();
+        parts_follow_intervals::<K, V>();
+        position_is_bijection();
+        positions_follow_digits();
+        shared_digits_are_interval();
+        trie_follows_digits::<K, V>();
+        walk_lists_map::<K, V>();
+        let Some(spot) = self.cut_spot() else {
+            return Ok(None);
+        };
+        let half = spot.from + (spot.to - spot.from) / 2;
+        let mid = spot.base + Word::from(nth_digit(spot.bitmap, half)) * weight_at(spot.level);
+        let bound = Bound::from(mid);
+        let Interval { lo, hi } = self.interval;
+        let lower = Piece {
+            view: self.view.try_clone()?,
+            interval: Interval { lo, hi: bound },
+            count: count_between(spot.branch, spot.from, half),
+            place: Some(spot.place(spot.from, half)?),
+            alloc: self.alloc,
+        };
+        let upper = Piece {
+            view: self.view.try_clone()?,
+            interval: Interval { lo: bound, hi },
+            count: count_between(spot.branch, half, spot.to),
+            place: Some(spot.place(half, spot.to)?),
+            alloc: self.alloc,
+        };
+        Ok(Some((lower, upper)))
+    }
+}

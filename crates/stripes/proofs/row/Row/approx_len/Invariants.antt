@@ -1,6 +1,0 @@
-use Rattle.std.proofs.Common.{◌≤◌, ◌*◌}
-use Rattle.stripes.specs.declared.stripe.TheConstants.{MOST_PAIRS_OF_STRIPE}
-use Rattle.stripes.proofs.row.Row.approx_len.Given as goal
-
-abbrev pub invariant-loop-digit : goal.invariant-loop-digit
-invariant-loop-digit g l = l.pairs ≤ l.digit * MOST_PAIRS_OF_STRIPE

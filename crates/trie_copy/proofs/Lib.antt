@@ -1,0 +1,16 @@
+pub mod Answered
+pub mod Branches
+pub mod ChildAt
+pub mod EachPut
+pub mod MergedRoots
+pub mod MergedRows
+pub mod PutsBelow
+pub mod Removals
+pub mod Removing
+pub mod Restamps
+pub mod RootWrites
+pub mod Splits
+pub mod StampTests
+pub mod Taken
+pub mod Words
+pub mod Cases

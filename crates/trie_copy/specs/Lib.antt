@@ -1,0 +1,4 @@
+pub mod Writes
+pub mod Changes
+pub mod Removals
+pub mod Merges
