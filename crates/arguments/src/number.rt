@@ -1,6 +1,6 @@
 //! Numbers and values, each with one spelling.
 
-ghost use Rattle.std.specs.Prelude.{◌≡◌, ◌≢◌, ◌↔◌, ℕ, ℤ, ◌<◌, ◌^◌, ◌⊎◌, IsTrue, FitsSigned, MatchOption};
+ghost use Rattle.std.specs.Prelude.{◌≡◌, ◌≢◌, ◌↔◌, ℕ, ℤ, ◌<◌, ◌^◌, IsTrue, FitsSigned, MatchOption};
 ghost use Rattle.std.specs.Fmt.{decimal, signed_decimal};
 ghost use Rattle.std.specs.Int.{w64};
 ghost use Rattle.arguments.specs.Numbers.{StartsNumber, StartsNegative};

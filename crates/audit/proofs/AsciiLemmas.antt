@@ -1,4 +1,4 @@
--- What is asked in its ranges, and what is told of keys that are ASCII, has a text of ASCII.
+-- What is asked in its ranges, and a reply about keys that are ASCII, has a text of ASCII.
 use Rattle.std.proofs.Common.{true, false, ℕ, ◌<◌, ◌≤◌, length, List, [], ◌∷◌, ◌++◌, Some, None, codes, refl, arith, map}
 use Rattle.std.specs.Prelude.{ℤ, FitsSigned}
 use Rattle.std.specs.Int.{w64}
@@ -96,7 +96,7 @@ ascii_call (finish j) l = numbered (codes "finish") j (ascii_literal (codes "fin
 ascii_call (abandon j) l = numbered (codes "abandon") j (ascii_literal (codes "abandon") refl)
 ascii_call worker_step l = absurd l
 
--- ---- what is told
+-- ---- replies
 
 -- the key is ASCII, of 64 bytes at the most
 abbrev pub IsPlainKey : List ℕ → Type 0
@@ -110,16 +110,16 @@ IsPlainValue v = FitsSigned w64 v
 abbrev pub IsPlainMap : Map (List ℕ) ℤ → Type 0
 IsPlainMap m = Each IsPlainKey IsPlainValue m
 
--- the key of a pair that is told is ASCII, and so are those of a map
-abbrev pub IsAsciiTold : ProgramSummary → Type 0
-IsAsciiTold (plain.Summary.found (Some x)) = IsAscii x.0
-IsAsciiTold (plain.Summary.images m) = IsPlainMap m
-IsAsciiTold b = Unit {0}
+-- the key of a pair in a reply is ASCII, and so are those of a map
+abbrev pub IsAsciiShown : ProgramSummary → Type 0
+IsAsciiShown (plain.Summary.found (Some x)) = IsAscii x.0
+IsAsciiShown (plain.Summary.images m) = IsPlainMap m
+IsAsciiShown b = Unit {0}
 
 -- the keys that the outcome shows are ASCII
 abbrev pub ShowsAscii : ProgramOutcome → Type 0
 ShowsAscii (viewed m) = IsPlainMap m
-ShowsAscii (finished b) = IsAsciiTold b
+ShowsAscii (finished b) = IsAsciiShown b
 ShowsAscii o = Unit {0}
 
 ascii_pair : (k : List ℕ) (v : ℤ) (b : ℕ) → b < 128 → IsAscii k → IsAscii (k ++ b ∷ signed_decimal v)
@@ -133,17 +133,17 @@ ascii_refusal : (e : Refusal) → IsAscii (refusal_name e)
 ascii_refusal NoHandle = ascii_literal (codes "NoHandle") refl
 ascii_refusal e = ascii_literal (refusal_name e) refl
 
-ascii_told : (b : ProgramSummary) → IsAsciiTold b → IsAscii (outcome_text (finished b))
-ascii_told (plain.Summary.number n) h = ascii_behind (codes "count ") (decimal n) refl (ascii_decimal n)
-ascii_told (plain.Summary.truth true) h = ascii_literal (codes "true") refl
-ascii_told (plain.Summary.truth false) h = ascii_literal (codes "false") refl
-ascii_told (plain.Summary.found None) h = ascii_literal (codes "none") refl
-ascii_told (plain.Summary.found (Some x)) h =
+ascii_shown : (b : ProgramSummary) → IsAsciiShown b → IsAscii (outcome_text (finished b))
+ascii_shown (plain.Summary.number n) h = ascii_behind (codes "count ") (decimal n) refl (ascii_decimal n)
+ascii_shown (plain.Summary.truth true) h = ascii_literal (codes "true") refl
+ascii_shown (plain.Summary.truth false) h = ascii_literal (codes "false") refl
+ascii_shown (plain.Summary.found None) h = ascii_literal (codes "none") refl
+ascii_shown (plain.Summary.found (Some x)) h =
     ascii_append (codes "pair " ++ x.0) _ (ascii_behind (codes "pair ") x.0 refl h) (omega arith, ascii_signed x.1)
-ascii_told (plain.Summary.made n) h = ascii_behind (codes "count ") (decimal n) refl (ascii_decimal n)
-ascii_told (plain.Summary.images m) h = ascii_behind (codes "pairs") (flat_map pair_text m) refl (ascii_pairs m h)
-ascii_told (plain.Summary.item None) h = ascii_literal (codes "none") refl
-ascii_told (plain.Summary.item (Some n)) h = ascii_behind (codes "item ") (signed_decimal n) refl (ascii_signed n)
+ascii_shown (plain.Summary.made n) h = ascii_behind (codes "count ") (decimal n) refl (ascii_decimal n)
+ascii_shown (plain.Summary.images m) h = ascii_behind (codes "pairs") (flat_map pair_text m) refl (ascii_pairs m h)
+ascii_shown (plain.Summary.item None) h = ascii_literal (codes "none") refl
+ascii_shown (plain.Summary.item (Some n)) h = ascii_behind (codes "item ") (signed_decimal n) refl (ascii_signed n)
 
 ascii_replied : (y : commands.Reply ℤ) → IsAscii (outcome_text (replied y))
 ascii_replied (old None) = ascii_literal (codes "none") refl
@@ -158,7 +158,7 @@ ascii_outcome made h = ascii_literal (codes "ok") refl
 ascii_outcome (replied y) h = ascii_replied y
 ascii_outcome (viewed m) h = ascii_behind (codes "pairs") (flat_map pair_text m) refl (ascii_pairs m h)
 ascii_outcome (frozen j m) h = ascii_behind (codes "job ") (decimal j) refl (ascii_decimal j)
-ascii_outcome (finished b) h = ascii_told b h
+ascii_outcome (finished b) h = ascii_shown b h
 ascii_outcome unfinished h = tt
 ascii_outcome (refused e) h = ascii_behind (codes "refused ") (refusal_name e) refl (ascii_refusal e)
 ascii_outcome worked h = tt

@@ -11,8 +11,8 @@ use Rattle.questions.specs.Program.{program, ProgramState, ProgramOutcome, Progr
 use Rattle.handles.specs.Views.{IsStep, lacks_memory}
 use Rattle.questions.proofs.OneStep.{Settled, settled}
 use Rattle.journal_text.specs.Calls.{outcome_text}
-use Rattle.audit.specs.Answers.{Answers, NoneAnswers, NoneTold}
-use Rattle.audit.proofs.OneState.{finish_told}
+use Rattle.audit.specs.Answers.{Answers, NoneAnswers, NoneInReply}
+use Rattle.audit.proofs.OneState.{finish_outcome}
 use Rattle.audit.proofs.InOrder.{in_order}
 use Rattle.audit.proofs.JudgedLemmas.{step_of}
 
@@ -43,18 +43,18 @@ none_settled s t j o none filed (inr (clear, g)) =
 pub unopened : (s : ProgramState) (j : ℕ) (text : List ℕ) → job_at s j ≡ None → NoneAnswers s (finish j) text
 unopened s j text none t a = none_settled s t j a.outcome none a.filed (settled s (finish j) a.outcome t a.step)
 
-some_settled : (s t : ProgramState) (j : ℕ) (job : ScriptJob) (text : List ℕ) (o : ProgramOutcome) → job_at s j ≡ Some job → NoneTold job.query job.frozen text → is_filed o ≡ true → text ≡ outcome_text o → Settled s (finish j) o t → ⊥
+some_settled : (s t : ProgramState) (j : ℕ) (job : ScriptJob) (text : List ℕ) (o : ProgramOutcome) → job_at s j ≡ Some job → NoneInReply job.query job.frozen text → is_filed o ≡ true → text ≡ outcome_text o → Settled s (finish j) o t → ⊥
 some_settled s t j job text o there none filed is (inl (e, name, why, left)) =
     let bad : Some e ≡ None = sym why ∙ open_job s j job there in
     cc
 some_settled s t j job text o there none filed is (inr (clear, g)) =
-    let f = finish_told s j o t filed g in
+    let f = finish_outcome s j o t filed g in
     let named : Some f.2.job ≡ Some job = sym f.2.named ∙ there in
     let same : f.2.job ≡ job = cc in
     none f.2.answer (subst (λ (x : ScriptJob). answers x.query x.frozen f.2.answer) same f.2.is_answer.0) (in_order s t j f.0 f.2) (is ∙ ap outcome_text (f.1 ∙ ap (λ (b : ProgramSummary). finished b) f.2.told))
 
--- where no answer of its query is told so, no entry tells of its end so
-pub untold : (s : ProgramState) (j : ℕ) (job : ScriptJob) (text : List ℕ) → job_at s j ≡ Some job → NoneTold job.query job.frozen text → NoneAnswers s (finish j) text
+-- where no answer of its query has this reply, no entry of its end has it
+pub untold : (s : ProgramState) (j : ℕ) (job : ScriptJob) (text : List ℕ) → job_at s j ≡ Some job → NoneInReply job.query job.frozen text → NoneAnswers s (finish j) text
 untold s j job text there none t a = some_settled s t j job text a.outcome there none a.filed a.text (settled s (finish j) a.outcome t a.step)
 
 refused_open : (s t : ProgramState) (j : ℕ) (job : ScriptJob) (e : Refusal) → job_at s j ≡ Some job → refusal program s (finish j) ≡ Some e → ⊥

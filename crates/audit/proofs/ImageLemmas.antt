@@ -15,7 +15,7 @@ use Rattle.trie_shape.specs.Listings.{IsListing}
 use Rattle.script.specs.Replies.{text_of}
 use Rattle.script.specs.declared.reply.LineReply.TheVariants as replies
 use Rattle.bulk_ops.specs.Answers.{IsImage, image}
-use Rattle.audit.specs.Images.{WasRead, AreValuesTold, HasIfRead, HasAllRead, IsPutIfRead}
+use Rattle.audit.specs.Images.{WasRead, AreValuesInReply, HasIfRead, HasAllRead, IsPutIfRead}
 use Rattle.audit.proofs.PairLemmas.{ScriptMap, both, is_less, total, antisymmetric, map_behind, value_found, contained}
 use Rattle.audit.proofs.KeyedMaps.{value_put, put_other, put_here, first_of, later_of, which_of, none_of, HasKey, not_below, same_keys, image_keys, same_map}
 
@@ -182,7 +182,7 @@ pub walk_more : (f : List ℕ → ℤ → List ℕ × ℤ) (m told rest w new : 
 walk_more f m told rest w new x r h is fits (inl (read, put)) = subst (λ (n : ScriptMap). IsWalked f m told rest n) (sym put) (walk_put f m told rest w x r h is fits read)
 walk_more f m told rest w new x r h is fits (inr (other, same)) = subst (λ (n : ScriptMap). IsWalked f m told rest n) (sym same) (walk_passed f m told rest w x r h is fits other)
 
--- ---- the map that is told
+-- ---- the map that the text shows
 
 read_at : (told n : ScriptMap) (x : List ℕ × ℤ) → WasRead told n → Contains n x → FitsSigned w64 x.1 → value_at bytes_cmp told x.0 ≡ Some x.1
 read_at told [] x read c fits = absurd (none_of x c)
@@ -191,8 +191,8 @@ read_at told (y ∷ n) x read c fits = elim (which_of y x n c) as (λ u. value_a
   | inr d ↦ read_at told n x read.1 d fits
 ]
 
--- no map of images but this one is told
-pub only_images : (f : List ℕ → ℤ → List ℕ × ℤ) (m some told w n : ScriptMap) (reply : List ℕ) → IsImage f m some → IsMap bytes_cmp some → AreValuesTold some reply told → HasAllRead f m told w
+-- the text shows no map of images but this one
+pub only_images : (f : List ℕ → ℤ → List ℕ × ℤ) (m some told w n : ScriptMap) (reply : List ℕ) → IsImage f m some → IsMap bytes_cmp some → AreValuesInReply some reply told → HasAllRead f m told w
     → IsImage f m n → IsMap bytes_cmp n → reply ≡ text_of (replies.Pairs n) → n ≡ w
 only_images f m some told w n reply is hs values all image hn e =
     let keys = same_keys n some hn hs (image_keys f m n some image is) (image_keys f m some n is image) in

@@ -1,5 +1,5 @@
 -- A map of images that a finish makes stands in the order of its keys.
-use Rattle.std.proofs.Common.{◌≡◌, ℕ}
+use Rattle.std.proofs.Common.{ℕ}
 use Rattle.handles.specs.Machine.{Finishes}
 use Rattle.questions.specs.Program.{program, ProgramState, ProgramSummary}
 use Rattle.questions.specs.Queries.{IsInOrder}

@@ -26,10 +26,10 @@ use Rattle.questions.specs.Queries.{ScriptQuestion, answers, count, exists, for_
 use Rattle.questions.proofs.OneStep.{Settled, settled, refused_in, one_open, one_snapshot, one_reply, one_drop, one_abandon, one_freeze, one_view}
 use Rattle.audit.specs.Runs.{MayBeAsked}
 use Rattle.audit.proofs.MapLemmas.{Each, each_put, each_without, each_at, each_value_or}
-use Rattle.audit.proofs.OneState.{finish_told}
+use Rattle.audit.proofs.OneState.{finish_outcome}
 use Rattle.audit.proofs.Room.{Any, ProgramJob}
 use Rattle.audit.proofs.ByteLemmas.{ascii_signed}
-use Rattle.audit.proofs.AsciiLemmas.{IsPlainKey, IsPlainMap, IsPlainValue, IsAsciiTold, ShowsAscii, ascii_key}
+use Rattle.audit.proofs.AsciiLemmas.{IsPlainKey, IsPlainMap, IsPlainValue, IsAsciiShown, ShowsAscii, ascii_key}
 
 -- ---- one map
 
@@ -135,7 +135,7 @@ map_keys q m (plain.Answer.found x) asked a all = tt
 map_keys q m (plain.Answer.item i) asked a all = tt
 map_keys q m a asked is all = absurd is
 
-told_key : (q : ScriptQuestion) (m : Map (List ℕ) ℤ) (a : ProgramAnswer) → IsAsked q → answers q m a → IsPlainMap m → IsAsciiTold (plain.summary a)
+told_key : (q : ScriptQuestion) (m : Map (List ℕ) ℤ) (a : ProgramAnswer) → IsAsked q → answers q m a → IsPlainMap m → IsAsciiShown (plain.summary a)
 told_key (find t) m (plain.Answer.found (Some x)) asked a all = (contained m x a.0.0 a.0.1 a.0.2 all).0.0
 told_key (paired f to) m (plain.Answer.images n) asked a all = image_keys f m n asked all a
 told_key q m (plain.Answer.found None) asked a all = tt
@@ -180,11 +180,11 @@ keeps o p t u told left shows keys = (subst HasPlainMaps (sym left) keys, subst 
 finish_keys : (s : ProgramState) (j : ℕ) (o : ProgramOutcome) (t : ProgramState) → is_filed o ≡ true → HasPlainMaps s
     → Granted program s (finish j) o t → KeepsKeys o t
 finish_keys s j o t filed k g =
-    let f = finish_told s j o t filed g in
+    let f = finish_outcome s j o t filed g in
     let job = f.2.job in
     let answer = f.2.answer in
     let frozen = (each_at nat_cmp Any HasPlainMap s.jobs j job k.jobs f.2.named).3 in
-    let shows : IsAsciiTold f.0 = subst IsAsciiTold (sym f.2.told) (told_key job.query job.frozen answer frozen.1 f.2.is_answer.0 frozen.0) in
+    let shows : IsAsciiShown f.0 = subst IsAsciiShown (sym f.2.told) (told_key job.query job.frozen answer frozen.1 f.2.is_answer.0 frozen.0) in
     keeps o (finished f.0) t _ f.1 f.2.left shows (record {
       live = after_keys s (program.target job.query) answer k (map_keys job.query job.frozen answer frozen.1 f.2.is_answer.0 frozen.0);
       jobs = each_without nat_cmp Any HasPlainMap s.jobs j k.jobs;

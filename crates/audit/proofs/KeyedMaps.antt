@@ -17,7 +17,7 @@ use Rattle.keys.specs.Order.{bytes_cmp}
 use Rattle.script.specs.Replies.{pair_text}
 use Rattle.script.proofs.ListingLemmas.{inserted}
 use Rattle.bulk_ops.specs.Answers.{IsImage}
-use Rattle.audit.specs.Telling.{IsSpaceless}
+use Rattle.audit.specs.ReplyParts.{IsSpaceless}
 use Rattle.audit.specs.Images.{StartsSpaced, HaveSameKeys}
 use Rattle.audit.proofs.SpaceLemmas.{signed_spaceless}
 use Rattle.audit.proofs.PairLemmas.{ScriptMap, total, antisymmetric, rises, map_behind}

@@ -13,7 +13,7 @@ pub mod JudgedLemmas
 pub mod EntryLemmas
 pub mod FinishLemmas
 pub mod SpaceLemmas
-pub mod TellingLemmas
+pub mod ReplyPartLemmas
 pub mod MapLemmas
 pub mod Room
 pub mod VerdictLemmas

@@ -1,16 +1,12 @@
--- A filed step that is told the same text leaves one state.
+-- A filed step whose reply has the same text leaves one state.
 use Rattle.std.proofs.Common.{◌≡◌, true, ℕ, ◌+◌, ◌∙◌, List, [], ◌∷◌, drop, Some, None, inl, inr, refl, sym, ap, subst}
 use Rattle.std.specs.Prelude.{ℤ}
 use Rattle.std.specs.Ordering.{nat_cmp}
-use Rattle.std.specs.List.{flat_map}
 use Rattle.versions.specs.Map.{Map, without}
-use Rattle.versions.specs.declared.refusal.Refusal.{Refusal}
 use Rattle.bulk_ops.specs.Answers as plain
-use Rattle.bulk_ops.specs.Answers.{IsImage}
 use Rattle.handles.specs.Machine.{Step, Finishes, Job, live_after, finish, worker_step, finished, open_handle, snapshot, drop_handle, on, view, freeze, abandon}
 use Rattle.journal.specs.Journals.{is_filed}
 use Rattle.arguments.specs.Questions.{image_of}
-use Rattle.script.specs.Replies.{pair_text}
 use Rattle.arguments.specs.declared.pair_mapping.PairMapping.{PairMapping}
 use Rattle.questions.specs.Queries.{ScriptQuestion, answers, find, paired, target_of}
 use Rattle.questions.specs.Program.{program, ProgramAnswer, ProgramSummary, ProgramState, ProgramRequest, ProgramOutcome}
@@ -23,7 +19,7 @@ use Rattle.audit.proofs.KeyedMaps.{AllFit, image_keys, same_keys, same_text}
 use Rattle.audit.proofs.InOrder.{in_order}
 use Rattle.audit.proofs.KeyLemmas.{HasPlainMaps, HasPlainMap, IsAsked, map_keys}
 use Rattle.audit.proofs.MapLemmas.{each_at}
-use Rattle.audit.proofs.OneState.{finish_told}
+use Rattle.audit.proofs.OneState.{finish_outcome}
 use Rattle.audit.proofs.Room.{Any}
 
 abbrev ScriptJob : Type 0
@@ -60,14 +56,14 @@ same_images f to m a b asked all x y hn hk text = absurd x
 abbrev finished_in : ProgramState → ℕ → ScriptJob → ProgramAnswer → ProgramState
 finished_in s j job answer = record s { live = live_after program s (target_of job.query) answer; jobs = without nat_cmp s.jobs j; entries = s.entries + 1 }
 
--- what a finish that is told the same text leaves is one: a pair that is found makes no map
+-- what a finish whose reply has the same text leaves is one: a pair that is found makes no map
 leaves_one : (s : ProgramState) (j : ℕ) (q : ScriptQuestion) (m : Map (List ℕ) ℤ) (a b : ProgramAnswer) → IsAsked q → IsPlainMap m → answers q m a → answers q m b → IsInOrder a → IsInOrder b
     → outcome_text (finished (plain.summary a)) ≡ outcome_text (finished (plain.summary b)) → finished_in s j (record { query = q; frozen = m }) a ≡ finished_in s j (record { query = q; frozen = m }) b
 leaves_one s j (find test) m a b asked all x y hn hk text = refl
 leaves_one s j (paired f to) m a b asked all x y hn hk text = ap (finished_in s j (record { query = paired f to; frozen = m })) (same_images f to m a b asked all x y hn hk text)
 leaves_one s j q m a b asked all x y hn hk text = let one = is_the_answer q m a refl x in let other = is_the_answer q m b refl y in ap (finished_in s j (record { query = q; frozen = m })) (one ∙ sym other)
 
--- an open job that is told the same text is finished in one state
+-- an open job whose reply has the same text is finished in one state
 finishes_leave_one : (s t u : ProgramState) (j : ℕ) (b c : ProgramSummary) → HasPlainMaps s → outcome_text (finished b) ≡ outcome_text (finished c) → Finishes program s j b t → Finishes program s j c u → t ≡ u
 finishes_leave_one s t u j b c plains text f k =
     let named : Some f.job ≡ Some k.job = sym f.named ∙ k.named in
@@ -85,11 +81,11 @@ one_finish s t u j o p plains text filed too (inl (e, a, b, d)) (inl (f, a', b',
 one_finish s t u j o p plains text filed too (inl (e, a, b, d)) (inr (none, g)) = let same : Some e ≡ None = sym b ∙ none in cc
 one_finish s t u j o p plains text filed too (inr (none, g)) (inl (e, a, b, d)) = let same : Some e ≡ None = sym b ∙ none in cc
 one_finish s t u j o p plains text filed too (inr (none, g)) (inr (other, k)) =
-    let f = finish_told s j o t filed g in
-    let h = finish_told s j p u too k in
+    let f = finish_outcome s j o t filed g in
+    let h = finish_outcome s j p u too k in
     finishes_leave_one s t u j f.0 h.0 plains (sym (ap outcome_text f.1) ∙ text ∙ ap outcome_text h.1) f.2 h.2
 
--- what a filed step of a lawful request that is told the same text leaves is one state
+-- what a filed step of a lawful request whose reply has the same text leaves is one state
 pub one_state : (r : ProgramRequest) (s t u : ProgramState) (o p : ProgramOutcome) → HasPlainMaps s → IsLawfulRequest r → outcome_text o ≡ outcome_text p → is_filed o ≡ true → is_filed p ≡ true → Step program s r o t → Step program s r p u → t ≡ u
 one_state (finish j) s t u o p plains lawful text filed too step trod = one_finish s t u j o p plains text filed too (settled s (finish j) o t step) (settled s (finish j) p u trod)
 one_state worker_step s t u o p plains lawful text filed too step trod = absurd lawful

@@ -18,7 +18,7 @@ use Rattle.questions.specs.Queries.{ScriptQuestion}
 use Rattle.questions.proofs.OneStep.{Settled, settled, refused_in, one_open, one_snapshot, one_reply, one_drop, one_abandon, one_freeze, one_view}
 use Rattle.audit.specs.Runs.{MayBeAsked}
 use Rattle.audit.proofs.MapLemmas.{Each, each_put, each_without, each_at, each_weaker}
-use Rattle.audit.proofs.OneState.{finish_told}
+use Rattle.audit.proofs.OneState.{finish_outcome}
 
 -- a job of the program
 abbrev pub ProgramJob : Type 0
@@ -144,7 +144,7 @@ granted_has_room s (view h) o t may filed k (none, g) = subst HasRoom (sym (one_
 granted_has_room s (freeze h q) o t may filed k (none, g) =
     subst HasRoom (sym (one_freeze s h q o t g).1) (one_opened s _ k (places_for s (freeze h q) k refl none))
 granted_has_room s (finish j) o t may filed k (none, g) =
-    let f = (finish_told s j o t filed g).2 in
+    let f = (finish_outcome s j o t filed g).2 in
     subst HasRoom (sym f.left) (one_closed s _ j f.job k f.named)
 granted_has_room s (abandon j) o t may filed k (none, g) =
     subst HasRoom (sym (one_abandon s j o t g).1) (one_closed s s.live j _ k (open_job (job_at s j) none).1)

@@ -1,10 +1,10 @@
 -- Texts parted at their last space.
-use Prim.Native.Nat.{zero, suc}
-use Rattle.std.proofs.Common.{◌≡◌, ◌≢◌, Bool, true, false, ℕ, ◌+◌, ◌/◌, ◌%◌, ◌∙◌, length, List, [], ◌∷◌, ◌++◌, refl, sym, ap, subst, arith, append_assoc}
-use Rattle.std.specs.Prelude.{ℤ, pos, negsuc, ◌==◌, if◌then◌else◌, nat_lt}
-use Rattle.std.specs.Fmt.{decimal, signed_decimal, digit_glyph, digits, digits_onto}
+use Prim.Native.Nat.{suc}
+use Rattle.std.proofs.Common.{◌≡◌, ◌≢◌, Bool, true, false, ℕ, ◌+◌, ◌∙◌, length, List, [], ◌∷◌, ◌++◌, refl, sym, ap, subst, arith, append_assoc}
+use Rattle.std.specs.Prelude.{ℤ, pos, negsuc, if◌then◌else◌, nat_lt}
+use Rattle.std.specs.Fmt.{decimal, signed_decimal, digits}
 use Rattle.audit.proofs.ByteLemmas.{EachByte, each_digit}
-use Rattle.audit.specs.Telling.{IsSpaceless, IsFront, HasNoFront}
+use Rattle.audit.specs.ReplyParts.{IsSpaceless, IsFront, HasNoFront}
 
 pub space_inside : (xs ys : List ℕ) → IsSpaceless (xs ++ 32 ∷ ys) → ⊥
 space_inside [] ys h = h.0 refl

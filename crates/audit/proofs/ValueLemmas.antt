@@ -13,8 +13,8 @@ use Rattle.versions.specs.Map.{IsMap, value_at, with_pair}
 use Rattle.keys.specs.Order.{bytes_cmp}
 use Rattle.script.specs.Replies.{pair_text, text_of}
 use Rattle.script.specs.declared.reply.LineReply.TheVariants as replies
-use Rattle.audit.specs.Telling.{IsSpaceless}
-use Rattle.audit.specs.Images.{StartsSpaced, IsParted, IsValueOf, HasNoValue, HaveSameKeys, WasRead, AreValuesTold, IsBehind, IsFromSpace, IsReadInto, LacksBehind}
+use Rattle.audit.specs.ReplyParts.{IsSpaceless}
+use Rattle.audit.specs.Images.{StartsSpaced, IsParted, IsValueOf, HasNoValue, HaveSameKeys, WasRead, AreValuesInReply, IsBehind, IsFromSpace, IsReadInto, LacksBehind}
 use Rattle.audit.proofs.SpaceLemmas.{signed_spaceless}
 use Rattle.audit.proofs.PairLemmas.{ScriptMap, rises, map_behind}
 use Rattle.audit.proofs.KeyedMaps.{put_other, put_here, first_of, later_of, spaced_pairs, one_parted, pairs_text}
@@ -41,7 +41,7 @@ abbrev pub IsFollowed : ScriptMap → List ℕ → ScriptMap → ScriptMap → L
 IsFollowed w reply todo told left = (n : ScriptMap) → IsMap bytes_cmp n → HaveSameKeys n w → reply ≡ text_of (replies.Pairs n) → Follows n todo told left
 
 -- a text that does not begin so tells no map
-pub no_pairs : (w told : ScriptMap) (reply : List ℕ) → pointwise ◌==◌ (take 5 reply) (codes "pairs") ≡ false → AreValuesTold w reply told
+pub no_pairs : (w told : ScriptMap) (reply : List ℕ) → pointwise ◌==◌ (take 5 reply) (codes "pairs") ≡ false → AreValuesInReply w reply told
 no_pairs w told reply h n hn keys e = let bad : true ≡ false = ap (λ (r : List ℕ). pointwise ◌==◌ (take 5 r) (codes "pairs")) (sym e) ∙ h in cc
 
 pub reading_begun : (w : ScriptMap) (reply left : List ℕ) → left ≡ drop 5 reply → IsFollowed w reply w [] left
@@ -63,8 +63,8 @@ first_left k v n todo told left f = by f.behind f.all f.keys f.text
       text ∙ pairs_text x rest ∙ ap (λ (key : List ℕ). 32 ∷ key ++ (61 ∷ signed_decimal x.1 ++ flat_map pair_text rest)) keys.0,
     )
 
--- where no pair of the key stands first, no such map is told
-pub none_left : (k : List ℕ) (v : ℤ) (w todo told : ScriptMap) (reply left : List ℕ) → IsFollowed w reply ((k, v) ∷ todo) told left → HasNoValue k left → AreValuesTold w reply told
+-- where no pair of the key stands first, the text shows no such map
+pub none_left : (k : List ℕ) (v : ℤ) (w todo told : ScriptMap) (reply left : List ℕ) → IsFollowed w reply ((k, v) ∷ todo) told left → HasNoValue k left → AreValuesInReply w reply told
 none_left k v w todo told reply left h none n hn keys e =
     let p = first_left k v n todo told left (h n hn keys e) in
     absurd (none (signed_decimal p.0) (flat_map pair_text p.1) (signed_spaceless p.0) (spaced_pairs p.1) p.4)
@@ -122,7 +122,7 @@ none_read k v w todo told reply left value behind h is none n hn keys e =
     }
 
 -- all keys were read
-pub all_read : (w told : ScriptMap) (reply left : List ℕ) → IsFollowed w reply [] told left → AreValuesTold w reply told
+pub all_read : (w told : ScriptMap) (reply left : List ℕ) → IsFollowed w reply [] told left → AreValuesInReply w reply told
 all_read w told reply left h n hn keys e = let f = h n hn keys e in by f.behind f.all f.keys
   where
     nil : (xs : ScriptMap) → xs ++ [] ≡ xs
@@ -146,7 +146,7 @@ behind_bytes : (p more : List ℕ) → drop (length p) (p ++ more) ≡ more
 behind_bytes [] more = refl
 behind_bytes (b ∷ p) more = behind_bytes p more
 
--- a text that begins with the bytes is told to begin so
+-- a text that begins with the bytes is known to begin so
 pub strips : (p bytes more : List ℕ) → bytes ≡ p ++ more → pointwise ◌==◌ (take (length p) bytes) p ≡ true
 strips p bytes more is = ap (λ (b : List ℕ). pointwise ◌==◌ (take (length p) b) p) is ∙ same_bytes p more
 

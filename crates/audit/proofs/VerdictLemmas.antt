@@ -3,14 +3,14 @@ use Prim.Native.Nat.{zero, suc}
 use Rattle.std.proofs.Common.{◌≡◌, ℕ, ◌+◌, ◌-◌, ◌<◌, ◌≤◌, ◌∙◌, ◌⊎◌, inl, inr, List, [], ◌∷◌, length, take, refl, sym, ap, subst, arith}
 use Rattle.std.specs.List.{flat_map}
 use Rattle.std.proofs.lemmas.Bool.{cases_lt}
-use Rattle.handles.specs.Machine.{nothing, open_handle, snapshot, drop_handle, on, view, freeze, finish, abandon, worker_step}
-use Rattle.questions.specs.Program.{ProgramState, ProgramRequest, largest}
+use Rattle.handles.specs.Machine.{nothing}
+use Rattle.questions.specs.Program.{ProgramState, largest}
 use Rattle.journal_lines.specs.Lines.{ended, end_line, lines_in}
 use Rattle.journal_lines.proofs.NewlineLemmas.{first_line, line_one, end_one}
-use Rattle.journal_text.specs.Calls.{IsLawfulRequest, call_text, outcome_text}
+use Rattle.journal_text.specs.Calls.{call_text, outcome_text}
 use Rattle.journal_text.specs.Entries.{ProgramEntry, entry_line, lines_behind, text_of_journal}
 use Rattle.audit.specs.Verdicts.{AreLawful, IsLegalJournal, IsLegalText, BeginsLegally, IsBad}
-use Rattle.audit.specs.Runs.{MayBeAsked, HasOneVerdict}
+use Rattle.audit.specs.Runs.{HasOneVerdict}
 use Rattle.audit.specs.declared.verdict.Verdict.TheVariants.{Legal, Bad}
 use Rattle.audit.proofs.OneState.{step_counts}
 use Rattle.audit.proofs.OneText.{may_be_asked}

@@ -47,8 +47,8 @@ abbrev pub IsTextOf : ProgramOutcome → List ℕ → Type 0
 IsTextOf o text = (is_filed o ≡ true) × (text ≡ outcome_text o)
 
 -- no answer that the question may have has this text
-abbrev pub NoneTold : ScriptQuestion → Map (List ℕ) ℤ → List ℕ → Type 0
-NoneTold q m reply = (a : ProgramAnswer) → answers q m a → IsInOrder a → reply ≡ outcome_text (finished (plain.summary a)) → ⊥
+abbrev pub NoneInReply : ScriptQuestion → Map (List ℕ) ℤ → List ℕ → Type 0
+NoneInReply q m reply = (a : ProgramAnswer) → answers q m a → IsInOrder a → reply ≡ outcome_text (finished (plain.summary a)) → ⊥
 
 -- the reply is there, and has this text
 abbrev pub IsShownAs : Option LineReply → List ℕ → Type 0

@@ -1,5 +1,5 @@
--- What a text may tell of a map of images.
-use Rattle.std.specs.Prelude.{◌≡◌, ◌≢◌, ◌⊎◌, ℕ, ℤ, List, [], ◌∷◌, ◌++◌, Some, Contains, FitsSigned, flat_map, codes}
+-- What a text may show of a map of images.
+use Rattle.std.specs.Prelude.{◌≡◌, ◌≢◌, ◌⊎◌, ℕ, ℤ, List, [], ◌∷◌, ◌++◌, Some, Contains, FitsSigned}
 use Rattle.std.specs.Int.{w64}
 use Rattle.std.specs.Fmt.{signed_decimal}
 use Rattle.versions.specs.Map.{Map, IsMap, value_at, with_pair}
@@ -7,7 +7,7 @@ use Rattle.keys.specs.Order.{bytes_cmp}
 use Rattle.script.specs.Replies.{text_of}
 use Rattle.script.specs.declared.reply.LineReply.TheVariants as replies
 use Rattle.bulk_ops.specs.Answers.{IsImage, image}
-use Rattle.audit.specs.Telling.{IsSpaceless}
+use Rattle.audit.specs.ReplyParts.{IsSpaceless}
 
 -- a space stands first, if anything does
 abbrev pub StartsSpaced : List ℕ → Type 0
@@ -34,26 +34,26 @@ HaveSameKeys m n = ⊥
 
 -- each value of the map that is in the range of i64 was read
 abbrev pub WasRead : Map (List ℕ) ℤ → Map (List ℕ) ℤ → Type 0
-WasRead told [] = Unit {0}
-WasRead told (x ∷ n) = (FitsSigned w64 x.1 → value_at bytes_cmp told x.0 ≡ Some x.1) × WasRead told n
+WasRead seen [] = Unit {0}
+WasRead seen (x ∷ n) = (FitsSigned w64 x.1 → value_at bytes_cmp seen x.0 ≡ Some x.1) × WasRead seen n
 
 -- of a map with the keys of w that the text gives, each such value was read
-abbrev pub AreValuesTold : Map (List ℕ) ℤ → List ℕ → Map (List ℕ) ℤ → Type 0
-AreValuesTold w reply told = (n : Map (List ℕ) ℤ) → IsMap bytes_cmp n → HaveSameKeys n w → reply ≡ text_of (replies.Pairs n) → WasRead told n
+abbrev pub AreValuesInReply : Map (List ℕ) ℤ → List ℕ → Map (List ℕ) ℤ → Type 0
+AreValuesInReply w reply seen = (n : Map (List ℕ) ℤ) → IsMap bytes_cmp n → HaveSameKeys n w → reply ≡ text_of (replies.Pairs n) → WasRead seen n
 
 -- the image of the pair is in the range of i64, and the map has it where it was read
 abbrev pub HasIfRead : (List ℕ → ℤ → List ℕ × ℤ) → Map (List ℕ) ℤ → Map (List ℕ) ℤ → List ℕ × ℤ → Type 0
-HasIfRead f told w x = FitsSigned w64 (image f x).1 × (value_at bytes_cmp told (image f x).0 ≡ Some (image f x).1 → value_at bytes_cmp w (image f x).0 ≡ Some (image f x).1)
+HasIfRead f seen w x = FitsSigned w64 (image f x).1 × (value_at bytes_cmp seen (image f x).0 ≡ Some (image f x).1 → value_at bytes_cmp w (image f x).0 ≡ Some (image f x).1)
 
 -- w is a map of the images of m, and has each image that was read
-pub record HasAllRead (f : List ℕ → ℤ → List ℕ × ℤ) (m told w : Map (List ℕ) ℤ) : Type 0 where
+pub record HasAllRead (f : List ℕ → ℤ → List ℕ × ℤ) (m seen w : Map (List ℕ) ℤ) : Type 0 where
   pub image : IsImage f m w
   pub sorted : IsMap bytes_cmp w
-  pub read : (x : List ℕ × ℤ) → Contains m x → HasIfRead f told w x
+  pub read : (x : List ℕ × ℤ) → Contains m x → HasIfRead f seen w x
 
 -- the pair is put, if it was read
 abbrev pub IsPutIfRead : Map (List ℕ) ℤ → List ℕ × ℤ → Map (List ℕ) ℤ → Map (List ℕ) ℤ → Type 0
-IsPutIfRead told r old new = ((value_at bytes_cmp told r.0 ≡ Some r.1) × (new ≡ with_pair bytes_cmp old r.0 r.1)) ⊎ ((value_at bytes_cmp told r.0 ≡ Some r.1 → ⊥) × (new ≡ old))
+IsPutIfRead seen r old new = ((value_at bytes_cmp seen r.0 ≡ Some r.1) × (new ≡ with_pair bytes_cmp old r.0 r.1)) ⊎ ((value_at bytes_cmp seen r.0 ≡ Some r.1 → ⊥) × (new ≡ old))
 
 -- the value of the key that is spelled so is put, if it is in the range of i64
 abbrev pub IsReadInto : Map (List ℕ) ℤ → List ℕ → List ℕ → Map (List ℕ) ℤ → Type 0

@@ -1,6 +1,6 @@
 pub mod Verdicts
 pub mod Answers
 pub mod Reading
-pub mod Telling
+pub mod ReplyParts
 pub mod Images
 pub mod Runs

@@ -1,10 +1,9 @@
 -- What a run of a script may ask, and the laws of verdicts.
 use Rattle.std.specs.Prelude.{◌≡◌, ℕ, ◌<◌, List, [], ◌∷◌, length}
-use Rattle.handles.specs.Machine.{open_handle, snapshot, drop_handle, on, view, freeze, finish, abandon, worker_step}
+use Rattle.handles.specs.Machine.{finish, abandon}
 use Rattle.journal.specs.Journals.{IsLegal}
 use Rattle.script.specs.declared.limits.TheConstants.{MOST_CLIENTS}
 use Rattle.script.specs.declared.statement.Statement.{Statement}
-use Rattle.script.specs.declared.statement.Statement.TheVariants.{PutIfAbsent}
 use Rattle.script.specs.Statements.{IsLawful}
 use Rattle.questions.specs.Program.{program, ProgramState, ProgramRequest, largest, request_for}
 use Rattle.journal_text.specs.Calls.{IsLawfulRequest}

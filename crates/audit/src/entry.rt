@@ -1,6 +1,6 @@
 //! The lines of entries, and the last line.
 
-ghost use Rattle.std.specs.Prelude.{◌≡◌, ◌++◌, ◌∷◌, [], ◌↔◌, false, IfOk, IsTrue, List, MatchBool, MatchOption, ℕ};
+ghost use Rattle.std.specs.Prelude.{◌≡◌, ◌↔◌, false, IfOk, IsTrue, List, MatchBool, MatchOption, ℕ};
 ghost use Rattle.journal_lines.specs.Lines.{end_line, ended};
 ghost use Rattle.audit.specs.Answers.{IsNext, IsNoneNext};
 

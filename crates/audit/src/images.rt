@@ -13,12 +13,12 @@ ghost use Rattle.bulk_ops.specs.Queries.{answer_of};
 ghost use Rattle.handles.specs.Machine.{finished};
 ghost use Rattle.questions.specs.Queries.{IsPartFor, paired};
 ghost use Rattle.journal_text.specs.Calls.{outcome_text};
-ghost use Rattle.audit.specs.Answers.{NoneTold};
+ghost use Rattle.audit.specs.Answers.{NoneInReply};
 ghost use Rattle.audit.specs.Images.{HasAllRead, IsPutIfRead};
 
 use crate::judging::is_shown_as;
-use crate::telling::part_of;
-use crate::values::{Values, values_told};
+use crate::reply_parts::part_of;
+use crate::values::{Values, values_in_reply};
 use arguments::{MapKey, PairMapping};
 use bulk_ops::{Asks, Part};
 use iter::pairs;
@@ -35,8 +35,8 @@ use versions::{NoMemory, Refusal, Version, View};
 /// A map that answers has the keys of every other one, in the same order. So the values that the text gives for those
 /// keys are read, and each image whose value was read is put into some map that answers: it is then the one that the
 /// text gives, if it gives any, and its text is compared.
-#[tactic(auto, using(crate::proofs::TellingLemmas::images_for, crate::proofs::TellingLemmas::images_none))]
-pub fn images_told(
+#[tactic(auto, using(crate::proofs::ReplyPartLemmas::images_for, crate::proofs::ReplyPartLemmas::images_none))]
+pub fn images_in_reply(
     alloc: Global,
     mapping: &PairMapping,
     query: &ScriptQuery,
@@ -44,10 +44,10 @@ pub fn images_told(
     reply: &[u8],
 ) -> Result<Option<ScriptPart>, NoMemory>
     requires { (to : ℕ) × (query.now ≡ paired mapping.now to) }
-    ensures { IfOk result (λ found. MatchOption found (NoneTold query.now view.now reply.now) (λ part. IsPartFor query.now view.now part × (reply.now ≡ outcome_text (finished (plain.summary (answer_of part)))))) }
+    ensures { IfOk result (λ found. MatchOption found (NoneInReply query.now view.now reply.now) (λ part. IsPartFor query.now view.now part × (reply.now ≡ outcome_text (finished (plain.summary (answer_of part)))))) }
 {
     let some = some_images(alloc, mapping, query, view)?;
-    let read = values_told(alloc, &some, reply)?;
+    let read = values_in_reply(alloc, &some, reply)?;
     let map = with_read(alloc, mapping, view, some, &read)?;
     let images = map.view()?;
     let shown = LineReply::Pairs(listing_of(alloc, &images)?);
@@ -59,7 +59,7 @@ pub fn images_told(
 }
 
 /// Some map that answers the query for the map.
-#[tactic(auto, using(crate::proofs::TellingLemmas::made_of))]
+#[tactic(auto, using(crate::proofs::ReplyPartLemmas::made_of))]
 fn some_images(
     alloc: Global,
     _mapping: &PairMapping,

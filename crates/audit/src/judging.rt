@@ -9,7 +9,7 @@ ghost use Rattle.handles.specs.Views.{frozen_outcome, lacks_memory, outcome_of, 
 ghost use Rattle.journal.specs.Answers.{answered, asked_of};
 ghost use Rattle.audit.specs.Answers.{Answers, IsReplyTo, IsShownAs, IsTextOf, NoneAnswers, is_want};
 
-use crate::telling::part_told;
+use crate::reply_parts::part_in_reply;
 use handles::{Call, CallReply, Table, is_entry};
 use journal::Asked;
 use journal_text::ProgramAsked;
@@ -96,7 +96,7 @@ fn finished(
     let Some((query, view)) = table.open_job(job) else {
         return Ok(false);
     };
-    let Some(part) = part_told(alloc, query, view, reply)? else {
+    let Some(part) = part_in_reply(alloc, query, view, reply)? else {
         return Ok(false);
     };
     Ok(table.finish(job, part).is_ok())

@@ -10,7 +10,7 @@ mod images;
 mod judging;
 mod laws;
 mod pairs;
-mod telling;
+mod reply_parts;
 mod values;
 mod verdict;
 

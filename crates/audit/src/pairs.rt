@@ -1,7 +1,7 @@
 //! The pair that a reply gives.
 
-ghost use Rattle.std.specs.Prelude.{IfOk, List, MatchOption, ℕ};
-ghost use Rattle.audit.specs.Telling.{HasNoFront, IsFront, IsKeyTold, IsPairAt, NonePairAt, TellsNoPair};
+ghost use Rattle.std.specs.Prelude.{IfOk, MatchOption};
+ghost use Rattle.audit.specs.ReplyParts.{HasNoFront, IsFront, IsKeyInReply, IsPairAt, NonePairAt, TellsNoPair};
 
 use arguments::Test;
 use bulk_ops::Part;
@@ -12,9 +12,9 @@ use std::sync::Arc;
 use versions::{NoMemory, View};
 
 /// The key of the pair that the text gives, if it may give one.
-#[tactic(auto, using(crate::proofs::TellingLemmas::no_prefix, crate::proofs::TellingLemmas::key_parted))]
-pub fn key_told(reply: &[u8]) -> Option<&[u8]>
-    ensures { MatchOption result (TellsNoPair reply.now) (λ key. IsKeyTold reply.now key.now) }
+#[tactic(auto, using(crate::proofs::ReplyPartLemmas::no_prefix, crate::proofs::ReplyPartLemmas::key_parted))]
+pub fn key_in_reply(reply: &[u8]) -> Option<&[u8]>
+    ensures { MatchOption result (TellsNoPair reply.now) (λ key. IsKeyInReply reply.now key.now) }
 {
     let pair = reply.strip_prefix(b"pair ")?;
     front_of(pair)

@@ -3,7 +3,7 @@
 ghost use Rattle.std.specs.Prelude.{◌≡◌, ◌≤◌, IfOk, MatchOption, OnOk, length};
 ghost use Rattle.keys.specs.Order.{bytes_cmp};
 ghost use Rattle.versions.specs.Map.{with_pair};
-ghost use Rattle.audit.specs.Images.{AreValuesTold, HasNoValue, IsBehind, IsFromSpace, IsParted, IsReadInto, IsValueOf, LacksBehind};
+ghost use Rattle.audit.specs.Images.{AreValuesInReply, HasNoValue, IsBehind, IsFromSpace, IsParted, IsReadInto, IsValueOf, LacksBehind};
 
 use arguments::{MapKey, value_of};
 use iter::pairs_of;
@@ -20,25 +20,25 @@ pub type Values = BTreeMap<MapKey, i64>;
 /// The values that the text gives for the keys of the map, where it is that of a map that has these keys alone.
 ///
 /// The keys are known, so a text is read in one way, even where keys have spaces or equals signs.
-pub fn values_told(
+pub fn values_in_reply(
     alloc: Global,
     map: &Version<ByteText, i64>,
     reply: &[u8],
 ) -> Result<Values, NoMemory>
-    ensures { IfOk result (λ told. AreValuesTold map.now.entries reply.now told.entries) }
+    ensures { IfOk result (λ values. AreValuesInReply map.now.entries reply.now values.entries) }
 {
-    let mut told = BTreeMap::new(alloc);
+    let mut values = BTreeMap::new(alloc);
     let Some(mut left) = reply.strip_prefix(b"pairs") else {
-        return Ok(told);
+        return Ok(values);
     };
     for (key, _) in sorted_of(alloc, map)? {
         let Some((spelled, behind)) = value_behind(key.as_slice(), left) else {
-            return Ok(told);
+            return Ok(values);
         };
-        put_spelled(&mut told, key, spelled)?;
+        put_spelled(&mut values, key, spelled)?;
         left = behind;
     }
-    Ok(told)
+    Ok(values)
 }
 
 /// The pairs of the map, in the order of their keys' bytes. The keys are shared with the map.

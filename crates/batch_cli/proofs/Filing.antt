@@ -26,7 +26,7 @@ use Rattle.script.specs.declared.reply.LineReply.{LineReply}
 use Rattle.script.specs.declared.reply.LineReply.TheVariants.{Found, Refused}
 use Rattle.script_runs.specs.Events.{Event, Ends, Makes}
 use Rattle.questions.specs.Folds.{Item}
-use Rattle.questions.specs.Program.{ProgramAnswer, ProgramSummary, ProgramRequest, ProgramOutcome, or_else_in, reply_to, request_for, told_reply}
+use Rattle.questions.specs.Program.{ProgramAnswer, ProgramSummary, ProgramRequest, ProgramOutcome, or_else_in, reply_to, request_for, summary_reply}
 use Rattle.questions.specs.Queries.{ScriptQuestion}
 use Rattle.batch_cli.specs.Filing.{ProgramSeat, Files, FilesAnswer, FilesJob, FilesOrElse, FilesReply, FilesService, event_of, events_at}
 use Rattle.script_runs.proofs.Ends.{missing_or_done}
@@ -100,13 +100,13 @@ served_by_job s m t r job shown (Err e) adds h = tt
 module _ {P : Type 0} (answers : ScriptQuestion → Map (List ℕ) ℤ → P → Type 0) (answer_of : P → ProgramAnswer) (h : ℕ) (q : ScriptQuestion) where
   -- what a bulk call tells is shown by the finish of the job that its freeze opened
   told_by_job : (s m t : ProgramSeat) (opened : Result (Ticketed (List ℕ) ℤ ScriptQuestion) Refusal) (answer : Answer (List ℕ) ℤ Item) → Adds s (freeze h q) (answered ticket_outcome opened) m → EndsBulk answers answer_of m opened (Ok answer) t
-      → FilesService s (freeze h q) (told_reply (summary_of answer)) t
+      → FilesService s (freeze h q) (summary_reply (summary_of answer)) t
   told_by_job s m t (Err e) answer freezes (other, stays) = cc
   told_by_job s m t (Ok ticket) answer freezes (adds, told) =
       inr (ticket.job, ticket.frozen, finished (summary_of answer), then_filed s m t ((freeze h q, frozen ticket.job ticket.frozen) ∷ []) ((finish ticket.job, finished (summary_of answer)) ∷ []) (filed s (freeze h q) (frozen ticket.job ticket.frozen) m freezes refl) (filed m (finish ticket.job) (finished (summary_of answer)) t adds refl), refl)
 
-  pub bulk_told : (s t : ProgramSeat) (answer : Answer (List ℕ) ℤ Item) → AddsBulk answers answer_of h q s (Ok answer) t → FilesService s (freeze h q) (told_reply (summary_of answer)) t
-  bulk_told s t answer bulk = told_by_job s bulk.between t bulk.opened answer bulk.freezes bulk.ends
+  pub bulk_returned : (s t : ProgramSeat) (answer : Answer (List ℕ) ℤ Item) → AddsBulk answers answer_of h q s (Ok answer) t → FilesService s (freeze h q) (summary_reply (summary_of answer)) t
+  bulk_returned s t answer bulk = told_by_job s bulk.between t bulk.opened answer bulk.freezes bulk.ends
 
   -- a bulk call that is refused files its freeze alone, if that is refused, and else the finish of its job too
   refused_at_once_or_by_job : {E : Type 0} (s m t : ProgramSeat) (opened : Result (Ticketed (List ℕ) ℤ ScriptQuestion) Refusal) (e : Refusal × Option (Ticketed (List ℕ) ℤ ScriptQuestion)) (result : Result LineReply E) → Adds s (freeze h q) (answered ticket_outcome opened) m
@@ -177,7 +177,7 @@ module _ (handle : ℕ) (key : List ℕ) (value : ℤ) where
   stored s m t o reply first more kept makes_it =
       ((on handle (get key), replied (old None)) ∷ (on handle (put_if_absent key value), o) ∷ [], makes_it, then_filed s m t ((on handle (get key), replied (old None)) ∷ []) ((on handle (put_if_absent key value), o) ∷ []) (filed s (on handle (get key)) (replied (old None)) m first refl) (filed m (on handle (put_if_absent key value)) o t more kept))
 
-  -- a getorelse that is told a value by its second event
+  -- a getorelse whose second event returns a value
   put_found : {Z : Type 0} (s m t : ProgramSeat) (a : Arc ℤ Z) (own : ℤ) (o : ProgramOutcome) → Adds s (on handle (get key)) (replied (old None)) m → own ≡ value → Adds m (on handle (put_if_absent key own)) o t → AnswersPut {K = List ℕ} own o (Ok a) → FilesOrElse s handle key value (Found (arc_value a)) t
   put_found s m t a own (replied (old (Some v))) first is more gives =
       stored s m t (replied (old (Some v))) (Found (arc_value a)) first (subst (λ x. Adds m (on handle (put_if_absent key x)) (replied (old (Some v))) t) is more) refl
@@ -205,7 +205,7 @@ module _ (handle : ℕ) (key : List ℕ) (value : ℤ) where
   put_refused Z s m t e own o kept first is more gives = absurd gives
 
 module _ (makes : ℤ → Type 0) (handle : ℕ) (key : List ℕ) (value : ℤ) (only : (v : ℤ) → makes v → v ≡ value) where
-  -- a getorelse that is told a value
+  -- a getorelse that is returned a value
   or_else_found : {Z : Type 0} (s m t : ProgramSeat) (a : Arc ℤ Z) (o : ProgramOutcome) → Adds s (on handle (get key)) o m → AnswersGet makes handle key m o (Ok a) t → FilesOrElse s handle key value (Found (arc_value a)) t
   or_else_found s m t a (replied (old (Some v))) first (gives, stays) =
       ((on handle (get key), replied (old (Some v))) ∷ [], (replied (old (Some v)), [], refl, (refl, ap (λ (x : ℤ). Some (Found x)) (sym gives))), subst (λ x. Files s ((on handle (get key), replied (old (Some v))) ∷ []) x) (sym stays) (filed s (on handle (get key)) (replied (old (Some v))) m first refl))

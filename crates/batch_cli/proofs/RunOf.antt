@@ -32,14 +32,14 @@ no_clients number asked lines clients none = rw none (λ k c l. absurd (omega ar
 pub one_client_more : {C A : Type 0} (number : C → ℕ) (asked : C → A) (lines : A) (clients new : List C) (c : C) → new ≡ clients ++ c ∷ [] → number c ≡ length clients → asked c ≡ lines → AreClients number asked lines clients → AreClients number asked lines new
 one_client_more number asked lines clients new c is numbered asks h = rw is (listed_more (λ k x. (number x ≡ k) × (asked x ≡ lines)) clients c (numbered, asks) h)
 
--- what a client gives, told of its number and of all lines
+-- what a client gives, said of its number and of all lines
 told_of_lines : {E : Type 0} (n k : ℕ) (asked lines : List CommandLine) (events : List Event) (out : Result (Vec LineReply Global) E) → n ≡ k → asked ≡ lines
     → IfOk out (λ replies. LinesMake (lines_by n asked) events replies.items) → IfOk out (λ replies. LinesMake (lines_by k lines) events replies.items)
 told_of_lines n k asked lines events out number same h =
     subst (λ x. IfOk out (λ replies. LinesMake (lines_by x lines) events replies.items)) number
     (subst (λ xs. IfOk out (λ replies. LinesMake (lines_by n xs) events replies.items)) same h)
 
--- what is told of the entries of a seat is told of those that the journal has of it
+-- what holds of the entries of a seat holds of those that the journal has of it
 told_of_own : {E : Type 0} (k : ℕ) (seat : ProgramSeat) (journal : List ProgramEntry) (end : ProgramState) (lines : List CommandLine) (out : Result (Vec LineReply Global) E) → BearsOut k seat journal end
     → IfOk out (λ replies. LinesMake lines (events_in (pairs seat.list)) replies.items) → IfOk out (λ replies. LinesMake lines (events_in (own k 0 journal)) replies.items)
 told_of_own k seat journal end lines out borne made = subst (λ (entries : List (ℕ × ProgramEntry)). IfOk out (λ replies. LinesMake lines (events_in entries) replies.items)) (sym borne.entries) made

@@ -11,7 +11,7 @@ ghost use Rattle.batch_cli.specs.Filing.{FilesAnswer, FilesOrElse, FilesReply, F
 use handles::{Call, CallReply, is_entry};
 use keys::ByteText;
 use locked_map::{JournalName, Seat, SharedMap};
-use questions::{Ask, ScriptQuery, ask_of, listing_of, reply_shown, told};
+use questions::{Ask, ScriptQuery, ask_of, listing_of, reply_shown, reply_to_answer};
 use script::{LineReply, Statement};
 use std::alloc::Global;
 use std::sync::{Arc, Wait};
@@ -91,7 +91,7 @@ fn worked<J: JournalName, R: Threads + Wait + Sync>(
     ensures { IfOk result (λ reply. FilesService seat.old (freeze handle query) reply seat.new) }
 {
     match map.bulk(rt, seat, handle, Arc::new(alloc, query)?, crew, &Free) {
-        Ok(answer) => Ok(told(answer)),
+        Ok(answer) => Ok(reply_to_answer(answer)),
         Err((refusal, _)) => refused(refusal),
     }
 }

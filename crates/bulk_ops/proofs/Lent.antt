@@ -1,4 +1,4 @@
--- What is told of a part that is lent.
+-- The summary of a part that is lent.
 use Rattle.std.proofs.Common.{◌≡◌, Bool, Option, refl, sym, ap, subst, ◌∙◌}
 use Rattle.std.specs.Prelude.{option_map}
 use Rattle.std.specs.declared.sync.Arc.{Arc}

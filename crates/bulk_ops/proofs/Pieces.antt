@@ -1,7 +1,6 @@
 -- The pairs of a piece.
 use Rattle.std.proofs.Common.{◌≤◌, ℕ, Bool, [], length, arith}
 use Rattle.std.specs.declared.cmp.Ordering.{Ordering}
-use Rattle.std.specs.Cmp.{IsTotalOrder}
 use Rattle.hash_path.specs.Digits.{position}
 use Rattle.iter.specs.declared.interval.Interval.{Interval}
 use Rattle.iter.specs.Intervals.{lies_in, part}

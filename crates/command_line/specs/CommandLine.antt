@@ -75,7 +75,7 @@ journal_in words = first_of (codes "journal") (given_in words)
 abbrev pub file_in : List Text → Option Text
 file_in words = first_of (codes "file") (given_in words)
 
--- the kinds of error that may be told of the words; none where they are a command line
+-- the kinds of error that may be reported of the words; none where they are a command line
 abbrev pub faults_in : List Text → Kinds
 faults_in words = fault_of command_line (codes "trierun" ∷ words)
 

@@ -12,7 +12,7 @@ use Rattle.handles.specs.declared.call.Call.{Call}
 use Rattle.handles.specs.declared.call.Call.TheVariants.{Open, Snapshot, Drop, On}
 use Rattle.core_steps.specs.declared.outcome.Outcome.{Outcome}
 use Rattle.core_steps.specs.Cores.{CoreState, Division, of_client}
-use Rattle.core_steps.specs.Steps.{MayFinish, refused_outcome, call_told, takes_no_memory, view_told}
+use Rattle.core_steps.specs.Steps.{MayFinish, refused_outcome, outcome_of_call, takes_no_memory, outcome_of_view}
 
 -- what holds in any case holds at an error
 pub at_err : {A E P : Type 0} (result : Result A E) → P → OnErr result P
@@ -52,7 +52,7 @@ call_may division s (Drop h) = tt
 call_may division s (On h c) = tt
 
 module _ {K V I : Type 0} (P : Type 0) (result : Result (Outcome K V I) want.NoMemory) where
-  -- what is told of a refusal by the table, where P holds if that is for want of memory
+  -- the outcome of a refusal by the table, where P holds if that is because memory ran out
   pub due_refused : (e : Refusal) → result ≡ refused_outcome e → (lacks_memory {T = Unit {0}} (Err e) ≡ true → P) → OnErr result P
   due_refused e told due = subst (λ r. OnErr r P) (sym told) (by_case e due)
     where
@@ -72,11 +72,11 @@ module _ {K V I : Type 0} (P : Type 0) (result : Result (Outcome K V I) want.NoM
   pub never_wanting : (e : Refusal) → result ≡ refused_outcome e → lacks_memory {T = Unit {0}} (Err e) ≡ false → OnErr result P
   never_wanting e told never = due_refused e told (λ lacks. clash (sym lacks ∙ never))
 
-  -- what is told of a call, and of a view
-  pub due_called : (answer : Result (CallReply V) Refusal) → result ≡ call_told answer → (lacks_memory answer ≡ true → P) → OnErr result P
+  -- the outcome of a call, and of a view
+  pub due_called : (answer : Result (CallReply V) Refusal) → result ≡ outcome_of_call answer → (lacks_memory answer ≡ true → P) → OnErr result P
   due_called (Ok y) told due = subst (λ r. OnErr r P) (sym told) tt
   due_called (Err e) told due = due_refused e told due
 
-  pub due_viewed : (answer : Result (Map K V) Refusal) → result ≡ view_told answer → (lacks_memory answer ≡ true → P) → OnErr result P
+  pub due_viewed : (answer : Result (Map K V) Refusal) → result ≡ outcome_of_view answer → (lacks_memory answer ≡ true → P) → OnErr result P
   due_viewed (Ok m) told due = subst (λ r. OnErr r P) (sym told) tt
   due_viewed (Err e) told due = due_refused e told due

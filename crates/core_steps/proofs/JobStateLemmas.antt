@@ -10,7 +10,6 @@ use Rattle.std.specs.Cmp.{nat_cmp_total, eq_by_cmp_equiv, nat_cmp_is}
 use Rattle.std.specs.FinMap.Entries.{by_order, below_all, is_sorted, is_sorted-put, is_sorted-where_key}
 use Rattle.std.proofs.lemmas.Bool.Decides.{nat_tests}
 use Rattle.versions.specs.Map.{Map, IsMap, value_at, with_pair, without, is_other}
-use Rattle.core_steps.specs.Boards.{Board}
 use Rattle.core_steps.specs.WorkerValues.{board, state_parts}
 use Rattle.core_steps.specs.JobStates.{JobValue, IsPlaceOf, job_state_of, job_states_of, boards_of, parts_shown, all_parts}
 use Rattle.core_steps.specs.Parts.{parts_of_job, part_at}

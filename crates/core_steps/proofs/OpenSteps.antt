@@ -173,7 +173,7 @@ module _ {K V Q P A I : Type 0} (R : K → K → Ordering) (path : K → ℕ) (a
             both.1,
           )
 
-      -- where it may be collected, a finish of it is not told that it is unfinished
+      -- where it may be collected, a finish of it does not return that it is unfinished
       pub may_finish_here : (d : JobState K V Q P) (q : Q) → d ≡ get_or ps place d → q ≡ arc_value d.query → ((m : Map K V) → IsJobOn R path (answers q) m d.board → MayCollect path (answers q) (Decides q) m d.board)
           → IsUnfinished (divided path Decides) (core_of s (job_states_of ps) w g) j → ⊥
       may_finish_here d q read same may =

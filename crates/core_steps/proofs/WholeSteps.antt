@@ -26,7 +26,7 @@ use Rattle.core_steps.specs.Boards.{Board, worker, first_board, all_worked, Move
 use Rattle.core_steps.specs.Cores as cores
 use Rattle.core_steps.specs.Views.{move_result}
 use Rattle.core_steps.specs.declared.progress.Progress.{Progress}
-use Rattle.core_steps.specs.Cores.{CoreState, Asked, of_client, of_worker, CoreOutcome, to_client, to_worker, no_move, CoreStep, board_of, frozen_map, refusal_of, IsUnfinished, IsSettled}
+use Rattle.core_steps.specs.Cores.{CoreState, of_client, of_worker, to_client, to_worker, no_move, CoreStep, board_of, frozen_map, refusal_of, IsUnfinished, IsSettled}
 use Rattle.core_steps.specs.WorkerValues.{WorkerValue, worker_of, board, state_parts, IsJobOn}
 use Rattle.core_steps.specs.Invariants.{IsBoard, waiting}
 use Rattle.core_steps.specs.Collected.{IsCollected, MayCollect}
@@ -35,7 +35,7 @@ use Rattle.core_steps.specs.JobStates.{JobValue, HasWorkerStates, Fits, IsWhole,
 use Rattle.core_steps.specs.Parts.{PartsMove, PartsMoved, PartsStep}
 use Rattle.core_steps.specs.Queries.{divided}
 use Rattle.core_steps.specs.declared.outcome.Outcome.TheVariants as outcomes
-use Rattle.core_steps.specs.Steps.{IsAnswered, StepsTo, refused_outcome, call_told, view_told}
+use Rattle.core_steps.specs.Steps.{IsAnswered, StepsTo, refused_outcome, outcome_of_call, outcome_of_view}
 use Rattle.core_steps.proofs.KeptBoards.{CutsWithin}
 use Rattle.core_steps.proofs.KeptCores.{step_kept, at_put, at_without, its_board, all_below}
 use Rattle.core_steps.proofs.JobStateLemmas.{same_ties, put_sorted, less_sorted, shown_put, shown_without, shown_at, parts_put, parts_without, parts_here}
@@ -128,7 +128,7 @@ module _ {K V Q P A I : Type 0} (R : K → K → Ordering) (path : K → ℕ) (a
     -- a call
     pub call_whole : OthersKeepJobs kind → (s t : State K V Q) (job_states : Map ℕ (JobValue K V Q P)) (w g : ℕ) (c : Call K V) (answer : Result (CallReply V) Refusal)
         → IsStep kind s (request_of c) call_outcome answer t → Whole s job_states w g
-        → IsAnswered kind (divided path Decides) (value_of s job_states w g) (of_client (request_of c)) (call_told answer) (value_of t job_states w g) × Whole t job_states w g
+        → IsAnswered kind (divided path Decides) (value_of s job_states w g) (of_client (request_of c)) (outcome_of_call answer) (value_of t job_states w g) × Whole t job_states w g
     call_whole keep s t job_states w g c (Ok y) step is =
         let core = call_step s t job_states w g c y step in (
           record { told = to_client (call_outcome y); shown = refl; step = core; parts = call_parts (all_parts job_states) c y },
@@ -139,7 +139,7 @@ module _ {K V Q P A I : Type 0} (R : K → K → Ordering) (path : K → ℕ) (a
     -- a view
     pub view_whole : OthersKeepJobs kind → (s t : State K V Q) (job_states : Map ℕ (JobValue K V Q P)) (w g h : ℕ) (answer : Result (Map K V) Refusal)
         → IsStep kind s (view h) view_outcome answer t → Whole s job_states w g
-        → IsAnswered kind (divided path Decides) (value_of s job_states w g) (of_client (view h)) (view_told answer) (value_of t job_states w g) × Whole t job_states w g
+        → IsAnswered kind (divided path Decides) (value_of s job_states w g) (of_client (view h)) (outcome_of_view answer) (value_of t job_states w g) × Whole t job_states w g
     view_whole keep s t job_states w g h (Ok m) step is =
         let core : CoreStep kind (divided path Decides) (core_of s job_states w g) (of_client (view h)) (to_client (viewed m)) (core_of t job_states w g) = (t, step, tt, refl) in (
           record { told = to_client (viewed m); shown = refl; step = core; parts = refl },

@@ -21,9 +21,9 @@ use Rattle.core_steps.proofs.Covers.{once}
 use Rattle.core_steps.proofs.WorkerLemmas.{worker_is, read_same, still_there, with_held_is}
 
 -- a flag that is true exactly where something is so tells the truth
-pub truly_told : (b : Bool) (D : Type 0) → (b ≡ true) ↔ D → MatchBool b D (D → ⊥)
-truly_told true D iff = iff.0 refl
-truly_told false D iff = λ d. let e = iff.1 d in cc
+pub tells_truly : (b : Bool) (D : Type 0) → (b ≡ true) ↔ D → MatchBool b D (D → ⊥)
+tells_truly true D iff = iff.0 refl
+tells_truly false D iff = λ d. let e = iff.1 d in cc
 
 -- a position that lies in one of some intervals is covered
 any_cover : (is : List Interval) (p : ℕ) → list_any (λ i. lies_in i p) is ≡ true → 1 ≤ cover is p
@@ -202,5 +202,5 @@ module _ {K V P : Type 0} (R : K → K → Ordering) (path : K → ℕ)
           told_is = ap (λ (n : Map K V). done p.interval.lo p.interval.hi (length (part path n p.interval)) settled) of_map;
           left = refl;
           answered = all;
-          truly = truly_told settled (D (parts path m (d.worked ++ p.interval ∷ []))) (exact (parts path m (d.worked ++ p.interval ∷ [])) all);
+          truly = tells_truly settled (D (parts path m (d.worked ++ p.interval ∷ []))) (exact (parts path m (d.worked ++ p.interval ∷ [])) all);
         }

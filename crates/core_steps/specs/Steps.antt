@@ -1,5 +1,5 @@
 -- How the steps of a core and their outcomes appear to its definitions.
-use Rattle.std.specs.Prelude.{◌≡◌, ℕ, Bool, List, [], ◌∷◌, Option, Result, Ok, Err, true, false}
+use Rattle.std.specs.Prelude.{◌≡◌, ℕ, Bool, List, [], ◌∷◌, Option, Result, Ok, Err, false}
 use Rattle.std.specs.Arc.{arc_value}
 use Rattle.versions.specs.Map.{Map}
 use Rattle.versions.specs.declared.refusal.Refusal.{Refusal}
@@ -8,7 +8,7 @@ use Rattle.trie_shape.specs.declared.no_memory.NoMemory.{NoMemory}
 use Rattle.bulk_ops.specs.Answers as plain
 use Rattle.bulk_ops.specs.Summaries.{summary_of}
 use Rattle.handles.specs.declared.call_reply.CallReply.{CallReply}
-use Rattle.handles.specs.Machine.{Kind, Request, view, freeze, finish, abandon, made, viewed, frozen, finished, unfinished, Run}
+use Rattle.handles.specs.Machine.{Kind, view, freeze, finish, abandon, made, viewed, frozen, finished, unfinished, Run}
 use Rattle.handles.specs.Machine as machine
 use Rattle.handles.specs.Views.{request_of, call_outcome}
 use Rattle.iter.specs.Intervals.{AreApart}
@@ -63,14 +63,14 @@ refused_outcome refusals.NoMemory = Err (record {})
 refused_outcome e = Ok (outcomes.Refused e)
 
 -- what a call is answered
-abbrev pub call_told : {K V I : Type 0} → Result (CallReply V) Refusal → Result (Outcome K V I) NoMemory
-call_told (Ok y) = Ok (outcomes.Reply y)
-call_told (Err e) = refused_outcome e
+abbrev pub outcome_of_call : {K V I : Type 0} → Result (CallReply V) Refusal → Result (Outcome K V I) NoMemory
+outcome_of_call (Ok y) = Ok (outcomes.Reply y)
+outcome_of_call (Err e) = refused_outcome e
 
 -- what a view is answered
-abbrev pub view_told : {K V I : Type 0} → Result (Map K V) Refusal → Result (Outcome K V I) NoMemory
-view_told (Ok m) = Ok (outcomes.View m)
-view_told (Err e) = refused_outcome e
+abbrev pub outcome_of_view : {K V I : Type 0} → Result (Map K V) Refusal → Result (Outcome K V I) NoMemory
+outcome_of_view (Ok m) = Ok (outcomes.View m)
+outcome_of_view (Err e) = refused_outcome e
 
 -- the refusal that is due to what is asked, if one is: a client's is the machine's, a worker's the core's
 abbrev pub refusal_due : {K V Q A B : Type 0} → Kind K V Q A B → CoreState K V Q → Asked K V Q → Option Refusal

@@ -1,5 +1,5 @@
 //! The open jobs of a core.
-ghost use Rattle.std.specs.Prelude.{◌≡◌, ◌<◌, IfNone, IfSome, None, Some, vec_len, slice_index_or, length};
+ghost use Rattle.std.specs.Prelude.{◌≡◌, ◌<◌, IfNone, IfSome, None, Some};
 ghost use Rattle.std.specs.Ordering.{nat_cmp};
 ghost use Rattle.versions.specs.Map.{value_at, without};
 ghost use Rattle.core_steps.specs.JobStates.{IsPlaceOf, job_states_of};

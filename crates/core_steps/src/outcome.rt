@@ -1,6 +1,6 @@
 //! What a core answers.
 ghost use Rattle.std.specs.Prelude.{◌≡◌};
-ghost use Rattle.core_steps.specs.Steps.{call_told, refused_outcome, view_told};
+ghost use Rattle.core_steps.specs.Steps.{outcome_of_call, refused_outcome, outcome_of_view};
 
 use crate::progress::Progress;
 use bulk_ops::Answer;
@@ -50,7 +50,7 @@ pub(crate) fn refused<K: PathKey, V, I>(refusal: Refusal) -> Result<Outcome<K, V
 pub(crate) fn call_outcome<K: PathKey, V, I>(
     answer: Result<CallReply<V>, Refusal>,
 ) -> Result<Outcome<K, V, I>, NoMemory>
-    ensures { result ≡ call_told answer }
+    ensures { result ≡ outcome_of_call answer }
 {
     match answer {
         Ok(reply) => Ok(Outcome::Reply(reply)),
@@ -62,7 +62,7 @@ pub(crate) fn call_outcome<K: PathKey, V, I>(
 pub(crate) fn view_outcome<K: PathKey, V, I>(
     answer: Result<View<K, V>, Refusal>,
 ) -> Result<Outcome<K, V, I>, NoMemory>
-    ensures { result ≡ view_told answer }
+    ensures { result ≡ outcome_of_view answer }
 {
     match answer {
         Ok(view) => Ok(Outcome::View(view)),

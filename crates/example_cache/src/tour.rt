@@ -34,7 +34,7 @@ pub fn tour<R: Runtime + AllocGlobal + Threads + Wait + Sync>(rt: &R) -> Result<
     // A snapshot keeps what the cache has now. One thread counts it while the others write other numbers.
     let taken = cache.snapshot(rt)?;
     let snapshot = &taken;
-    for told in thread::map_indices(
+    for outcome in thread::map_indices(
         rt,
         alloc,
         THREADS,
@@ -46,7 +46,7 @@ pub fn tour<R: Runtime + AllocGlobal + Threads + Wait + Sync>(rt: &R) -> Result<
             Ok(0)
         },
     )? {
-        let count = told?;
+        let count = outcome?;
         if count != 0 {
             rt.println(format_args!("in the snapshot: {count}"))?;
         }

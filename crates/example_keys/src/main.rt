@@ -50,15 +50,15 @@ fn tour<R: AllocGlobal + Threads + Wait + Sync>(rt: &R) -> Result<Figures, PutEr
     Ok((visits.len(rt), found, hours))
 }
 
-/// Prints what the tour told.
-fn print_told<R: Runtime>(rt: &R, told: Figures) -> io::Result<()> {
-    let (keys, found, hours) = told;
+/// Prints the figures of the tour.
+fn print_figures<R: Runtime>(rt: &R, figures: Figures) -> io::Result<()> {
+    let (keys, found, hours) = figures;
     println!(rt; "{keys} keys; {found} visits of page 1 in hour 0; it was visited in {hours} hours")
 }
 
 fn main(rt: HostRuntime) -> io::Result<()> {
     match tour(&rt) {
-        Ok(told) => print_told(&rt, told),
+        Ok(figures) => print_figures(&rt, figures),
         Err(error) => println!(rt; "refused: {error}"),
     }
 }

@@ -59,15 +59,15 @@ fn tour<R: AllocGlobal + Threads + Wait + Sync>(rt: &R) -> Result<Figures, PutEr
     Ok((port, secure, sum, now, then))
 }
 
-/// Prints what the tour told.
-fn print_told<R: Runtime>(rt: &R, told: Figures) -> io::Result<()> {
-    let (port, secure, sum, now, then) = told;
+/// Prints the figures of the tour.
+fn print_figures<R: Runtime>(rt: &R, figures: Figures) -> io::Result<()> {
+    let (port, secure, sum, now, then) = figures;
     println!(rt; "port {port}; {secure} secure; sum {sum}; {now} now, {then} in the snapshot")
 }
 
 fn main(rt: HostRuntime) -> io::Result<()> {
     match tour(&rt) {
-        Ok(told) => print_told(&rt, told),
+        Ok(figures) => print_figures(&rt, figures),
         Err(error) => println!(rt; "refused: {error}"),
     }
 }

@@ -3,7 +3,7 @@ use Rattle.std.proofs.Common.{◌≡◌, ◌<◌, ◌≤◌, ◌+◌, ℕ, List,
 use Rattle.std.specs.Prelude.{IfOk, Ok, Result, map, slice_index_or}
 use Rattle.std.specs.List.{Contains}
 use Rattle.std.proofs.Math.Nat.{le-max_right}
-use Rattle.std.proofs.lemmas.List.{get_or-map, length-map, map-append}
+use Rattle.std.proofs.lemmas.List.{get_or-map, length-map}
 use Rattle.std.proofs.lemmas.List.Elements.{All-contains, Contains-push}
 use Rattle.tambyulo_clients.specs.Commands.{get, put}
 use Rattle.tambyulo_clients.specs.CallReply.{CallReply}
@@ -11,7 +11,7 @@ use Rattle.tambyulo_clients.specs.CallReply.TheVariants as call_replies
 use Rattle.tambyulo_clients.specs.Limits.{Limits}
 use Rattle.tambyulo_clients.specs.Machine.{Kind, Outcome, Request, State, on}
 use Rattle.tambyulo_clients.specs.Views.{call_outcome}
-use Rattle.tambyulo_clients.specs.Journals.{Entered, own}
+use Rattle.tambyulo_clients.specs.Journals.{Entered}
 use Rattle.tambyulo_clients.specs.Closings.{IsClosedWith}
 use Rattle.tambyulo_clients.specs.Seats.{Adds, Placed, Seated, met, pair, pairs, with_entry}
 use Rattle.example_meeting.specs.Meetings.{AreMet, PutBeforeGet, PutThenGot, entry_of}

@@ -4,7 +4,7 @@ use Rattle.std.specs.List.{Contains}
 use Rattle.tambyulo_clients.specs.Commands.{get, put}
 use Rattle.tambyulo_clients.specs.Machine.{Outcome, Request, on}
 use Rattle.tambyulo_clients.specs.Journals.{Entered, own}
-use Rattle.tambyulo_clients.specs.Seats.{Placed, Seated, pairs}
+use Rattle.tambyulo_clients.specs.Seats.{Seated, pairs}
 
 module _ {K V Q B : Type 0} where
   -- an entry of the seat of the number

@@ -28,7 +28,7 @@ module _ {K V Q A B T U : Type 0} (kind : Kind K V Q A B) where
   refused_alike s r shown also BadNumber f = f
 
 module _ {K V Q I : Type 0} (R : K → K → Ordering) (E : V → V → Bool) (target : Q → Option ℕ) (answers : Q → Map K V → plain.Answer K V I → Type 0) where
-  -- what is told of the open job is foreseen of its finish
+  -- what is returned for the open job is foreseen of its finish
   pub finish_foreseen : (s : State K V Q) (j : ℕ) (jobs : Opened K V Q) (result : Result (Answer K V I) Refusal) → jobs.jobs ≡ s.jobs → refusal (machine R E target answers) s (finish j) ≡ None
       → IfOk result (λ told. Tells answers jobs j told) → (IsSome (value_at nat_cmp jobs.jobs j) → IfErr result (λ e. e ≡ NoMemory))
       → Foresees (machine R E target answers) s (finish j) finished_outcome result

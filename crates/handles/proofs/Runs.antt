@@ -16,7 +16,7 @@ module _ {K V Q A B : Type 0} (kind : Kind K V Q A B) where
   run_snoc s t u (q ∷ rs) [] r o run step = absurd run
   run_snoc s t u (q ∷ rs) (p ∷ os) r o run step = (run.0, run.1, run_snoc run.0 t u rs os r o run.2 step)
 
-  -- an answer that is not for want of memory is a step
+  -- an answer other than that memory ran out is a step
   pub step_of : (s : State K V Q) (r : Request K V Q) (answer : Result (CallReply V) Refusal) (t : State K V Q)
       → lacks_memory answer ≡ false → IsStep kind s r call_outcome answer t → Step kind s r (outcome_of answer) t
   step_of s r (Ok y) t n h = h
@@ -31,7 +31,7 @@ module _ {K V Q A B : Type 0} (kind : Kind K V Q A B) where
   step_of s r (Err JournalFull) t n h = h
   step_of s r (Err BadNumber) t n h = h
 
-  -- an answer for want of memory leaves all as it was
+  -- the answer that memory ran out leaves all as it was
   pub unchanged : (s : State K V Q) (r : Request K V Q) (answer : Result (CallReply V) Refusal) (t : State K V Q)
       → lacks_memory answer ≡ true → IsStep kind s r call_outcome answer t → t ≡ s
   unchanged s r (Ok y) t n h = absurd (cc)

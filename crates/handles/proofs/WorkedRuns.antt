@@ -19,7 +19,7 @@ counts q m a = a ≡ length m
 abbrev no_map : ℕ → Map ℕ ℕ
 no_map a = []
 
--- a count is told
+-- a count is returned
 abbrev itself : ℕ → ℕ
 itself a = a
 
@@ -39,7 +39,7 @@ filters q m a = a ≡ filter is_even m
 abbrev map_itself : Map ℕ ℕ → Map ℕ ℕ
 map_itself a = a
 
--- the number of its pairs is told
+-- the number of its pairs is returned
 abbrev its_length : Map ℕ ℕ → ℕ
 its_length a = length a
 

@@ -1,6 +1,5 @@
 //! The query of a table that is asked none.
 ghost use Rattle.std.specs.Prelude.{⊤};
-ghost use Rattle.versions.specs.Map.{Map};
 
 use bulk_ops::{Answer, Asks};
 use combiner::Bulk;

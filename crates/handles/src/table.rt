@@ -3,7 +3,7 @@ ghost use Rattle.std.specs.Prelude.{◌≡◌, ◌+◌, ◌<◌, ◌≤◌, ◌*
 ghost use Rattle.bulk_ops.specs.Answers as plain;
 ghost use Rattle.bulk_ops.specs.Summaries.{summary_of};
 ghost use Rattle.handles.specs.Handles.{IsKept, live_from, maps_in};
-ghost use Rattle.handles.specs.Machine.{IsRunOfSome, Job, Run, abandon, drop_handle, finish, freeze, is_entry, job_at, let_go, nothing, on, open_handle, snapshot, view};
+ghost use Rattle.handles.specs.Machine.{IsRunOfSome, Job, Run, abandon, drop_handle, finish, freeze, job_at, let_go, nothing, on, open_handle, snapshot, view};
 ghost use Rattle.handles.specs.Views.{AnswersWithoutMemory, IsDue, IsStep, call_outcome, command_of, finished_outcome, frozen_outcome, is_counted, lacks_memory, machine, outcomes_of, reply_outcome, request_of, requests_of, unit_outcome, view_outcome};
 
 use crate::call::Call;

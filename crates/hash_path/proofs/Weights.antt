@@ -79,7 +79,7 @@ fits-below bits level d small =
 pub breadth-none : (bits level : ℕ) → bits ≤ digit_bits * level → breadth bits level ≡ 1
 breadth-none bits level end = let none : bits - digit_bits * level ≡ 0 = omega (arith, end) in ap (λ n. 2 ^ n) none
 
--- digits that weigh what is told
+-- digits of this weight
 pub record Weighs (bits level count p : ℕ) : Type 0 where
   pub digits : List ℕ
   pub many : length digits ≡ count

@@ -1,5 +1,5 @@
 -- Commands on one map and their replies, wherever keys and values lie.
-use Rattle.std.specs.Prelude.{Bool, Option, Some, None, option_map, Result, Err, true, false}
+use Rattle.std.specs.Prelude.{Bool, Some, None, option_map, Result, Err, true, false}
 use Rattle.std.specs.Arc.{arc_value}
 use Rattle.versions.specs.Commands as commands
 use Rattle.versions.specs.declared.refusal.Refusal.{Refusal}

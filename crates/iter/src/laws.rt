@@ -1,7 +1,7 @@
 //! Laws of intervals and of the parts of a map by intervals, for proofs about callers: each call does
 //! nothing, and its contract is the law.
 
-ghost use Rattle.std.specs.Prelude.{◌≡◌, ◌+◌, ◌<◌, ◌≤◌, ℕ, List, [], ◌∷◌, ◌++◌, cond, nat_lt, Option, None, length};
+ghost use Rattle.std.specs.Prelude.{◌≡◌, ◌+◌, ◌<◌, ◌≤◌, ℕ, List, [], ◌∷◌, ◌++◌, cond, nat_lt, None};
 ghost use Rattle.hash_path.specs.Digits.{position};
 ghost use Rattle.trie_shape.specs.Map.{Map, IsMap, ShareNoKey, union, value_at};
 ghost use Rattle.iter.specs.declared.interval.Interval.{Interval};

@@ -122,12 +122,12 @@ module _ {K V : Type 0} where
   call_names_no_job Q (Drop h) = refl
   call_names_no_job Q (On h c) = refl
 
--- what a call is told, as its result shows it
+-- the response to a call, as its result shows it
 pub outcome_answered : {K V B : Type 0} (a : Result (CallReply V) Refusal) → outcome_of {K = K} {B = B} a ≡ answered call_outcome a
 outcome_answered (Ok y) = refl
 outcome_answered (Err e) = refl
 
--- what a call is told is filed
+-- the response to a call is filed
 pub call_is_filed : (K V B : Type 0) (y : CallReply V) → is_filed (call_outcome {K = K} {B = B} y) ≡ true
 call_is_filed K V B Unit = refl
 call_is_filed K V B (Reply y) = refl

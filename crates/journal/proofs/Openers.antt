@@ -12,7 +12,7 @@ use Rattle.versions.specs.Map as map
 use Rattle.versions.specs.declared.refusal.Refusal.{Refusal}
 use Rattle.handles.specs.declared.call.Call.{Call}
 use Rattle.handles.specs.declared.call.Call.TheVariants.{Open, Snapshot, Drop, On}
-use Rattle.handles.specs.Machine.{Kind, State, Job, freeze, finish, abandon, frozen, finished, made, Outcome, Step, job_at}
+use Rattle.handles.specs.Machine.{Kind, State, Job, freeze, frozen, Outcome, Step, job_at}
 use Rattle.handles.specs.Views.{frozen_outcome, request_of}
 use Rattle.handles.proofs.JobLists.{without-numbered}
 use Rattle.journal.specs.Answers.{answered}

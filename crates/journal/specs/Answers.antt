@@ -1,4 +1,4 @@
--- How what is asked and told appears to the machine.
+-- How requests and responses appear to the machine.
 use Rattle.std.specs.Prelude.{◌≡◌, Result, Ok, Err, Some, true}
 use Rattle.std.specs.Arc.{arc_value}
 use Rattle.versions.specs.declared.refusal.Refusal.{Refusal}

@@ -1,8 +1,7 @@
 -- No line has a newline in it, so the lines of a journal's text are its lines again.
-use Prim.Native.Nat.{zero, suc}
-use Rattle.std.proofs.Common.{◌≡◌, ◌≢◌, ℕ, ◌+◌, ◌<◌, ◌≤◌, ◌^◌, ◌∙◌, ◌/◌, ◌%◌, true, false, Bool, List, [], ◌∷◌, ◌++◌, length, get_or, refl, ap, sym, arith, codes, nat_lt}
-use Rattle.std.specs.Prelude.{◌==◌, ◌||◌, cond}
-use Rattle.std.specs.List.{onto_first}
+use Prim.Native.Nat.{suc}
+use Rattle.std.proofs.Common.{◌≡◌, ◌≢◌, ℕ, ◌+◌, ◌<◌, ◌^◌, ◌∙◌, ◌/◌, ◌%◌, true, false, Bool, List, [], ◌∷◌, ◌++◌, length, get_or, refl, sym, arith, codes, nat_lt}
+use Rattle.std.specs.Prelude.{◌==◌, cond}
 use Rattle.std.specs.Char.{digit_char}
 use Rattle.std.specs.Fmt.{decimal}
 use Rattle.std.proofs.lemmas.Bool.Decides.{nat_tests}

@@ -1,5 +1,5 @@
--- What is asked is told by its text.
-use Rattle.std.proofs.Common.{◌≡◌, ◌≢◌, ℕ, ◌<◌, ◌^◌, ◌∙◌, true, false, Bool, List, [], ◌∷◌, ◌++◌, Option, Some, None, refl, sym, ap, codes, map, arith}
+-- What is asked is determined by its text.
+use Rattle.std.proofs.Common.{◌≡◌, ℕ, ◌<◌, ◌^◌, ◌∙◌, true, false, List, [], ◌∷◌, refl, sym, ap, codes, arith}
 use Rattle.std.specs.Prelude.{◌==◌, is_some, ℤ}
 use Rattle.std.specs.Fmt.{decimal}
 use Rattle.std.specs.List.{join_with_byte, slice_split}
@@ -10,13 +10,13 @@ use Rattle.versions.specs.Commands.{Command, get, put, put_if_absent, replace, r
 use Rattle.handles.specs.Machine.{open_handle, snapshot, drop_handle, on, view, freeze, finish, abandon, worker_step}
 use Rattle.script.specs.Grammar.{verb_named}
 use Rattle.script.specs.declared.statement.Statement.{Statement}
-use Rattle.script.specs.declared.statement.Statement.TheVariants.{Open, Snap, Drop, Get, Put, PutIfAbsent, Replace, ReplaceIf, Remove, RemoveIf, GetOrElse, Size, Clear, Pairs, Count, Exists, ForAll, Find, Filter, MapValues, MapPairs, Fold}
+use Rattle.script.specs.declared.statement.Statement.TheVariants.{Open, Snap, Drop}
 use Rattle.script.specs.Statements.{words_of, phrase_of, IsLawful}
 use Rattle.script.proofs.WordLemmas.{same_statement}
 use Rattle.questions.specs.Queries.{ScriptQuestion, count, exists, for_all, find, filtered, mapped, paired, fold}
 use Rattle.questions.specs.Program.{ProgramRequest, command_statement, question_statement, request_for}
 use Rattle.journal_text.specs.Calls.{call_text, call_words, IsLawfulRequest}
-use Rattle.journal_text.proofs.WordLemmas.{AreWords, IsWord, argument_words, decimal_word, literal_word, name_word, split_words}
+use Rattle.journal_text.proofs.WordLemmas.{argument_words, decimal_word, literal_word, name_word, split_words}
 
 -- what is asked, in words
 pub data Said : Type 0 where

@@ -1,12 +1,11 @@
 -- The words of what is said are the fields of its text.
-use Rattle.std.proofs.Common.{◌≡◌, ℕ, ◌<◌, ◌^◌, ◌∙◌, true, false, List, [], ◌∷◌, ◌++◌, length, refl, ap, sym, arith, map, codes, nat_lt}
-use Rattle.std.specs.Prelude.{ℤ, pos, negsuc, FitsSigned, ◌==◌}
+use Rattle.std.proofs.Common.{◌≡◌, ℕ, ◌<◌, ◌∙◌, true, List, [], ◌∷◌, length, refl, ap, arith, map, nat_lt}
+use Rattle.std.specs.Prelude.{ℤ, pos, negsuc, FitsSigned}
 use Rattle.std.specs.Int.{w64}
-use Rattle.std.specs.Fmt.{decimal, signed_decimal}
-use Rattle.std.specs.List.{join_with_byte, slice_split, filter}
+use Rattle.std.specs.Fmt.{signed_decimal}
+use Rattle.std.specs.List.{join_with_byte, filter}
 use Rattle.std.proofs.lemmas.Bool.Decides.{nat_tests}
 use Rattle.std.proofs.lemmas.Fmt.{decimal_nonempty}
-use Rattle.arguments.specs.Keys.{IsKey}
 use Rattle.script.specs.Lines.{fields_of}
 use Rattle.arguments.specs.Questions.{IsTest, IsMapping, IsPairMapping, test_text, mapping_text, pair_mapping_text, folding_text}
 use Rattle.arguments.specs.declared.passing.Test.{Test}
@@ -17,11 +16,11 @@ use Rattle.arguments.specs.declared.pair_mapping.PairMapping.{PairMapping}
 use Rattle.arguments.specs.declared.pair_mapping.PairMapping.TheVariants.{To, Initial, ByValue}
 use Rattle.arguments.specs.declared.folding.Folding.{Folding}
 use Rattle.arguments.specs.declared.folding.Folding.TheVariants.{Sum, Least, Greatest}
-use Rattle.script.specs.Statements.{Argument, handle_argument, key_argument, value_argument, test_argument, map_argument, pair_map_argument, fold_argument, spelling_of, IsInRange, AreInRange, phrase_of, words_of, IsLawful}
+use Rattle.script.specs.Statements.{Argument, handle_argument, key_argument, value_argument, test_argument, map_argument, pair_map_argument, fold_argument, spelling_of, IsInRange, AreInRange, phrase_of}
 use Rattle.script.specs.declared.statement.Statement.{Statement}
 use Rattle.script.specs.declared.statement.Statement.TheVariants.{Open}
 use Rattle.questions.specs.Program.{ProgramRequest}
-use Rattle.journal_text.specs.Calls.{IsLawfulRequest, call_text, call_words}
+use Rattle.journal_text.specs.Calls.{IsLawfulRequest, call_text}
 use Rattle.journal_text.proofs.CallLemmas.{Said, plain, behind_freeze, seen, ended, dropped, silent, said, words_said, IsLawfulSaid, words_are, lawful_said, split_said}
 
 -- none of them is empty

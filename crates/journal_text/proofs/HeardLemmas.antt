@@ -1,5 +1,5 @@
 -- What is heard of a text.
-use Rattle.std.proofs.Common.{◌≡◌, ◌≢◌, Bool, true, false, ℕ, ◌<◌, ◌^◌, ◌∙◌, List, [], ◌∷◌, ◌++◌, ◌+◌, drop, take, length, Option, Some, None, Result, Ok, Err, IfOk, refl, ap, sym, subst, arith, codes}
+use Rattle.std.proofs.Common.{◌≡◌, ◌≢◌, true, false, ℕ, ◌<◌, ◌^◌, ◌∙◌, List, ◌∷◌, ◌++◌, ◌+◌, drop, take, length, Option, Some, None, Result, Ok, Err, IfOk, refl, ap, sym, subst, codes}
 use Rattle.std.specs.Prelude.{ℤ, ◌==◌, MatchOption}
 use Rattle.std.specs.Fmt.{decimal}
 use Rattle.std.specs.List.{join_with_byte, slice_split}
@@ -13,9 +13,9 @@ use Rattle.versions.specs.Commands.{get, put, put_if_absent, replace, replace_if
 use Rattle.handles.specs.Machine.{open_handle, snapshot, drop_handle, on, view, freeze, finish, abandon, worker_step, is_freeze}
 use Rattle.handles.specs.declared.call.Call.TheVariants as calls
 use Rattle.script.specs.Lines.{fields_of}
-use Rattle.script.specs.Statements.{words_of, phrase_of, IsLawful}
+use Rattle.script.specs.Statements.{words_of, IsLawful}
 use Rattle.script.specs.declared.statement.Statement.{Statement}
-use Rattle.script.specs.declared.statement.Statement.TheVariants.{Open, Snap, Drop, Get, Put, PutIfAbsent, Replace, ReplaceIf, Remove, RemoveIf, GetOrElse, Size, Clear, Pairs, Count, Exists, ForAll, Find, Filter, MapValues, MapPairs, Fold}
+use Rattle.script.specs.declared.statement.Statement.TheVariants.{Open, Drop, GetOrElse, Pairs}
 use Rattle.script.proofs.WordLemmas.{same_statement}
 use Rattle.questions.specs.declared.ask.Ask.{Ask}
 use Rattle.questions.specs.declared.ask.Ask.TheVariants as asks
@@ -23,7 +23,7 @@ use Rattle.questions.specs.Program.{ProgramRequest, asked, or_else_asked, or_els
 use Rattle.journal_text.specs.Calls.{IsLawfulRequest, call_text}
 use Rattle.journal_text.specs.Hearing.{IsHeard, IsUnheard, IsNoCall, is_call, asks_call, asks_job}
 use Rattle.journal_text.proofs.WordLemmas.{IsWord, literal_word, split_word}
-use Rattle.journal_text.proofs.CallLemmas.{Said, plain, behind_freeze, seen, ended, dropped, silent, said, first_word, words_said, IsLawfulSaid, words_are, lawful_said, heard, heard_said, no_verb, head_of, is_first, same_said, split_call, same_request}
+use Rattle.journal_text.proofs.CallLemmas.{Said, plain, behind_freeze, seen, ended, dropped, said, first_word, words_said, IsLawfulSaid, words_are, lawful_said, heard, heard_said, no_verb, head_of, is_first, same_said, split_call, same_request}
 use Rattle.journal_text.proofs.FieldLemmas.{fields_said, fields_call}
 
 apart : (a b : List ℕ) → bytes_eq a b ≡ false → a ≡ b → ⊥

@@ -1,11 +1,11 @@
 -- The lines that are left of a journal.
-use Rattle.std.proofs.Common.{◌≡◌, ℕ, suc, zero, ◌+◌, ◌<◌, ◌∙◌, List, [], ◌∷◌, ◌++◌, Some, None, length, drop, get_or, refl, ap, sym, subst, arith, append-nil}
+use Rattle.std.proofs.Common.{◌≡◌, ℕ, suc, zero, ◌+◌, ◌∙◌, List, [], ◌∷◌, ◌++◌, Some, length, drop, ap, sym, subst, append-nil}
 use Rattle.std.specs.List.{flat_map, slice_get}
 use Rattle.std.proofs.lemmas.List.{append_assoc, drop_more}
 use Rattle.std.proofs.lemmas.Option.{slice_get_within, get_or_from_slice_get}
 use Rattle.std.proofs.Math.Seq.{drop-length}
 use Rattle.journal_lines.specs.Lines.{ended, end_line}
-use Rattle.journal_text.specs.Entries.{AreLawful, IsLawfulEntry, ProgramEntry, entry_line, lines_behind, text_of_journal}
+use Rattle.journal_text.specs.Entries.{AreLawful, IsLawfulEntry, ProgramEntry, entry_line, lines_behind}
 
 -- the text of the lines from the entry at this place on
 abbrev pub text_from : ℕ → List ProgramEntry → List ℕ

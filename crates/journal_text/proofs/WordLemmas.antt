@@ -1,6 +1,6 @@
 -- Words have no space in them, so words with one space between are their fields again.
 use Prim.Native.Nat.{zero, suc}
-use Rattle.std.proofs.Common.{◌≡◌, ◌≢◌, ℕ, ◌<◌, ◌≤◌, ◌^◌, ◌∙◌, true, false, Bool, List, [], ◌∷◌, ◌++◌, length, get_or, map, codes, refl, ap, sym, arith}
+use Rattle.std.proofs.Common.{◌≡◌, ◌≢◌, ℕ, ◌<◌, ◌^◌, ◌∙◌, true, false, Bool, List, [], ◌∷◌, ◌++◌, length, get_or, map, codes, refl, ap, arith}
 use Rattle.std.specs.Prelude.{ℤ, pos, negsuc, FitsSigned, ◌==◌, ◌&&◌, not}
 use Rattle.std.specs.Int.{w64}
 use Rattle.std.specs.Fmt.{decimal, signed_decimal}
@@ -18,7 +18,7 @@ use Rattle.arguments.specs.declared.pair_mapping.PairMapping.{PairMapping}
 use Rattle.arguments.specs.declared.pair_mapping.PairMapping.TheVariants.{To, Initial, ByValue}
 use Rattle.arguments.specs.declared.folding.Folding.{Folding}
 use Rattle.arguments.specs.declared.folding.Folding.TheVariants.{Sum, Least, Greatest}
-use Rattle.script.specs.Statements.{Argument, handle_argument, key_argument, value_argument, test_argument, map_argument, pair_map_argument, fold_argument, spelling_of, IsInRange, AreInRange, phrase_of, words_of, IsLawful}
+use Rattle.script.specs.Statements.{Argument, handle_argument, key_argument, value_argument, test_argument, map_argument, pair_map_argument, fold_argument, spelling_of, IsInRange, AreInRange, phrase_of}
 use Rattle.script.specs.declared.statement.Statement.{Statement}
 use Rattle.script.specs.declared.statement.Statement.TheVariants.{Open}
 

@@ -1,5 +1,5 @@
 -- What is read of the text of a call, where any number of spaces may stand between its words.
-use Rattle.std.specs.Prelude.{◌≡◌, Bool, true, false, ℕ, List, codes, ◌++◌}
+use Rattle.std.specs.Prelude.{◌≡◌, Bool, true, false, ℕ, List}
 use Rattle.handles.specs.Machine.{open_handle, snapshot, drop_handle, on}
 use Rattle.questions.specs.declared.ask.Ask.{Ask}
 use Rattle.questions.specs.declared.ask.Ask.TheVariants as asks

@@ -15,5 +15,5 @@ mod text;
 pub use asked::asked_in;
 pub use call::{ProgramAsked, push_call};
 pub use laws::law_of_calls;
-pub use outcome::{ProgramResponse, push_told};
+pub use outcome::{ProgramResponse, push_response};
 pub use text::{ProgramJournal, journal_text};

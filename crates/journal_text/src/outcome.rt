@@ -22,7 +22,11 @@ use versions::NoMemory;
 pub type ProgramResponse = Response<ByteText, i64, Option<i128>>;
 
 /// Appends the text of what is answered.
-pub fn push_told(alloc: Global, out: &mut Vec<u8>, told: &ProgramResponse) -> Result<(), NoMemory>
+pub fn push_response(
+    alloc: Global,
+    out: &mut Vec<u8>,
+    told: &ProgramResponse,
+) -> Result<(), NoMemory>
     ensures { OnOk result (out.new.items ≡ out.old.items ++ outcome_text (response_outcome told.now)) }
 {
     let done = match told {

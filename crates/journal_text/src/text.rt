@@ -6,7 +6,7 @@ ghost use Rattle.journal_text.specs.Calls.{call_text, outcome_text};
 ghost use Rattle.journal_text.specs.Entries.{AreLawful, entry_line, text_of_journal};
 
 use crate::call::push_call;
-use crate::outcome::push_told;
+use crate::outcome::push_response;
 use journal::{Entry, Journal};
 use journal_lines::{last_line, line_text};
 use keys::ByteText;
@@ -57,7 +57,7 @@ fn push_entry(
         return Err(NoMemory);
     }
     let mut reply = Vec::new(alloc);
-    push_told(alloc, &mut reply, entry.response())?;
+    push_response(alloc, &mut reply, entry.response())?;
     let call = as_text(&call);
     let reply = as_text(&reply);
     let line = line_text(alloc, number, call, reply, u64::from(entry.seat()))?;

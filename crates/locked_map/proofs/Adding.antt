@@ -51,7 +51,7 @@ module _ {K V Q B : Type 0} where
   unfiled_adds kind x s t r BadNumber j job due is = absurd due
 
 module _ {K V Q B : Type 0} where
-  -- the same of the end of a job, which is refused as NoJob or for want of memory
+  -- the same of the end of a job, which is refused as NoJob or because memory ran out
   pub ended_adds : (s t : Seated K V Q B) (r : Request K V Q) (e : Refusal) (j : ℕ) → job_of r ≡ Some j → (e ≡ NoJob) ⊎ (e ≡ NoMemory) → t ≡ marked_by s e (Some j) → Adds s r (refused e) t
   ended_adds s t r e j job (inl unknown) is = subst (λ x. t ≡ marked_by s x (Some j) → Adds s r (refused x) t) (sym unknown) (λ same. (ap is_some job, same ∙ ap (marked_unknown s) (sym job))) is
   ended_adds s t r e j job (inr wanting) is = subst (λ x. t ≡ marked_by s x (Some j) → Adds s r (refused x) t) (sym wanting) (λ same. same) is

@@ -35,7 +35,7 @@ none_told : (p : Refusal → Bool) (cs : List (Bool × Refusal)) → NonePass p 
 none_told p [] none = refl
 none_told p (c ∷ cs) none = passed_over p c.0 c.1 (first_of cs) none.0 (none_told p cs none.1)
 
--- a refusal that passes the test is not told where none passes
+-- a refusal that passes the test is not returned where none passes
 not_told : (p : Refusal → Bool) (e : Refusal) (o : Option Refusal) → p e ≡ true → tells p o ≡ false → o ≡ Some e → ⊥
 not_told p e o passes none is = let both : true ≡ false = sym passes ∙ sym (ap (tells p) is) ∙ none in cc
 

@@ -1,4 +1,4 @@
--- What get_or_else_update is told, and what it answers.
+-- What the calls of get_or_else_update return, and what it answers.
 use Rattle.std.proofs.Common.{◌≡◌, ℕ, Option, Some, None, Ok, Err, refl, sym, subst, ap}
 use Rattle.std.specs.Prelude.{Result, IfOk, option_map}
 use Rattle.std.specs.Arc.{arc_value}
@@ -14,7 +14,7 @@ use Rattle.handles.specs.Machine.{Kind, State, Request, on, Outcome, replied, re
 use Rattle.handles.specs.Views.{call_outcome, reply_of}
 use Rattle.journal.specs.Answers.{answered}
 use Rattle.locked_map.specs.Seats.{Seated, Adds}
-use Rattle.locked_map.specs.Getting.{MayBeTold, TellsValue, AnswersPut, PutsOrFinds, AnswersGet, GetsOrElse}
+use Rattle.locked_map.specs.Getting.{MayReturn, TellsValue, AnswersPut, PutsOrFinds, AnswersGet, GetsOrElse}
 
 -- a reply that shows an old value, or that there was none, is one
 old_tells : {V : Type 0} (y : Reply V) (o : Option V) → reply_of y ≡ old o → (found : Option V) × TellsValue (call_replies.Reply y) found
@@ -23,7 +23,7 @@ old_tells (replies.Done b) o is = cc
 old_tells (replies.Size n) o is = cc
 old_tells replies.Cleared o is = cc
 
--- the outcome of a call that was told of a value, or of none
+-- the outcome of a call that returned a value, or none
 pub outcome_telling : {K V B : Type 0} (y : CallReply V) (o : Option V) → TellsValue y o → call_outcome {K = K} {B = B} y ≡ replied (old o)
 outcome_telling (call_replies.Reply (replies.Old found)) o is = ap (λ x. replied (old x)) is
 outcome_telling (call_replies.Reply (replies.Done b)) o is = absurd is
@@ -32,18 +32,18 @@ outcome_telling (call_replies.Reply replies.Cleared) o is = absurd is
 outcome_telling call_replies.Unit o is = absurd is
 
 module _ {K V Q A B : Type 0} (kind : Kind K V Q A B) where
-  -- what a step was told, it may be told
-  pub may_be_told : {T : Type 0} (s t : State K V Q) (r : Request K V Q) (shown : T → Outcome K V B) (a : Result T Refusal) → Step kind s r (answered shown a) t → IfOk a (λ y. MayBeTold kind r (shown y))
-  may_be_told s t r shown (Ok y) step = (s, t, step)
-  may_be_told s t r shown (Err e) step = tt
+  -- what a step returned, it may return
+  pub may_return : {T : Type 0} (s t : State K V Q) (r : Request K V Q) (shown : T → Outcome K V B) (a : Result T Refusal) → Step kind s r (answered shown a) t → IfOk a (λ y. MayReturn kind r (shown y))
+  may_return s t r shown (Ok y) step = (s, t, step)
+  may_return s t r shown (Err e) step = tt
 
-  -- a get that is made is told of the value that the key had, or of none
-  pub get_tells_value : (h : ℕ) (k : K) (y : CallReply V) → MayBeTold kind (on h (get k)) (call_outcome y) → (o : Option V) × TellsValue y o
+  -- a get that is made returns the value that the key had, or none
+  pub get_tells_value : (h : ℕ) (k : K) (y : CallReply V) → MayReturn kind (on h (get k)) (call_outcome y) → (o : Option V) × TellsValue y o
   get_tells_value h k call_replies.Unit told = absurd told.2.1
   get_tells_value h k (call_replies.Reply y) told = old_tells y (value_at kind.order (held_by told.0 h) k) told.2.1.0
 
   -- so is a put_if_absent
-  pub put_tells_value : (h : ℕ) (k : K) (v : V) (y : CallReply V) → MayBeTold kind (on h (put_if_absent k v)) (call_outcome y) → (o : Option V) × TellsValue y o
+  pub put_tells_value : (h : ℕ) (k : K) (v : V) (y : CallReply V) → MayReturn kind (on h (put_if_absent k v)) (call_outcome y) → (o : Option V) × TellsValue y o
   put_tells_value h k v call_replies.Unit told = absurd told.2.1
   put_tells_value h k v (call_replies.Reply y) told = old_tells y (value_at kind.order (held_by told.0 h) k) told.2.1.0
 

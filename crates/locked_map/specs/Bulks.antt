@@ -13,15 +13,15 @@ use Rattle.locked_map.specs.Tickets.{Ticketed, ticket_outcome}
 
 module _ {K V Q I P : Type 0} (answers : Q → Map K V → P → Type 0) (answer_of : P → plain.Answer K V I) where
   -- what is returned is the answer of a part that answers the ticket's query for its map
-  abbrev pub IsToldOf : Ticketed K V Q → Answer K V I → Type 0
-  IsToldOf ticket answer = (part : P) × answers ticket.query ticket.frozen part × (summary_of answer ≡ plain.summary (answer_of part))
+  abbrev pub IsAnswerTo : Ticketed K V Q → Answer K V I → Type 0
+  IsAnswerTo ticket answer = (part : P) × answers ticket.query ticket.frozen part × (summary_of answer ≡ plain.summary (answer_of part))
 
   -- what follows where the freeze was answered so: its refusal is the answer, with no ticket; else the job is finished
   -- and its answer returned, or its ticket comes back with the refusal of the finish, which is NoJob or NoMemory, and adds nothing where it is NoMemory
   abbrev pub EndsBulk : Seated K V Q (plain.Summary K V I) → Result (Ticketed K V Q) Refusal
       → Result (Answer K V I) (Refusal × Option (Ticketed K V Q)) → Seated K V Q (plain.Summary K V I) → Type 0
   EndsBulk m (Err e) result t = (result ≡ Err (e, None)) × (t ≡ m)
-  EndsBulk m (Ok ticket) (Ok answer) t = Adds m (finish ticket.job) (finished (summary_of answer)) t × IsToldOf ticket answer
+  EndsBulk m (Ok ticket) (Ok answer) t = Adds m (finish ticket.job) (finished (summary_of answer)) t × IsAnswerTo ticket answer
   EndsBulk m (Ok ticket) (Err e) t = Adds m (finish ticket.job) (refused e.0) t × (e.1 ≡ Some ticket) × ((e.0 ≡ NoJob) ⊎ (e.0 ≡ NoMemory))
 
   -- a freeze of the handle with the query, and what follows

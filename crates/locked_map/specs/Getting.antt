@@ -11,8 +11,8 @@ use Rattle.handles.specs.Machine.{Kind, State, Request, on, Outcome, replied, re
 use Rattle.locked_map.specs.Seats.{Seated, Adds}
 
 -- an outcome that the request may have: that of some step of the machine
-abbrev pub MayBeTold : {K V Q A B : Type 0} → Kind K V Q A B → Request K V Q → Outcome K V B → Type 0
-MayBeTold {K} {V} {Q} kind r o = (s : State K V Q) × (t : State K V Q) × Step kind s r o t
+abbrev pub MayReturn : {K V Q A B : Type 0} → Kind K V Q A B → Request K V Q → Outcome K V B → Type 0
+MayReturn {K} {V} {Q} kind r o = (s : State K V Q) × (t : State K V Q) × Step kind s r o t
 
 module _ {V : Type 0} where
   -- the reply of a call has this value that a key had, or none

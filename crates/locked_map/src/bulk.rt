@@ -1,5 +1,5 @@
 //! Bulk calls, whose answer a crew works with no lock held.
-ghost use Rattle.std.specs.Prelude.{◌≡◌, ◌≤◌, IfOk};
+ghost use Rattle.std.specs.Prelude.{◌≤◌, IfOk};
 ghost use Rattle.locked_map.specs.Bulks.{AddsBulk};
 
 use crate::seat::Seat;

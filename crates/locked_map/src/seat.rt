@@ -1,4 +1,4 @@
-//! Seats, which make calls and keep what they were told.
+//! Seats, which make calls and keep their responses.
 ghost use Rattle.std.specs.Prelude.{◌≡◌};
 ghost use Rattle.locked_map.specs.Seats.{fresh, marked_by, met};
 

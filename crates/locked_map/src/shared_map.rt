@@ -5,7 +5,7 @@ ghost use Rattle.bulk_ops.specs.Summaries.{summary_of};
 ghost use Rattle.handles.specs.Machine.{abandon, finish, freeze, job_at, room, view};
 ghost use Rattle.handles.specs.Views.{call_outcome, finished_outcome, machine, request_of, unit_outcome, view_outcome};
 ghost use Rattle.journal.specs.Answers.{answered, answered_or};
-ghost use Rattle.locked_map.specs.Getting.{MayBeTold};
+ghost use Rattle.locked_map.specs.Getting.{MayReturn};
 ghost use Rattle.journal.specs.Journals.{IsLegal, own};
 ghost use Rattle.locked_map.specs.Seats.{AboveFloors, Adds, pairs};
 ghost use Rattle.locked_map.specs.Tickets.{ticket_outcome};
@@ -67,7 +67,7 @@ impl<K: PathKey + Drop, V: Eq + Drop, Q: Asks<K, V> + Drop, J: JournalName> Shar
         call: Call<K, V>,
     ) -> Result<CallReply<V>, Refusal>
         ensures adds { Adds seat.old (request_of call) (answered call_outcome result) seat.new }
-        ensures told { IfOk result (λ reply. MayBeTold (machine K.cmp V.eq Q.target_of Q.answered) (request_of call) (call_outcome reply)) }
+        ensures told { IfOk result (λ reply. MayReturn (machine K.cmp V.eq Q.target_of Q.answered) (request_of call) (call_outcome reply)) }
     {
         let caller = Caller::new(seat.number, &mut seat.list);
         let mut table = self.table.lock(rt);

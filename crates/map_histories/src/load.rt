@@ -37,7 +37,7 @@ pub fn load_of<R: Runtime + AllocGlobal>(rt: &R) -> Result<Option<Load>, Fault> 
     let words: Vec<String> = env::args(rt)?.skip(1).collect(rt.alloc())?;
     match words.as_slice() {
         [] => Ok(None),
-        [seed, threads, calls, histories] => match told(seed, threads, calls, histories) {
+        [seed, threads, calls, histories] => match load_in(seed, threads, calls, histories) {
             Some(load) => Ok(Some(load)),
             None => Err(Fault::Usage(USAGE)),
         },
@@ -45,8 +45,8 @@ pub fn load_of<R: Runtime + AllocGlobal>(rt: &R) -> Result<Option<Load>, Fault> 
     }
 }
 
-/// The load that these words tell, if each is a number within its limits.
-fn told(seed: &str, threads: &str, calls: &str, histories: &str) -> Option<Load> {
+/// The load that these words give, if each is a number within its limits.
+fn load_in(seed: &str, threads: &str, calls: &str, histories: &str) -> Option<Load> {
     Some(Load {
         seed: number(seed, 0, u64::MAX)?,
         threads: number(threads, 1, MOST_THREADS)?,

@@ -1,5 +1,4 @@
 //! What the readers of a map share.
-ghost use Rattle.std.specs.Prelude.{◌≡◌, ◌≤◌};
 
 use crate::base::Base;
 use crate::latest::LatestBase;

@@ -22,9 +22,9 @@ failing p m = plain.passing (λ k v. not (p k v)) m
 abbrev pub changed : {K V W : Type 0} → (K → V → W) → Map K V → Map K W
 changed f m = map (λ x. (x.0, f x.0 x.1)) m
 
--- the answer `told` is returned, and the map `made`, for a map each pair of which keeps the rule
+-- this answer is returned, and the map `made`, for a map each pair of which keeps the rule
 abbrev pub IsAnsweredOfKept : {K V I : Type 0} → (K → K → Ordering) → (K → V → Type 0) → (Map K V → plain.Answer K V I → Type 0) → Option ℕ → Answer K V I → Option (Contents K V) → Type 0
-IsAnsweredOfKept {K} {V} R H answered to told made = (m : Map K V) × AllKeep R H m × IsAnswered (answered m) to told made
+IsAnsweredOfKept {K} {V} R H answered to answer made = (m : Map K V) × AllKeep R H m × IsAnswered (answered m) to answer made
 
 -- the keys are equal, and so are the values
 abbrev pub same_pair : {K V : Type 0} → (K → K → Bool) → (V → V → Bool) → K × V → K × V → Bool

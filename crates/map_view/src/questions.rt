@@ -1,5 +1,5 @@
 //! Questions about all pairs of a view.
-ghost use Rattle.std.specs.Prelude.{◌≡◌, ◌≤◌, Bool, Contains, IfOk, IfSome, length, option_map, true};
+ghost use Rattle.std.specs.Prelude.{◌≡◌, ◌≤◌, Bool, IfOk, IfSome, length, option_map, true};
 ghost use Rattle.std.specs.List.{list_all, list_any};
 ghost use Rattle.bulk_ops.specs.Answers.{items_of, passes, passing};
 ghost use Rattle.bulk_ops.specs.Meanings.{MayAnswer, Means};

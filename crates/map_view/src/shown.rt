@@ -1,5 +1,4 @@
 //! Views in text.
-ghost use Rattle.std.specs.Prelude.{◌≡◌};
 
 use crate::view::View;
 use hash_path::PathKey;

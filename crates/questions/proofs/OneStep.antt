@@ -1,5 +1,5 @@
--- A request has one outcome in a state, but for a finish, which may have several where some pair is asked for, or a map of images; and what it leaves, where it is told the same, is one state.
-use Rattle.std.proofs.Common.{◌≡◌, ◌≢◌, Bool, true, false, ℕ, ◌+◌, ◌∙◌, ◌⊎◌, List, [], ◌∷◌, length, Some, None, inl, inr, refl, sym, ap, subst}
+-- A request has one outcome in a state, but for a finish, which may have several where some pair is asked for, or a map of images; and what finishes with the same outcome leave is one state.
+use Rattle.std.proofs.Common.{◌≡◌, ◌≢◌, Bool, true, false, ℕ, ◌+◌, ◌∙◌, ◌⊎◌, List, [], length, Some, None, inl, inr, refl, sym, ap, subst}
 use Rattle.std.specs.Prelude.{ℤ, if◌then◌else◌}
 use Rattle.versions.specs.declared.refusal.Refusal.{Refusal}
 use Rattle.std.specs.Ordering.{nat_cmp}
@@ -201,20 +201,20 @@ one_finished s t u j job b c is_open never f k =
     let jobs : f.job ≡ k.job = first ∙ sym second in
     (f.told ∙ ap (λ (a : ProgramAnswer). plain.summary a) same ∙ sym k.told, f.left ∙ (λ i. finished_in s j (jobs i) (same i)) ∙ sym k.left)
 
--- maps of images of which the same is told are one
+-- maps of images with the same summary are one
 same_images : (mapping : PairMapping) (to : ℕ) (m : Map (List ℕ) ℤ) (a b : ProgramAnswer) → answers (paired mapping to) m a → answers (paired mapping to) m b → plain.summary a ≡ plain.summary b → a ≡ b
 same_images mapping to m (plain.Answer.images n) (plain.Answer.images k) x y told = let same : n ≡ k = cc in ap (λ (l : Map (List ℕ) ℤ). plain.Answer.images l) same
 same_images mapping to m (plain.Answer.images n) b x y told = absurd y
 same_images mapping to m a b x y told = absurd x
 
--- what a finish that is told the same leaves is one: a pair that is found makes no map
+-- what a finish with the same outcome leaves is one: a pair that is found makes no map
 leaves_one : (s : ProgramState) (j : ℕ) (q : ScriptQuestion) (m : Map (List ℕ) ℤ) (a b : ProgramAnswer) → answers q m a → answers q m b → plain.summary a ≡ plain.summary b
     → finished_in s j (record { query = q; frozen = m }) a ≡ finished_in s j (record { query = q; frozen = m }) b
 leaves_one s j (find test) m a b x y told = refl
 leaves_one s j (paired mapping to) m a b x y told = ap (finished_in s j (record { query = paired mapping to; frozen = m })) (same_images mapping to m a b x y told)
 leaves_one s j q m a b x y told = let one = is_the_answer q m a refl x in let other = is_the_answer q m b refl y in ap (finished_in s j (record { query = q; frozen = m })) (one ∙ sym other)
 
--- an open job that is told the same is finished in one state
+-- an open job with the same outcome is finished in one state
 pub finishes_leave_one : (s t u : ProgramState) (j : ℕ) (b : ProgramSummary) → Finishes program s j b t → Finishes program s j b u → t ≡ u
 finishes_leave_one s t u j b f k =
     let named : Some f.job ≡ Some k.job = sym f.named ∙ k.named in
@@ -222,25 +222,25 @@ finishes_leave_one s t u j b f k =
     let answered : answers f.job.query f.job.frozen k.answer = subst (λ (x : ScriptJob). answers x.query x.frozen k.answer) (sym same) k.is_answer.0 in
     f.left ∙ leaves_one s j f.job.query f.job.frozen f.answer k.answer f.is_answer.0 answered (sym f.told ∙ k.told) ∙ ap (λ (x : ScriptJob). finished_in s j x k.answer) same ∙ sym k.left
 
--- a finish that is granted and is told the same leaves one state
+-- a finish that is granted and has the same outcome leaves one state
 granted_leave_one : (s t u : ProgramState) (j : ℕ) (o : ProgramOutcome) → Granted program s (finish j) o t → Granted program s (finish j) o u → t ≡ u
 granted_leave_one s t u j (finished b) g k = finishes_leave_one s t u j b g k
 granted_leave_one s t u j unfinished g k = g ∙ sym k
 granted_leave_one s t u j o g k = absurd g
 
 -- a finish that is made
-abbrev IsTold : ProgramState → ℕ → ProgramOutcome → ProgramState → Type 0
-IsTold s j o t = (b : ProgramSummary) × (o ≡ finished b) × Finishes program s j b t
+abbrev IsOutcome : ProgramState → ℕ → ProgramOutcome → ProgramState → Type 0
+IsOutcome s j o t = (b : ProgramSummary) × (o ≡ finished b) × Finishes program s j b t
 
-finish_told : (s : ProgramState) (j : ℕ) (o : ProgramOutcome) (t : ProgramState) → o ≢ unfinished → Granted program s (finish j) o t → IsTold s j o t
-finish_told s j (finished b) t is_made g = (b, refl, g)
-finish_told s j unfinished t is_made g = absurd (is_made refl)
-finish_told s j made t is_made g = absurd g
-finish_told s j (replied y) t is_made g = absurd g
-finish_told s j (viewed m) t is_made g = absurd g
-finish_told s j (frozen k m) t is_made g = absurd g
-finish_told s j (refused e) t is_made g = absurd g
-finish_told s j worked t is_made g = absurd g
+finish_outcome : (s : ProgramState) (j : ℕ) (o : ProgramOutcome) (t : ProgramState) → o ≢ unfinished → Granted program s (finish j) o t → IsOutcome s j o t
+finish_outcome s j (finished b) t is_made g = (b, refl, g)
+finish_outcome s j unfinished t is_made g = absurd (is_made refl)
+finish_outcome s j made t is_made g = absurd g
+finish_outcome s j (replied y) t is_made g = absurd g
+finish_outcome s j (viewed m) t is_made g = absurd g
+finish_outcome s j (frozen k m) t is_made g = absurd g
+finish_outcome s j (refused e) t is_made g = absurd g
+finish_outcome s j worked t is_made g = absurd g
 
 -- where what is granted leaves one state, so do the steps
 one_left : (r : ProgramRequest) (s t u : ProgramState) (o p : ProgramOutcome) → (Granted program s r o t → Granted program s r p u → t ≡ u) → Settled s r o t → Settled s r p u → t ≡ u
@@ -262,8 +262,8 @@ pub tell_one : FinishesTellOne
 tell_one j job s t u o p is_open never is_made too step trod =
     one_settled (finish j) s t u o p
     (λ g k.
-    let f = finish_told s j o t is_made g in
-    let h = finish_told s j p u too k in
+    let f = finish_outcome s j o t is_made g in
+    let h = finish_outcome s j p u too k in
     let same = one_finished s t u j job f.0 h.0 is_open never f.2 h.2 in
     (f.1 ∙ ap (λ (x : ProgramSummary). finished x) same.0 ∙ sym h.1, same.1))
     (settled s (finish j) o t step) (settled s (finish j) p u trod)

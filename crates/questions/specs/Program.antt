@@ -47,15 +47,15 @@ abbrev pub largest : Limits
 largest = record { pairs = 16777216; entries = 1048576 }
 
 -- the reply that shows an answer: of a map that was made, its number of pairs
-abbrev pub told_reply : ProgramSummary → LineReply
-told_reply (plain.Summary.number n) = replies.Count n
-told_reply (plain.Summary.truth b) = replies.Truth b
-told_reply (plain.Summary.found None) = replies.Absent
-told_reply (plain.Summary.found (Some pair)) = replies.Pair pair.0 pair.1
-told_reply (plain.Summary.made pairs) = replies.Count pairs
-told_reply (plain.Summary.images m) = replies.Count (length m)
-told_reply (plain.Summary.item None) = replies.Absent
-told_reply (plain.Summary.item (Some n)) = replies.Item n
+abbrev pub summary_reply : ProgramSummary → LineReply
+summary_reply (plain.Summary.number n) = replies.Count n
+summary_reply (plain.Summary.truth b) = replies.Truth b
+summary_reply (plain.Summary.found None) = replies.Absent
+summary_reply (plain.Summary.found (Some pair)) = replies.Pair pair.0 pair.1
+summary_reply (plain.Summary.made pairs) = replies.Count pairs
+summary_reply (plain.Summary.images m) = replies.Count (length m)
+summary_reply (plain.Summary.item None) = replies.Absent
+summary_reply (plain.Summary.item (Some n)) = replies.Item n
 
 -- the reply that shows the outcome of a request
 abbrev pub reply_to : ProgramOutcome → Option LineReply
@@ -66,7 +66,7 @@ reply_to (replied (done b)) = Some (replies.Truth b)
 reply_to (replied (commands.count number)) = Some (replies.Count number)
 reply_to (replied cleared) = Some replies.Done
 reply_to (viewed pairs) = Some (replies.Pairs pairs)
-reply_to (finished told) = Some (told_reply told)
+reply_to (finished told) = Some (summary_reply told)
 reply_to (refused refusal) = Some (replies.Refused refusal)
 reply_to _ = None
 

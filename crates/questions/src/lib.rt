@@ -8,12 +8,12 @@ mod ask;
 mod closures;
 mod fold;
 mod laws;
+mod line_replies;
 mod listing;
 mod query;
-mod telling;
 
 pub use ask::{Ask, ask_of};
 pub use laws::{finishes_leave_one_state, finishes_tell_one_answer, requests_have_one_outcome};
+pub use line_replies::{reply_shown, reply_to_answer};
 pub use listing::listing_of;
 pub use query::{ScriptPart, ScriptQuery};
-pub use telling::{reply_shown, told};

@@ -1,5 +1,5 @@
 //! The deques of a crew, before its workers begin.
-ghost use Rattle.std.specs.Prelude.{◌≡◌, ◌<◌, ◌∷◌, [], ℕ, IfOk, Some, length, slice_index_or};
+ghost use Rattle.std.specs.Prelude.{◌≡◌, ◌<◌, ◌∷◌, [], ℕ, IfOk, length, slice_index_or};
 ghost use Rattle.crossbeam_deque.specs.Handles.{worker_view};
 ghost use Rattle.ruled_deques.specs.Counts.{IsFresh};
 ghost use Rattle.ruled_deques.specs.EndsView.{given};

@@ -1,5 +1,5 @@
 //! The rule of one deque: what was pushed is what was taken and what waits, in the order of the pushes.
-ghost use Rattle.std.specs.Prelude.{◌≡◌, ◌+◌, ◌-◌, ◌≤◌, ◌++◌, []};
+ghost use Rattle.std.specs.Prelude.{◌≡◌, ◌+◌, ◌-◌, ◌++◌, []};
 ghost use Rattle.ruled_deques.specs.Rule.{Balanced, Settled, deque_view};
 
 use crossbeam_deque::protocol::{Join, Outcome, Protocol, Split};

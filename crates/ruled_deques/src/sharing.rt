@@ -1,5 +1,5 @@
 //! Each deque's owner gives each worker a thief's end.
-ghost use Rattle.std.specs.Prelude.{◌≡◌, ◌+◌, ◌-◌, ◌<◌, ◌≤◌, [], ℕ, IfOk, Some, length, slice_index_or, flat_map};
+ghost use Rattle.std.specs.Prelude.{◌≡◌, ◌-◌, ◌<◌, ◌≤◌, [], ℕ, IfOk, Some, length, slice_index_or, flat_map};
 ghost use Rattle.crossbeam_deque.specs.Handles.{worker_deque, worker_view};
 ghost use Rattle.ruled_deques.specs.Counts.{IsFresh, IsOpened, taken_through};
 ghost use Rattle.ruled_deques.specs.EndsView.{given};

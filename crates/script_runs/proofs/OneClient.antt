@@ -20,7 +20,7 @@ AreOf c lines = All (λ line. line.client ≡ c) lines
 abbrev HasNoOther : ℕ → ℕ → List ProgramEntry → Type 0
 HasNoOther c from es = (k : ℕ) → k ≢ c → events_in (own k from es) ≡ []
 
--- what an entry asked, and what it was told
+-- what an entry asked, and its response
 abbrev pub event_in : ProgramEntry → Event
 event_in e = (e.request, e.outcome)
 

@@ -1,5 +1,5 @@
 -- What is written for a script, and the journal of its run.
-use Rattle.std.specs.Prelude.{◌≡◌, ◌<◌, ◌==◌, ℕ, ℤ, Bool, true, false, All, List, [], ◌∷◌, ◌++◌, Option, Some, None, cond, filter, length, map, set, slice_index_or}
+use Rattle.std.specs.Prelude.{◌≡◌, ℕ, ℤ, Bool, true, false, All, List, [], ◌∷◌, Option, Some, None, map}
 use Rattle.std.specs.Io.KnownBytes.{Appends}
 use Rattle.std.specs.List.{flat_map}
 use Rattle.journal.specs.Journals.{Entered, IsLegal, own}
@@ -37,7 +37,7 @@ replies_in answers = map (λ a. a.reply) answers
 abbrev pub ProgramEntry : Type 0
 ProgramEntry = Entered (List ℕ) ℤ ScriptQuestion ProgramSummary
 
--- what entries asked and were told, each beside its place in the journal
+-- what entries asked and their responses, each beside its place in the journal
 abbrev pub events_in : List (ℕ × ProgramEntry) → List Event
 events_in entries = map (λ x. (x.1.request, x.1.outcome)) entries
 

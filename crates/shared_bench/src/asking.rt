@@ -85,7 +85,7 @@ fn one_round<R: Clock + Threads + Wait + Sync>(
     let start = Instant::now(rt)?;
     let reply = ask(rt, view, question, workers)?;
     times.count(start.elapsed(rt)?)?;
-    Ok(told(&reply))
+    Ok(number_in(&reply))
 }
 
 /// The answer for a whole view, and the map that was made where the question makes one.
@@ -108,7 +108,7 @@ fn ask<R: Threads + Wait + Sync>(
 }
 
 /// A number for the answer: itself, a truth as 0 or 1, the size of a map.
-fn told(reply: &Reply) -> i128 {
+fn number_in(reply: &Reply) -> i128 {
     match &reply.0 {
         Answer::Count(count) => i128::from(*count),
         Answer::Truth(truth) => i128::from(*truth),

@@ -25,7 +25,7 @@ const LIMITS: Limits = Limits {
     entries: MOST_ENTRIES,
 };
 
-/// The time of a round's calls, and the sum of the values that they were told.
+/// The time of a round's calls, and the sum of the values that they returned.
 #[derive(Clone, Copy)]
 struct Round {
     time: Duration,
@@ -75,7 +75,7 @@ fn filled_table(alloc: Global, keys: &[Arc<ByteText>]) -> Result<Table<ByteText,
     Ok(table)
 }
 
-/// Makes the calls on a table, and answers the sum of the values that they were told.
+/// Makes the calls on a table, and returns the sum of the values that they returned.
 fn serve_all(
     alloc: Global,
     table: &mut Table<ByteText, i64>,
@@ -136,7 +136,7 @@ impl<C: Clock> Client<ByteText, i64, NoQuery> for Caller<'_, C> {
     }
 }
 
-/// Makes the calls on a shared map, and answers the sum of the values that they were told.
+/// Makes the calls on a shared map, and returns the sum of the values that they returned.
 fn call_all<J: JournalName, R: Wait>(
     rt: &R,
     map: &SharedMap<ByteText, i64, NoQuery, J>,

@@ -73,7 +73,7 @@ fn name_of(call: Call) -> &'static str {
     }
 }
 
-/// The calls of one round, divided among the threads: the sum of the values that they were told.
+/// The calls of one round, divided among the threads: the sum of the values that they returned.
 fn one_round<R: Runtime + AllocGlobal + Threads + Wait + Sync>(
     rt: &R,
     map: &Map,
@@ -86,7 +86,7 @@ fn one_round<R: Runtime + AllocGlobal + Threads + Wait + Sync>(
     let readers = map.readers();
     let shared = &readers;
     let mut sum = 0i64;
-    for told in thread::map_indices(
+    for outcome in thread::map_indices(
         rt,
         rt.alloc(),
         threads as usize,
@@ -99,7 +99,7 @@ fn one_round<R: Runtime + AllocGlobal + Threads + Wait + Sync>(
             }
         },
     )? {
-        sum = sum.wrapping_add(told?);
+        sum = sum.wrapping_add(outcome?);
     }
     Ok(sum)
 }

@@ -57,7 +57,7 @@ fn beside_writers<R: Clock + AllocGlobal + Threads + Wait + Sync>(
     let ended = AtomicBool::new(false);
     let over = &ended;
     let mut median = 0u64;
-    for told in thread::map_indices(
+    for outcome in thread::map_indices(
         rt,
         rt.alloc(),
         WRITERS as usize + 1,
@@ -71,7 +71,7 @@ fn beside_writers<R: Clock + AllocGlobal + Threads + Wait + Sync>(
             Ok(0)
         },
     )? {
-        median = median.max(told?);
+        median = median.max(outcome?);
     }
     Ok(median)
 }

@@ -29,7 +29,7 @@ pub const MOST_PAIRS_OF_STRIPE: u64 = 524_288;
 
 /// The pairs of a map whose keys' path words have one first digit. Each pair keeps the rule.
 ///
-/// A call on a key is given the key's path word, which told its stripe: the key is hashed once.
+/// A call on a key is given the key's path word, by which its stripe was chosen: the key is hashed once.
 ///
 /// Where it has `Marks`, a call that has written sets the bit of its path word before it returns. No clause sees them.
 #[derive(Drop)]

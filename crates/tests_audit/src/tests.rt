@@ -17,12 +17,12 @@ fn verdict_on<R: AllocGlobal + Abort>(rt: &R, text: &[u8]) -> Verdict {
 
 /// The verdict on the text, as the program prints it, is this one. An assertion is proved wherever it is written out, so
 /// it stands here once.
-fn assert_told<R: AllocGlobal + Abort>(rt: &R, text: &[u8], wanted: &str) {
+fn assert_verdict<R: AllocGlobal + Abort>(rt: &R, text: &[u8], wanted: &str) {
     let alloc = rt.alloc();
     let shown = match verdict_on(rt, text) {
         Verdict::Legal(entries) => format!(in alloc; "legal {entries}"),
         Verdict::Bad(line) => format!(in alloc; "bad {line}"),
     };
-    let told = shown.expect(rt, "no room");
-    assert_eq!(rt; told.as_str(), wanted);
+    let printed = shown.expect(rt, "no room");
+    assert_eq!(rt; printed.as_str(), wanted);
 }

@@ -234,7 +234,7 @@ enum Plain {
 }
 
 // The answer as a plain value, with the contents of the map that is made where there is one.
-fn told_by(
+fn plain_answer(
     rt: &impl Abort,
     answer: &Answer<ChosenKey, i64, ThreeItems>,
     made: &Option<Map>,
@@ -250,7 +250,7 @@ fn told_by(
 }
 
 // The same of a part.
-fn told_of(rt: &impl Abort, part: &Part<ChosenKey, i64, ThreeItems>) -> Plain {
+fn plain_of(rt: &impl Abort, part: &Part<ChosenKey, i64, ThreeItems>) -> Plain {
     match part {
         Part::Number(number) => Plain::Number(*number),
         Part::Truth(truth) => Plain::Truth(*truth),
@@ -278,21 +278,21 @@ fn contents(rt: &impl Abort, made: &Option<Map>) -> Contents {
 }
 
 // The answer to the query about the first `number` of the three pairs. A map is made where there is a handle for it.
-fn told_of_first(rt: &impl Abort, alloc: Global, number: usize, query: &Asked) -> Plain
+fn plain_of_first(rt: &impl Abort, alloc: Global, number: usize, query: &Asked) -> Plain
     requires { ⟦<Asked as Bulk<ChosenKey, i64>>⟧.ready query.now }
 {
     let view = first(rt, alloc, number);
     let (answer, made) = ask(alloc, view, query).expect(rt, "no answer");
     assert_eq!(rt; made.is_some(), query.target().is_some());
-    told_by(rt, &answer, &made)
+    plain_answer(rt, &answer, &made)
 }
 
 // The answer to it about the two pieces of a cut.
-fn told_of_two(rt: &impl Abort, alloc: Global, query: &Asked) -> Plain
+fn plain_of_two(rt: &impl Abort, alloc: Global, query: &Asked) -> Plain
     requires { ⟦<Asked as Bulk<ChosenKey, i64>>⟧.ready query.now }
 {
     let view = first(rt, alloc, 3);
-    told_of(rt, &joined(rt, alloc, view, query))
+    plain_of(rt, &joined(rt, alloc, view, query))
 }
 
 // What is seen is what is wanted. An assertion is proved wherever it is written out, so it stands here once.
@@ -301,8 +301,8 @@ fn assert_is<T: PartialEq + Debug + Drop>(rt: &impl Abort, seen: T, want: T) {
 }
 
 // The answer is this one.
-fn assert_told(rt: &impl Abort, told: Option<Plain>, want: Plain) {
-    assert!(rt; told == Some(want));
+fn assert_plain(rt: &impl Abort, seen: Option<Plain>, want: Plain) {
+    assert!(rt; seen == Some(want));
 }
 
 // The query has this answer about all three pairs, about the two pieces of a cut, and about one of them that grew by
@@ -310,9 +310,9 @@ fn assert_told(rt: &impl Abort, told: Option<Plain>, want: Plain) {
 fn assert_tells(rt: &impl Abort, alloc: Global, query: &Asked, want: Plain)
     requires { ⟦<Asked as Bulk<ChosenKey, i64>>⟧.ready query.now }
 {
-    assert_told(rt, Some(told_of_first(rt, alloc, 3, query)), want);
-    assert_told(rt, Some(told_of_two(rt, alloc, query)), want);
-    assert_told(rt, Some(growing::told_of_grown(rt, alloc, query)), want);
+    assert_plain(rt, Some(plain_of_first(rt, alloc, 3, query)), want);
+    assert_plain(rt, Some(plain_of_two(rt, alloc, query)), want);
+    assert_plain(rt, Some(growing::plain_of_grown(rt, alloc, query)), want);
 }
 
 // Of three pairs, those with keys below a number: how many there are, whether there are some, whether they are all.
@@ -335,10 +335,10 @@ fn numbers_and_truths(rt: HostRuntime) {
 #[test]
 fn no_pairs_pass_all_and_none(rt: HostRuntime) {
     let alloc = rt.alloc();
-    let all = told_of_first(&rt, alloc, 0, &Asked::ForAll(below(0)));
-    assert_told(&rt, Some(all), Plain::Truth(true));
-    let some = told_of_first(&rt, alloc, 0, &Asked::Exists(below(4)));
-    assert_told(&rt, Some(some), Plain::Truth(false));
+    let all = plain_of_first(&rt, alloc, 0, &Asked::ForAll(below(0)));
+    assert_plain(&rt, Some(all), Plain::Truth(true));
+    let some = plain_of_first(&rt, alloc, 0, &Asked::Exists(below(4)));
+    assert_plain(&rt, Some(some), Plain::Truth(false));
 }
 
 // Key 1 alone passes below 2, in the upper piece; no key passes below 1.
@@ -377,8 +377,8 @@ fn sums_and_extremes(rt: HostRuntime) {
         (3, SUMS),
     ];
     for (number, want) in table {
-        let told = told_of_first(&rt, alloc, number, &query);
-        assert_told(&rt, Some(told), Plain::Item(want));
+        let seen = plain_of_first(&rt, alloc, number, &query);
+        assert_plain(&rt, Some(seen), Plain::Item(want));
     }
     assert_tells(&rt, alloc, &query, Plain::Item(SUMS));
 }

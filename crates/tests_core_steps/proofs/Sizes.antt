@@ -1,4 +1,4 @@
--- Queries that ask how many pairs a map has, and what is told where there is something.
+-- Queries that ask how many pairs a map has, and what is returned where there is something.
 use Rattle.std.proofs.Common.{◌≡◌, ℕ, true, [], ◌∷◌, length, filter, refl, ap, sym, subst, ◌∙◌, Option, Some, None}
 use Rattle.std.specs.Prelude.{Result, Ok, Err, IfOk, IfSome}
 use Rattle.versions.specs.Map.{Map}
@@ -7,7 +7,7 @@ use Rattle.bulk_ops.specs.Summaries.{summary_of}
 use Rattle.bulk_ops.specs.declared.asks.Answer as code
 use Rattle.bulk_ops.specs.declared.asks.Answer.TheVariants.{Count, Truth, Found, Made, Images, Item}
 use Rattle.handles.specs.Machine.{State, Job}
-use Rattle.tests_core_steps.specs.Clients.{AsksSize, IsOnlyJob, IsToldOf, TellsCount}
+use Rattle.tests_core_steps.specs.Clients.{AsksSize, IsOnlyJob, IsAnswerTo, TellsCount}
 
 -- every pair passes
 all_pass : {K V : Type 0} (m : Map K V) → filter (passes (λ k v. true)) m ≡ m
@@ -25,7 +25,7 @@ size_answer m (Answer.made n) e = absurd e
 size_answer m (Answer.images n) e = absurd e
 size_answer m (Answer.item i) e = absurd e
 
--- where a number is told, it is a count's
+-- where a number is returned, it is a count's
 pub tells_count : {K V I : Type 0} (a : code.Answer K V I) (n : ℕ) → summary_of a ≡ Summary.number n → TellsCount a
 tells_count (Count k) n e = tt
 tells_count (Truth b) n e = cc
@@ -46,19 +46,19 @@ pub count_is : {K V I : Type 0} (a : code.Answer K V I) (k n : ℕ) → a ≡ Co
 count_is {K = K} {V = V} {I = I} a k n is e = ap (λ (b : code.Answer K V I). number_in (summary_of b)) (sym is) ∙ ap (λ (t : Summary K V I). number_in t) e
 
 module _ {K V Q I : Type 0} (answered : Q → Map K V → Answer K V I → Type 0) (q : Q) (m : Map K V) where
-  -- what is told of it is the size
-  pub size_is_told : (a : code.Answer K V I) → AsksSize answered q → IsToldOf answered q m a → summary_of a ≡ Summary.number (length m)
-  size_is_told a asks is = is.told_so ∙ ap (λ (x : Answer K V I). summary x) (asks m is.answer is.is_answer)
+  -- what is returned for it is the size
+  pub size_is_returned : (a : code.Answer K V I) → AsksSize answered q → IsAnswerTo answered q m a → summary_of a ≡ Summary.number (length m)
+  size_is_returned a asks is = is.returns_so ∙ ap (λ (x : Answer K V I). summary x) (asks m is.answer is.is_answer)
 
-  -- what is told of a job that is the number's only one
-  pub told_of_only : {E : Type 0} (s : State K V Q) (j : ℕ) (r : Result (Option (code.Answer K V I)) E) → IsOnlyJob s j (record { query = q; frozen = m })
-      → IfOk r (λ o. IfSome o (λ a. (p : Q) (n : Map K V) → IsOnlyJob s j (record { query = p; frozen = n }) → IsToldOf answered p n a)) → IfOk r (λ o. IfSome o (λ a. IsToldOf answered q m a))
-  told_of_only s j (Ok (Some a)) only told = told q m only
-  told_of_only s j (Ok None) only told = tt
-  told_of_only s j (Err e) only told = tt
+  -- what is returned for a job that is the number's only one
+  pub returned_of_only : {E : Type 0} (s : State K V Q) (j : ℕ) (r : Result (Option (code.Answer K V I)) E) → IsOnlyJob s j (record { query = q; frozen = m })
+      → IfOk r (λ o. IfSome o (λ a. (p : Q) (n : Map K V) → IsOnlyJob s j (record { query = p; frozen = n }) → IsAnswerTo answered p n a)) → IfOk r (λ o. IfSome o (λ a. IsAnswerTo answered q m a))
+  returned_of_only s j (Ok (Some a)) only returned = returned q m only
+  returned_of_only s j (Ok None) only returned = tt
+  returned_of_only s j (Err e) only returned = tt
 
-  pub told_here : (o : Option (code.Answer K V I)) (a : code.Answer K V I) → o ≡ Some a → IfSome o (λ b. IsToldOf answered q m b) → IsToldOf answered q m a
-  told_here o a e h = subst (λ (p : Option (code.Answer K V I)). IfSome p (λ b. IsToldOf answered q m b)) e h
+  pub returned_here : (o : Option (code.Answer K V I)) (a : code.Answer K V I) → o ≡ Some a → IfSome o (λ b. IsAnswerTo answered q m b) → IsAnswerTo answered q m a
+  returned_here o a e h = subst (λ (p : Option (code.Answer K V I)). IfSome p (λ b. IsAnswerTo answered q m b)) e h
 
 pub only_here : {K V Q : Type 0} (s : State K V Q) (job : Job K V Q) (o : Option ℕ) (j : ℕ) → o ≡ Some j → IfSome o (λ n. IsOnlyJob s n job) → IsOnlyJob s j job
 only_here s job o j e h = subst (λ (p : Option ℕ). IfSome p (λ n. IsOnlyJob s n job)) e h

@@ -18,17 +18,17 @@ module _ {K V Q : Type 0} where
   NumbersStay s t = (j : ℕ) (job : Job K V Q) → IsOnlyJob s j job → IsOnlyJob t j job
 
 module _ {K V Q I : Type 0} (answered : Q → Map K V → plain.Answer K V I → Type 0) where
-  -- what is told is told of an answer of the query for the map
-  pub record IsToldOf (q : Q) (m : Map K V) (told : Answer K V I) : Type 0 where
+  -- what is returned has the summary of an answer of the query for the map
+  pub record IsAnswerTo (q : Q) (m : Map K V) (returned : Answer K V I) : Type 0 where
     pub answer : plain.Answer K V I
     pub is_answer : answered q m answer
-    pub told_so : summary_of told ≡ plain.summary answer
+    pub returns_so : summary_of returned ≡ plain.summary answer
 
   -- the query's one answer for a map is how many pairs it has
   abbrev pub AsksSize : Q → Type 0
   AsksSize q = (m : Map K V) (a : plain.Answer K V I) → answered q m a → a ≡ plain.Answer.number (length m)
 
--- what is told is a count
+-- what is returned is a count
 abbrev pub TellsCount : {K V I : Type 0} → Answer K V I → Type 0
 TellsCount (Count n) = Unit {0}
 TellsCount a = ⊥

@@ -8,7 +8,7 @@ ghost use Rattle.held_maps.specs.declared.reply.Reply.TheVariants as replies;
 ghost use Rattle.versions.specs.Map.{Map};
 ghost use Rattle.core_steps.specs.Steps.{CanAsk, asked_by};
 ghost use Rattle.core_steps.specs.declared.outcome.Outcome.TheVariants as outcomes;
-ghost use Rattle.tests_core_steps.specs.Clients.{AsksSize, IsOnlyJob, IsToldOf, NumbersStay, TellsCount};
+ghost use Rattle.tests_core_steps.specs.Clients.{AsksSize, IsOnlyJob, IsAnswerTo, NumbersStay, TellsCount};
 
 use bulk_ops::{Answer, Asks};
 use core_steps::{Core, Outcome, Step};
@@ -33,8 +33,8 @@ pub fn size_and_count<K: PathKey + Drop, V: Eq + Drop, Q: Asks<K, V> + Drop>(
     requires ready { Q.ready query.value }
     requires asks { AsksSize Q.answered query.value }
     requires steps { All (λ step. CanAsk Q.ready (asked_by step)) steps.now }
-    ensures size { IfOk result (λ told. IfSome told (λ both. both.0 ≡ length (held_by core.old.state.machine handle))) }
-    ensures count { IfOk result (λ told. IfSome told (λ both. both.1 ≡ both.0)) }
+    ensures size { IfOk result (λ returned. IfSome returned (λ both. both.0 ≡ length (held_by core.old.state.machine handle))) }
+    ensures count { IfOk result (λ returned. IfSome returned (λ both. both.1 ≡ both.0)) }
 {
     let Some(size) = size_of(alloc, core, handle)? else {
         return Ok(None);
@@ -56,7 +56,7 @@ pub fn answer_of<K: PathKey + Drop, V: Eq + Drop, Q: Asks<K, V> + Drop>(
 ) -> Result<Option<Answer<K, V, Q::Item>>, NoMemory>
     requires ready { Q.ready query.value }
     requires steps { All (λ step. CanAsk Q.ready (asked_by step)) steps.now }
-    ensures { IfOk result (λ told. IfSome told (λ answer. IsToldOf Q.answered query.value (held_by core.old.state.machine handle) answer)) }
+    ensures { IfOk result (λ returned. IfSome returned (λ answer. IsAnswerTo Q.answered query.value (held_by core.old.state.machine handle) answer)) }
 {
     let Some(job) = opened(alloc, core, handle, query)? else {
         return Ok(None);
@@ -71,8 +71,8 @@ fn size_of<K: PathKey + Drop, V: Eq + Drop, Q: Asks<K, V> + Drop>(
     core: &mut Core<K, V, Q>,
     handle: u32,
 ) -> Result<Option<u64>, NoMemory>
-    ensures size { IfOk result (λ told. IfSome told (λ size. size ≡ length (held_by core.old.state.machine handle))) }
-    ensures map { IfOk result (λ told. IfSome told (λ size. held_by core.new.state.machine handle ≡ held_by core.old.state.machine handle)) }
+    ensures size { IfOk result (λ returned. IfSome returned (λ size. size ≡ length (held_by core.old.state.machine handle))) }
+    ensures map { IfOk result (λ returned. IfSome returned (λ size. held_by core.new.state.machine handle ≡ held_by core.old.state.machine handle)) }
 {
     let outcome = core.step(alloc, Step::Call(Call::On(handle, Command::Size)))?;
     Ok(size_in(outcome))
@@ -96,7 +96,7 @@ fn opened<K: PathKey + Drop, V: Eq + Drop, Q: Asks<K, V> + Drop>(
     query: Arc<Q>,
 ) -> Result<Option<u64>, NoMemory>
     requires { Q.ready query.value }
-    ensures { IfOk result (λ told. IfSome told (λ job. IsOnlyJob core.new.state.machine job (record { query = query.value; frozen = held_by core.old.state.machine handle }))) }
+    ensures { IfOk result (λ returned. IfSome returned (λ job. IsOnlyJob core.new.state.machine job (record { query = query.value; frozen = held_by core.old.state.machine handle }))) }
 {
     match core.step(alloc, Step::Freeze(handle, query))? {
         Outcome::Frozen(job) => Ok(Some(job)),
@@ -125,7 +125,7 @@ fn finished<K: PathKey + Drop, V: Eq + Drop, Q: Asks<K, V> + Drop>(
     core: &mut Core<K, V, Q>,
     job: u64,
 ) -> Result<Option<Answer<K, V, Q::Item>>, NoMemory>
-    ensures { IfOk result (λ told. IfSome told (λ answer. (q : Q) (m : Map K V) → IsOnlyJob core.old.state.machine job (record { query = q; frozen = m }) → IsToldOf Q.answered q m answer)) }
+    ensures { IfOk result (λ returned. IfSome returned (λ answer. (q : Q) (m : Map K V) → IsOnlyJob core.old.state.machine job (record { query = q; frozen = m }) → IsAnswerTo Q.answered q m answer)) }
 {
     match core.step(alloc, Step::Finish(job))? {
         Outcome::Answer(answer) => Ok(Some(answer)),

@@ -23,14 +23,14 @@ pub struct Machine {
 /// The outcome of a step, and the rows that it shows: those of a view, and those that a find may give.
 #[derive(Drop)]
 pub struct Expected {
-    pub told: PlainOutcome,
+    pub returned: PlainOutcome,
     pub rows: Vec<PlainPair>,
 }
 
-// The outcome `told`, with no rows.
-fn telling(alloc: Global, told: PlainOutcome) -> Expected {
+// The outcome, with no rows.
+fn with_no_rows(alloc: Global, returned: PlainOutcome) -> Expected {
     Expected {
-        told,
+        returned,
         rows: Vec::new(alloc),
     }
 }
@@ -49,13 +49,13 @@ impl Machine {
     /// Makes a step.
     pub fn step(&mut self, rt: &impl Abort, alloc: Global, plan: Plan) -> Expected {
         if let Plan::Move(job, chosen) = plan {
-            return telling(alloc, self.make_move(rt, alloc, job, chosen));
+            return with_no_rows(alloc, self.make_move(rt, alloc, job, chosen));
         }
         match plan.request() {
             Some(request) if !self.is_unfinished(rt, alloc, request) => {
                 self.serve(rt, alloc, request)
             }
-            _ => telling(alloc, PlainOutcome::Unfinished),
+            _ => with_no_rows(alloc, PlainOutcome::Unfinished),
         }
     }
 
@@ -120,7 +120,7 @@ impl Machine {
             self.jobs.retain(|open| open.number != number);
         }
         Expected {
-            told: outcome_of(served.outcome),
+            returned: outcome_of(served.outcome),
             rows: served.rows,
         }
     }

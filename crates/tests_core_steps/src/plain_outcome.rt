@@ -38,8 +38,8 @@ pub enum PlainOutcome {
 }
 
 /// The outcome of a request, as the outcome of a step.
-pub fn outcome_of(told: TableOutcome) -> PlainOutcome {
-    match told {
+pub fn outcome_of(returned: TableOutcome) -> PlainOutcome {
+    match returned {
         TableOutcome::Unit => PlainOutcome::Unit,
         TableOutcome::Old(value) => PlainOutcome::Old(value),
         TableOutcome::Done(done) => PlainOutcome::Done(done),
@@ -58,7 +58,7 @@ pub fn outcome_of(told: TableOutcome) -> PlainOutcome {
 }
 
 /// An outcome as a plain value.
-pub fn told_of(outcome: &TestOutcome) -> PlainOutcome {
+pub fn plain_of(outcome: &TestOutcome) -> PlainOutcome {
     match outcome {
         Outcome::Reply(reply) => outcome_of(outcome_of_reply(reply)),
         Outcome::View(_) => PlainOutcome::Viewed,
@@ -72,7 +72,7 @@ pub fn told_of(outcome: &TestOutcome) -> PlainOutcome {
 }
 
 /// A part as a plain value.
-pub fn part_told(part: &TestPart) -> PlainOutcome {
+pub fn plain_part(part: &TestPart) -> PlainOutcome {
     match part {
         Part::Number(count) => PlainOutcome::Count(*count),
         Part::Truth(truth) => PlainOutcome::Truth(*truth),

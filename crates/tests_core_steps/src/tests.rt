@@ -15,7 +15,7 @@ mod refusals;
 mod rows;
 mod twins;
 
-use crate::plain_outcome::{PlainOutcome, TestOutcome, told_of};
+use crate::plain_outcome::{PlainOutcome, TestOutcome, plain_of};
 use crate::plans::{Plan, TestCore, TestStep, step_of, steps_of};
 use handles::Limits;
 use std::alloc::Global;
@@ -42,12 +42,12 @@ fn plans_of(rt: &impl Abort, alloc: Global, rows: &[Case]) -> Vec<Plan> {
 }
 
 // The outcomes of the steps.
-fn tolds_of(rt: &impl Abort, alloc: Global, rows: &[Case]) -> Vec<PlainOutcome> {
-    let mut told = Vec::new(alloc);
+fn outcomes_of(rt: &impl Abort, alloc: Global, rows: &[Case]) -> Vec<PlainOutcome> {
+    let mut returned = Vec::new(alloc);
     for row in rows {
-        told.push(row.1).expect(rt, "no room");
+        returned.push(row.1).expect(rt, "no room");
     }
-    told
+    returned
 }
 
 // A core with the largest limits, two workers and grain 1.
@@ -65,13 +65,13 @@ fn answer_to(rt: &impl Abort, alloc: Global, core: &mut TestCore, step: TestStep
 // What the core returns for a step.
 fn take_step(rt: &impl Abort, alloc: Global, core: &mut TestCore, plan: Plan) -> PlainOutcome {
     let step = step_of(rt, alloc, plan);
-    told_of(&answer_to(rt, alloc, core, step))
+    plain_of(&answer_to(rt, alloc, core, step))
 }
 
 // The core returns these outcomes for the steps, one after another.
 fn assert_steps(rt: &impl Abort, alloc: Global, core: &mut TestCore, rows: &[Case]) {
-    for (plan, told) in rows {
-        assert_told(rt, take_step(rt, alloc, core, *plan), *told);
+    for (plan, returned) in rows {
+        assert_outcome(rt, take_step(rt, alloc, core, *plan), *returned);
     }
 }
 
@@ -81,26 +81,26 @@ fn assert_run(
     alloc: Global,
     core: &mut TestCore,
     plans: &[Plan],
-    told: &[PlainOutcome],
+    returned: &[PlainOutcome],
 ) {
     let steps = steps_of(rt, alloc, plans);
     match core.run(alloc, steps.as_slice()) {
-        Ok(trace) => assert_all_told(rt, &trace.outcomes, told),
+        Ok(trace) => assert_outcomes(rt, &trace.outcomes, returned),
         Err(_) => panic!(rt; "no memory"),
     }
 }
 
 // Each outcome is the one that is expected.
-fn assert_all_told(rt: &impl Abort, outcomes: &[TestOutcome], told: &[PlainOutcome]) {
-    assert_is(rt, outcomes.len(), told.len());
-    for (outcome, told) in outcomes.iter().zip(told) {
-        assert_told(rt, told_of(outcome), *told);
+fn assert_outcomes(rt: &impl Abort, outcomes: &[TestOutcome], returned: &[PlainOutcome]) {
+    assert_is(rt, outcomes.len(), returned.len());
+    for (outcome, returned) in outcomes.iter().zip(returned) {
+        assert_outcome(rt, plain_of(outcome), *returned);
     }
 }
 
 // The outcome is the one that is expected.
-fn assert_told(rt: &impl Abort, told: PlainOutcome, want: PlainOutcome) {
-    assert_is(rt, told, want);
+fn assert_outcome(rt: &impl Abort, returned: PlainOutcome, want: PlainOutcome) {
+    assert_is(rt, returned, want);
 }
 
 // It is so.

@@ -27,18 +27,18 @@ pub enum PlainOutcome {
 }
 
 /// What a call returns.
-pub fn call_told(answer: &Result<CallReply<i64>, Refusal>) -> PlainOutcome {
+pub fn call_outcome_of(answer: &Result<CallReply<i64>, Refusal>) -> PlainOutcome {
     match answer {
         Ok(CallReply::Unit) => PlainOutcome::Unit,
-        Ok(CallReply::Reply(reply)) => reply_told(reply),
+        Ok(CallReply::Reply(reply)) => reply_outcome(reply),
         Err(refusal) => PlainOutcome::Refused(*refusal),
     }
 }
 
 // What a reply says.
-fn reply_told(reply: &Reply<i64>) -> PlainOutcome {
+fn reply_outcome(reply: &Reply<i64>) -> PlainOutcome {
     match reply {
-        Reply::Old(value) => PlainOutcome::Old(old_told(value)),
+        Reply::Old(value) => PlainOutcome::Old(old_value(value)),
         Reply::Done(done) => PlainOutcome::Done(*done),
         Reply::Size(size) => PlainOutcome::Size(*size),
         Reply::Cleared => PlainOutcome::Cleared,
@@ -46,7 +46,7 @@ fn reply_told(reply: &Reply<i64>) -> PlainOutcome {
 }
 
 // The value before.
-fn old_told(value: &Option<Arc<i64>>) -> Option<i64> {
+fn old_value(value: &Option<Arc<i64>>) -> Option<i64> {
     match value {
         Some(value) => Some(**value),
         None => None,
@@ -62,7 +62,7 @@ pub fn value_in(view: &View<ChosenKey, i64>) -> Option<i64> {
 }
 
 /// What a view returns.
-pub fn view_told(answer: &Result<View<ChosenKey, i64>, Refusal>) -> PlainOutcome {
+pub fn view_outcome(answer: &Result<View<ChosenKey, i64>, Refusal>) -> PlainOutcome {
     match answer {
         Ok(view) => PlainOutcome::Viewed(view.len(), value_in(view)),
         Err(refusal) => PlainOutcome::Refused(*refusal),
@@ -70,7 +70,7 @@ pub fn view_told(answer: &Result<View<ChosenKey, i64>, Refusal>) -> PlainOutcome
 }
 
 /// What a freeze returns.
-pub fn freeze_told(answer: &Result<(u64, View<ChosenKey, i64>), Refusal>) -> PlainOutcome {
+pub fn freeze_outcome(answer: &Result<(u64, View<ChosenKey, i64>), Refusal>) -> PlainOutcome {
     match answer {
         Ok((job, view)) => PlainOutcome::Frozen(*job, view.len(), value_in(view)),
         Err(refusal) => PlainOutcome::Refused(*refusal),
@@ -78,19 +78,21 @@ pub fn freeze_told(answer: &Result<(u64, View<ChosenKey, i64>), Refusal>) -> Pla
 }
 
 /// What a finish returns.
-pub fn finish_told(answer: &Result<Answer<ChosenKey, i64, ThreeItems>, Refusal>) -> PlainOutcome {
+pub fn finish_outcome(
+    answer: &Result<Answer<ChosenKey, i64, ThreeItems>, Refusal>,
+) -> PlainOutcome {
     match answer {
-        Ok(answer) => answer_told(answer),
+        Ok(answer) => answer_outcome(answer),
         Err(refusal) => PlainOutcome::Refused(*refusal),
     }
 }
 
 // What an answer says.
-fn answer_told(answer: &Answer<ChosenKey, i64, ThreeItems>) -> PlainOutcome {
+fn answer_outcome(answer: &Answer<ChosenKey, i64, ThreeItems>) -> PlainOutcome {
     match answer {
         Answer::Count(count) => PlainOutcome::Count(*count),
         Answer::Truth(truth) => PlainOutcome::Truth(*truth),
-        Answer::Found(found) => PlainOutcome::Found(found_told(found)),
+        Answer::Found(found) => PlainOutcome::Found(found_pair(found)),
         Answer::Made(count) => PlainOutcome::Made(*count),
         Answer::Images(map) => PlainOutcome::Made(map.len()),
         Answer::Item((sum, (least, greatest))) => PlainOutcome::Item(*sum, *least, *greatest),
@@ -98,7 +100,7 @@ fn answer_told(answer: &Answer<ChosenKey, i64, ThreeItems>) -> PlainOutcome {
 }
 
 // The pair that is found.
-fn found_told(found: &Option<Pair<ChosenKey, i64>>) -> Option<(u64, i64)> {
+fn found_pair(found: &Option<Pair<ChosenKey, i64>>) -> Option<(u64, i64)> {
     match found {
         Some(pair) => Some((pair.0.path, *pair.1)),
         None => None,
@@ -106,7 +108,7 @@ fn found_told(found: &Option<Pair<ChosenKey, i64>>) -> Option<(u64, i64)> {
 }
 
 /// The outcome where there is nothing but a refusal to report.
-pub fn unit_told(answer: Result<(), Refusal>) -> PlainOutcome {
+pub fn unit_outcome(answer: Result<(), Refusal>) -> PlainOutcome {
     match answer {
         Ok(()) => PlainOutcome::Unit,
         Err(refusal) => PlainOutcome::Refused(refusal),

@@ -1,10 +1,10 @@
 //! Steps as plain values, and how a table makes them.
-ghost use Rattle.std.specs.Prelude.{◌≡◌, IfOk, IfSome};
+ghost use Rattle.std.specs.Prelude.{IfOk, IfSome};
 ghost use Rattle.handles.specs.Machine.{job_at};
 
 use crate::asking::{Ask, Asked, Asking, ThreeItems, query_of};
 use crate::plain_outcome::{
-    PlainOutcome, call_told, finish_told, freeze_told, unit_told, view_told,
+    PlainOutcome, call_outcome_of, finish_outcome, freeze_outcome, unit_outcome, view_outcome,
 };
 use bulk_ops::{Answer, Asks, Part, work};
 use combiner::Bulk;
@@ -151,7 +151,7 @@ fn finish(
 // Makes the call, which shares its key and values.
 fn serve(alloc: Global, table: &mut Asking, call: &Call<ChosenKey, i64>) -> PlainOutcome {
     match call.try_clone::<Asked>() {
-        Ok(call) => call_told(&table.serve(alloc, call)),
+        Ok(call) => call_outcome_of(&table.serve(alloc, call)),
         Err(_) => PlainOutcome::Refused(Refusal::NoMemory),
     }
 }
@@ -159,7 +159,7 @@ fn serve(alloc: Global, table: &mut Asking, call: &Call<ChosenKey, i64>) -> Plai
 // Opens a job with the query.
 fn freeze(table: &mut Asking, handle: u32, query: &Arc<Asked>) -> PlainOutcome {
     match Arc::try_clone(query) {
-        Ok(query) => freeze_told(&table.freeze(handle, query)),
+        Ok(query) => freeze_outcome(&table.freeze(handle, query)),
         Err(_) => PlainOutcome::Refused(Refusal::NoMemory),
     }
 }
@@ -169,9 +169,9 @@ fn freeze(table: &mut Asking, handle: u32, query: &Arc<Asked>) -> PlainOutcome {
 pub fn take(alloc: Global, table: &mut Asking, step: &Prepared) -> PlainOutcome {
     match step {
         Prepared::Call(call) => serve(alloc, table, call),
-        Prepared::View(handle) => view_told(&table.view(*handle)),
+        Prepared::View(handle) => view_outcome(&table.view(*handle)),
         Prepared::Freeze(handle, query) => freeze(table, *handle, query),
-        Prepared::Finish(job) => finish_told(&finish(alloc, table, *job)),
-        Prepared::Abandon(job) => unit_told(table.abandon(*job)),
+        Prepared::Finish(job) => finish_outcome(&finish(alloc, table, *job)),
+        Prepared::Abandon(job) => unit_outcome(table.abandon(*job)),
     }
 }

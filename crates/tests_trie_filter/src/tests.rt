@@ -204,7 +204,7 @@ fn refusals(alloc: Global, map: &Map, numbers: u32) -> Result<(u32, Option<Map>)
 
 // Of all seven, three branches and their children are made, and a bucket and its pairs: eight requests.
 #[test]
-fn want_of_memory_leaves_the_map(rt: HostRuntime) -> Result<(), Fail> {
+fn out_of_memory_leaves_the_map(rt: HostRuntime) -> Result<(), Fail> {
     let map = some_of_seven(rt.alloc(), 127, Stamp(1))?;
     let (refused, left) = refusals(rt.alloc(), &map, 127)?;
     assert_is(&rt, refused > 7, true);

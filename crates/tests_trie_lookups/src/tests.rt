@@ -186,7 +186,7 @@ fn ends(alloc: Global, map: &Map, keys: &[&ChosenKey], bytes: usize) -> Result<b
 
 // The list is one request, and there is no other; a list of no key makes none.
 #[test]
-fn a_refused_list_is_told(rt: HostRuntime) -> Result<(), Fail> {
+fn a_refused_list_is_an_error(rt: HostRuntime) -> Result<(), Fail> {
     let alloc = rt.alloc();
     let put = listed(alloc, &KEYS)?;
     let map = map_of(alloc, &put)?;

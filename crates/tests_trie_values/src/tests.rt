@@ -225,7 +225,7 @@ fn refusals(alloc: Global, map: &Map<u32>) -> Result<(u32, Option<Map<u32>>), Fa
 }
 
 #[test]
-fn want_of_memory_leaves_the_map(rt: HostRuntime) -> Result<(), Fail> {
+fn out_of_memory_leaves_the_map(rt: HostRuntime) -> Result<(), Fail> {
     let map = seven(rt.alloc())?;
     let (refused, made) = refusals(rt.alloc(), &map)?;
     assert_is(&rt, refused > 14, true);

@@ -98,7 +98,7 @@ fn a_root_has_all_digits(rt: HostRuntime) {
 
 // The row asks for memory once, and the root once.
 #[test]
-fn want_of_memory_is_told(rt: HostRuntime) {
+fn out_of_memory_is_an_error(rt: HostRuntime) {
     let alloc = rt.alloc();
     let all = Gathered::<ChosenKey, u32>::new(alloc).expect(&rt, "no row");
     let taken = take_all(alloc).expect(&rt, "no list");

@@ -41,7 +41,7 @@ pub fn ask_one<K: PathKey + Drop, R: Runtime + AllocGlobal>(
         let start = Instant::now(rt)?;
         let answer = ask(rt.alloc(), view, question)?;
         best.count(start.elapsed(rt)?);
-        checksum = told(answer);
+        checksum = checksum_of(answer);
     }
     best.show(rt, name, 1, checksum)
 }
@@ -58,7 +58,7 @@ fn ask<K: PathKey + Drop>(
 }
 
 /// The answer as one number: a truth, or whether a pair was found, as 0 or 1, and a map as its number of pairs.
-fn told<K: PathKey + Drop>(answer: Part<K, i64, i128>) -> i128 {
+fn checksum_of<K: PathKey + Drop>(answer: Part<K, i64, i128>) -> i128 {
     match answer {
         Part::Number(number) => i128::from(number),
         Part::Truth(truth) => i128::from(truth),

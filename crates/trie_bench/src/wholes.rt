@@ -1,5 +1,4 @@
 //! Rounds of what is done with a map as a whole: walks, cuts, snapshots, merges, and maps made by plain closures.
-ghost use Rattle.std.specs.Prelude.{◌≡◌, IfOk};
 
 use crate::maps::{empty, put_all, snapshot_all};
 use crate::rounds::fill;

@@ -1,5 +1,4 @@
 //! Maps in text.
-ghost use Rattle.std.specs.Prelude.{◌≡◌};
 
 use crate::trie_map::TrieMap;
 use hash_path::PathKey;

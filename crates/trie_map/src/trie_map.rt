@@ -1,9 +1,8 @@
 //! The map that threads share.
-ghost use Rattle.std.specs.Prelude.{◌≡◌, ◌≤◌, All, IfOk, IfSome, IsTrue, None, false, length};
+ghost use Rattle.std.specs.Prelude.{◌≡◌, IfOk, IfSome, IsTrue, None, false, length};
 ghost use Rattle.hash_path.specs.Digits.{fan_out};
 ghost use Rattle.stripes.specs.Rules.{AllKeep};
 ghost use Rattle.stripes.specs.Stripes.{digits_of, up_to};
-ghost use Rattle.versions.specs.declared.version.TheConstants.{MOST_PAIRS};
 
 mod asking;
 mod counting;

@@ -1,13 +1,12 @@
 //! A pair put below a node, where it stands as far as nobody else holds it.
 
-ghost use Rattle.std.specs.Prelude.{◌≡◌, ◌==◌, ◌<◌, ◌≤◌, ◌+◌, ◌^◌, ◌*◌, ◌%◌, option_map, length, map, take, bit_or, IfOk, OnErr, Some, None, is_some, [], ◌∷◌, true, false};
+ghost use Rattle.std.specs.Prelude.{◌≡◌, ◌==◌, ◌<◌, ◌≤◌, ◌+◌, ◌^◌, ◌*◌, option_map, length, take, IfOk, OnErr, Some, None, true, false};
 ghost use Rattle.std.specs.Arc.{arc_value};
 ghost use Rattle.std.specs.Int.{bit_at};
 ghost use Rattle.std.specs.Int.RustNames.{count_ones};
-ghost use Rattle.std.specs.List.{insert};
 ghost use Rattle.std.specs.FinMap.{find as first_of};
 ghost use Rattle.hash_path.specs.Digits.{fan_out};
-ghost use Rattle.trie_shape.specs.Tree.{IsTrie, branch, bucket, entries, trees};
+ghost use Rattle.trie_shape.specs.Tree.{IsTrie, branch, entries};
 ghost use Rattle.trie_shape.specs.View.{tree, branch_of, in_row};
 ghost use Rattle.trie_copy.specs.Writes.{KeysAgree};
 ghost use Rattle.trie_node.specs.PutInPlace.{PutsIn, is_refusable};

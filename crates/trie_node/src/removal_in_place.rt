@@ -1,12 +1,9 @@
 //! A pair removed below a node, where it stands as far as nobody else holds it.
 
-ghost use Rattle.std.specs.Prelude.{◌≡◌, ◌&&◌, option_map, is_some, None, IfOk, OnOk, OnErr, true, false};
-ghost use Rattle.std.specs.Arc.{arc_value};
+ghost use Rattle.std.specs.Prelude.{◌≡◌, is_some, None, IfOk, OnErr, true};
 ghost use Rattle.std.specs.FinMap.{find as first_of};
-ghost use Rattle.trie_shape.specs.Shape.{nodes, Restamps};
-ghost use Rattle.trie_shape.specs.Roots.{IsRoot, map_of, word_of};
-ghost use Rattle.trie_shape.specs.Map.{value_at, without};
-ghost use Rattle.trie_copy.specs.Changes.{IsRemoval};
+ghost use Rattle.trie_shape.specs.Shape.{nodes};
+ghost use Rattle.trie_shape.specs.Map.{without};
 ghost use Rattle.trie_shape.specs.Tree.{IsTrie, entries};
 ghost use Rattle.trie_shape.specs.View.{tree, branch_of, in_row};
 ghost use Rattle.trie_node.specs.RemovalInPlace.{TakesOut, TakesInside};

@@ -1,6 +1,6 @@
 //! A condition that keeps a map within its limit.
 
-ghost use Rattle.std.specs.Prelude.{◌≡◌, ◌&&◌, ◌||◌, not, Bool, Option, is_some, option_map};
+ghost use Rattle.std.specs.Prelude.{◌&&◌, ◌||◌, not, Option, is_some};
 
 use std::sync::Arc;
 use trie_node::Condition;

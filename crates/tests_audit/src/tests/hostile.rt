@@ -1,5 +1,5 @@
 //! Bytes that nobody wrote as a journal.
-use crate::tests::assert_told;
+use crate::tests::assert_verdict;
 use std::alloc::{AllocError, Global};
 use std::panic::Expect;
 
@@ -70,6 +70,6 @@ const LINES: [Case; 10] = [
 fn hostile_lines_are_bad(rt: HostRuntime) {
     for (front, bytes, times, back) in LINES {
         let text = repeated(rt.alloc(), front, bytes, times, back);
-        assert_told(&rt, &text.expect(&rt, "no text"), "bad 1");
+        assert_verdict(&rt, &text.expect(&rt, "no text"), "bad 1");
     }
 }

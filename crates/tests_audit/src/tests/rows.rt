@@ -1,5 +1,5 @@
 //! Journals whose verdict is known from outside.
-use crate::tests::assert_told;
+use crate::tests::assert_verdict;
 use std::alloc::{AllocError, Global};
 use std::panic::Expect;
 use std::process::Abort;
@@ -37,9 +37,9 @@ type Case = (&'static [u8], &'static [u8], &'static str);
 
 #[test]
 fn legal_journals_are_legal(rt: HostRuntime) {
-    assert_told(&rt, FIRST, "legal 4");
-    assert_told(&rt, BULK, "legal 16");
-    assert_told(&rt, b"{\"entries\":0}\n", "legal 0");
+    assert_verdict(&rt, FIRST, "legal 4");
+    assert_verdict(&rt, BULK, "legal 16");
+    assert_verdict(&rt, b"{\"entries\":0}\n", "legal 0");
 }
 
 /// How many newlines there are.
@@ -56,7 +56,7 @@ fn newlines(text: &[u8]) -> u64 {
 /// The bad line is the one that is cut, or the first one that is missing.
 fn assert_cut<R: AllocGlobal + Abort>(rt: &R, beginning: &[u8]) {
     let wanted = format!(in rt.alloc(); "bad {}", newlines(beginning).saturating_add(1));
-    assert_told(rt, beginning, &wanted.expect(rt, "no room"));
+    assert_verdict(rt, beginning, &wanted.expect(rt, "no room"));
 }
 
 /// Each beginning of the first journal, and every 37th of the second.
@@ -206,7 +206,7 @@ fn play<R: AllocGlobal + Abort>(rt: &R, text: &[u8], rows: &[Case]) {
         let (old, new, wanted) = *row;
         let (front, back) = parted(text, old).expect(rt, "no such bytes");
         let changed = joined(rt.alloc(), front, new, back).expect(rt, "no text");
-        assert_told(rt, &changed, wanted);
+        assert_verdict(rt, &changed, wanted);
     }
 }
 
@@ -308,7 +308,7 @@ const TOLD_BY_VALUE: [Case; 7] = [
 ];
 
 #[test]
-fn maps_of_images_are_those_told(rt: HostRuntime) {
+fn maps_of_images_are_those_in_the_replies(rt: HostRuntime) {
     play(&rt, IMAGES, &TOLD_IMAGES);
     play(&rt, IMAGES, &TOLD_OF_ONE_KEY);
     play(&rt, BY_VALUE, &TOLD_BY_VALUE);

@@ -1,7 +1,7 @@
 //! The journals of runs: their text, and that it is legal.
 ghost use Rattle.journal_text.specs.Entries.{AreLawful};
 
-use crate::tests::assert_told;
+use crate::tests::assert_verdict;
 use batch_cli::{Crew, Free, Journal, parse_script, run_script};
 use journal_text::journal_text;
 use std::panic::Expect;
@@ -79,7 +79,7 @@ fn journals_have_their_texts(rt: HostRuntime) {
     for (script, wanted, verdict) in TEXTS {
         let text = written(&rt, script);
         assert_eq!(rt; str::from_utf8(&text).ok(), Some(wanted));
-        assert_told(&rt, &text, verdict);
+        assert_verdict(&rt, &text, verdict);
     }
 }
 
@@ -91,5 +91,5 @@ fn journals_of_all_verbs_are_legal(rt: HostRuntime) {
         b"0 open 1\n0 put 1 a 1\n0 put 1 b -2\n0 replace 1 a 3\n0 replaceif 1 a 3 4\n0 remove 1 c\n0 removeif 1 a 9\n0 size 1\n0 snap 1 3\n0 count 1 odd\n0 exists 1 lt:0\n0 forall 1 ge:-2\n0 find 1 prefix:b\n0 filter 1 eq:4 4\n0 mapvalues 1 add:7 5\n0 mapvalues 1 keylen 6\n0 fold 1 least\n0 fold 1 greatest\n0 fold 4 sum\n0 clear 1\n0 drop 3\n0 drop 3\n0 fold 1 sum\n63 open 2\n63 put 2 z 1\n63 putifabsent 2 z 2\n63 getorelse 2 z 3\n63 list 2\n63 count 2 all\n63 find 2 even\n63 mapvalues 2 set:5 2\n",
     );
     // a bulk verb makes two entries, but for the one that is refused
-    assert_told(&rt, &text, "legal 44");
+    assert_verdict(&rt, &text, "legal 44");
 }

@@ -104,7 +104,7 @@ fn a_journal_is_audited(rt: HostRuntime) {
 }
 
 #[test]
-fn a_file_that_cannot_be_made_is_told(rt: HostRuntime) {
+fn a_file_that_cannot_be_made_is_named(rt: HostRuntime) {
     let mut err = Vec::new(rt.alloc());
     let status = write_journal(&rt, "absent/journal", JOURNAL.as_bytes(), &mut err);
     assert_is(&rt, status, 1);

@@ -1,5 +1,5 @@
 //! Two clients that add the same keys to one handle.
-use super::entries::assert_told;
+use super::entries::assert_responses;
 use super::gates::Meeting;
 use super::{assert_is, assert_text, ran, text};
 use batch_cli::Journal;
@@ -66,10 +66,10 @@ fn winner_of(rt: &impl Abort, replies: &[&str], key: u32) -> u32 {
 // One line added the key, and all other lines of the key returned its value.
 fn assert_added_once(rt: &impl Abort, alloc: Global, replies: &[&str], key: u32) {
     let winner = winner_of(rt, replies, key);
-    let told = format!(in alloc; "some {winner}").expect(rt, "no room");
+    let found = format!(in alloc; "some {winner}").expect(rt, "no room");
     for line in lines_of(key) {
         if line != winner {
-            assert_text(rt, reply_at(rt, replies, line), &told);
+            assert_text(rt, reply_at(rt, replies, line), &found);
         }
     }
 }
@@ -99,7 +99,7 @@ fn assert_replies<R: AllocGlobal + Abort>(rt: &R, replies: &[&str], journal: &Jo
     }
     for client in 0..2 {
         let printed = replies_to(rt, rt.alloc(), replies, client);
-        assert_told(rt, journal, client, &printed);
+        assert_responses(rt, journal, client, &printed);
     }
 }
 

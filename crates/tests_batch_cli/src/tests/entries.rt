@@ -27,7 +27,12 @@ pub fn assert_entries<R: AllocGlobal + Abort>(rt: &R, journal: &Journal, seat: u
 }
 
 /// The responses of the seat's entries are these in order, each on a line of its own.
-pub fn assert_told<R: AllocGlobal + Abort>(rt: &R, journal: &Journal, seat: u32, wanted: &str) {
+pub fn assert_responses<R: AllocGlobal + Abort>(
+    rt: &R,
+    journal: &Journal,
+    seat: u32,
+    wanted: &str,
+) {
     let mut text = String::new(rt.alloc());
     for place in 0..journal.len() {
         let entry = journal.entry(place).expect(rt, "no entry");
@@ -51,15 +56,15 @@ pub fn seats_of<R: AllocGlobal + Abort>(rt: &R, journal: &Journal) -> Vec<u32> {
 fn push_entry(
     text: &mut String,
     asked: &ScriptAsked,
-    told: &ScriptResponse,
+    response: &ScriptResponse,
 ) -> Result<(), AllocError> {
     push_asked(text, asked)?;
     text.push_str(": ")?;
-    push_line(text, told)
+    push_line(text, response)
 }
 
-fn push_line(text: &mut String, told: &ScriptResponse) -> Result<(), AllocError> {
-    push_told(text, told)?;
+fn push_line(text: &mut String, response: &ScriptResponse) -> Result<(), AllocError> {
+    push_response(text, response)?;
     text.push_str("\n")
 }
 
@@ -119,8 +124,8 @@ fn push_write(
     Ok(())
 }
 
-fn push_told(text: &mut String, told: &ScriptResponse) -> Result<(), AllocError> {
-    match told {
+fn push_response(text: &mut String, response: &ScriptResponse) -> Result<(), AllocError> {
+    match response {
         Response::Reply(reply) => push_reply(text, reply),
         Response::View(view) => write!(text, "pairs {}", view.len()),
         Response::Frozen(job, view) => write!(text, "job {job} of {}", view.len()),

@@ -101,19 +101,19 @@ fn blank() -> Page {
 }
 
 // Whether a run of the bytes that wants memory reports so in one line, and writes and keeps nothing else.
-fn is_told_in_one_line<R: Threads + Wait + Sync>(rt: &R, alloc: Global, script: &[u8]) -> bool {
+fn is_printed_in_one_line<R: Threads + Wait + Sync>(rt: &R, alloc: Global, script: &[u8]) -> bool {
     let (mut out, mut err) = (blank(), blank());
     let (status, journal) = execute(rt, alloc, &plain(), script, &mut out, &mut err);
-    let told = err.text() == b"trierun: out of memory\n".as_slice();
-    told && status == 1 && out.used == 0 && journal.is_none()
+    let is_printed = err.text() == b"trierun: out of memory\n".as_slice();
+    is_printed && status == 1 && out.used == 0 && journal.is_none()
 }
 
 #[test]
-fn want_of_memory_is_told_in_one_line(rt: HostRuntime) {
+fn out_of_memory_is_printed_in_one_line(rt: HostRuntime) {
     let alloc = rt.alloc();
     let taken = take_all(alloc).expect(&rt, "no list");
-    let of_a_line = is_told_in_one_line(&rt, alloc, b"0 open 1");
-    let of_a_comment = is_told_in_one_line(&rt, alloc, b"# none");
+    let of_a_line = is_printed_in_one_line(&rt, alloc, b"0 open 1");
+    let of_a_comment = is_printed_in_one_line(&rt, alloc, b"# none");
     drop(taken);
     assert_is(&rt, (of_a_line, of_a_comment), (true, true));
 }

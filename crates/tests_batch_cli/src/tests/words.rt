@@ -29,12 +29,12 @@ fn shown(alloc: Global, options: &Options) -> Result<String, AllocError> {
 fn said(alloc: Global, words: &[&str]) -> Result<String, AllocError> {
     match options(alloc, words) {
         Ok(options) => shown(alloc, &options),
-        Err(fault) => told(alloc, &fault),
+        Err(fault) => message_of(alloc, &fault),
     }
 }
 
 /// The first line of the message about the fault.
-fn told(alloc: Global, fault: &ArgFault) -> Result<String, AllocError> {
+fn message_of(alloc: Global, fault: &ArgFault) -> Result<String, AllocError> {
     match fault {
         ArgFault::Help(text) => first_line(alloc, "help", text),
         ArgFault::Parser(text) => first_line(alloc, "parser", text),

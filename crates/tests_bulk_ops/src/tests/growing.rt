@@ -1,7 +1,7 @@
 //! Parts that grow by a piece, beside the join of two parts.
 use super::stopping::Given;
 use super::{
-    Asked, Plain, assert_is, assert_told, below, first, instead, part_of, told_of, two_of,
+    Asked, Plain, assert_is, assert_plain, below, first, instead, part_of, plain_of, two_of,
 };
 use bulk_ops::work_into;
 use combiner::Bulk;
@@ -27,11 +27,11 @@ fn grown<K: PathKey + Drop, V: Drop, B: Bulk<K, V>>(
 }
 
 /// The answer to the query by the part of the lower of two pieces of the three pairs, grown by the upper one.
-pub(super) fn told_of_grown(rt: &impl Abort, alloc: Global, query: &Asked) -> Plain
+pub(super) fn plain_of_grown(rt: &impl Abort, alloc: Global, query: &Asked) -> Plain
     requires { ⟦<Asked as Bulk<ChosenKey, i64>>⟧.ready query.now }
 {
     let view = first(rt, alloc, 3);
-    told_of(rt, &grown(rt, alloc, view, query))
+    plain_of(rt, &grown(rt, alloc, view, query))
 }
 
 // The part of the lower piece of a cut, and whether the root of the upper one was joined to it.
@@ -53,12 +53,12 @@ fn joined_by_root<K: PathKey + Drop, V: Drop, B: Bulk<K, V>>(
 }
 
 // The answer to the query by that part, and whether the root was joined.
-fn told_by_root(rt: &impl Abort, alloc: Global, query: &Asked) -> (Option<Plain>, bool)
+fn plain_by_root(rt: &impl Abort, alloc: Global, query: &Asked) -> (Option<Plain>, bool)
     requires { ⟦<Asked as Bulk<ChosenKey, i64>>⟧.ready query.now }
 {
     let view = first(rt, alloc, 3);
     let (part, is_joined) = joined_by_root(rt, alloc, view, query);
-    (Some(told_of(rt, &part)), is_joined)
+    (Some(plain_of(rt, &part)), is_joined)
 }
 
 // Two of the three pairs are in the lower piece, and the greatest value is that of both. A filter and a map of values are
@@ -66,15 +66,15 @@ fn told_by_root(rt: &impl Abort, alloc: Global, query: &Asked) -> (Option<Plain>
 #[test]
 fn a_root_is_joined_where_a_part_has_its_shape(rt: HostRuntime) {
     let alloc = rt.alloc();
-    let (told, is_joined) = told_by_root(&rt, alloc, &Asked::Count(below(4)));
-    assert_told(&rt, told, Plain::Number(2));
+    let (seen, is_joined) = plain_by_root(&rt, alloc, &Asked::Count(below(4)));
+    assert_plain(&rt, seen, Plain::Number(2));
     assert!(rt; !is_joined);
-    let (told, is_joined) = told_by_root(&rt, alloc, &Asked::Filter(below(3), 9));
+    let (seen, is_joined) = plain_by_root(&rt, alloc, &Asked::Filter(below(3), 9));
     let two = (Some(i64::MAX), None, Some(i64::MIN));
-    assert_told(&rt, told, Plain::Made(2, two));
+    assert_plain(&rt, seen, Plain::Made(2, two));
     assert!(rt; is_joined);
-    let (told, is_joined) = told_by_root(&rt, alloc, &Asked::MapValues(instead(4), 9));
-    assert_told(&rt, told, Plain::Made(3, (Some(4), Some(4), Some(4))));
+    let (seen, is_joined) = plain_by_root(&rt, alloc, &Asked::MapValues(instead(4), 9));
+    assert_plain(&rt, seen, Plain::Made(3, (Some(4), Some(4), Some(4))));
     assert!(rt; is_joined);
 }
 

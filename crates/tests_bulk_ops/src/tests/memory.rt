@@ -2,8 +2,8 @@
 
 use super::combining::union_of;
 use super::{
-    Asked, Contents, Plain, SUMS, ThreeItems, assert_is, assert_told, at_three, below, chosen,
-    first, instead, many, map_of, told_of, values,
+    Asked, Contents, Plain, SUMS, ThreeItems, assert_is, assert_plain, at_three, below, chosen,
+    first, instead, many, map_of, plain_of, values,
 };
 use bulk_ops::{Part, work};
 use combiner::{Both, Bulk, Greatest, Least, Sum};
@@ -45,7 +45,7 @@ pub(super) fn take_all_but(rt: &impl Abort, alloc: Global, given: usize) -> (Blo
 }
 
 // The answer to the query about the piece, where there is memory for it.
-fn told_of_piece(
+fn plain_of_piece(
     rt: &impl Abort,
     alloc: Global,
     piece: &Piece<ChosenKey, i64>,
@@ -53,16 +53,16 @@ fn told_of_piece(
 ) -> Option<Plain>
     requires { ⟦<Asked as Bulk<ChosenKey, i64>>⟧.ready query.now }
 {
-    told_if_made(rt, &work(alloc, piece, query))
+    plain_if_made(rt, &work(alloc, piece, query))
 }
 
 // The answer that the part comes to, if it was made.
-fn told_if_made(
+fn plain_if_made(
     rt: &impl Abort,
     part: &Result<Part<ChosenKey, i64, ThreeItems>, NoMemory>,
 ) -> Option<Plain> {
     match part {
-        Ok(part) => Some(told_of(rt, part)),
+        Ok(part) => Some(plain_of(rt, part)),
         Err(NoMemory) => None,
     }
 }
@@ -74,10 +74,10 @@ fn granted(rt: &impl Abort, alloc: Global, pairs: usize, query: &Asked) -> Optio
     let piece = whole(alloc, first(rt, alloc, pairs));
     for given in 0..MOST_GIVEN {
         let taken = take_all_but(rt, alloc, given);
-        let told = told_of_piece(rt, alloc, &piece, query);
+        let seen = plain_of_piece(rt, alloc, &piece, query);
         drop(taken);
-        if let Some(told) = told {
-            return Some((given, told));
+        if let Some(seen) = seen {
+            return Some((given, seen));
         }
     }
     None
@@ -86,9 +86,9 @@ fn granted(rt: &impl Abort, alloc: Global, pairs: usize, query: &Asked) -> Optio
 #[test]
 fn work_is_refused_until_there_is_memory(rt: HostRuntime) {
     let granted = granted(&rt, rt.alloc(), 3, &Asked::MapValues(instead(4), 9));
-    let (given, told) = granted.expect(&rt, "work is refused with memory to spare");
+    let (given, seen) = granted.expect(&rt, "work is refused with memory to spare");
     assert!(rt; given > 0);
-    assert_told(&rt, Some(told), Plain::Made(3, (Some(4), Some(4), Some(4))));
+    assert_plain(&rt, Some(seen), Plain::Made(3, (Some(4), Some(4), Some(4))));
 }
 
 // Keys below 3 are two of the three; the sum and the extremes are those of all values.
@@ -98,17 +98,17 @@ fn what_makes_no_map_asks_for_no_memory(rt: HostRuntime) {
     let piece = whole(alloc, first(&rt, alloc, 3));
     let monoid = Both(Sum, Both(Least, Greatest));
     let taken = take_all(alloc).expect(&rt, "no list");
-    let count = told_of_piece(&rt, alloc, &piece, &Asked::Count(below(3)));
-    let exists = told_of_piece(&rt, alloc, &piece, &Asked::Exists(below(1)));
-    let for_all = told_of_piece(&rt, alloc, &piece, &Asked::ForAll(below(4)));
-    let find = told_of_piece(&rt, alloc, &piece, &Asked::Find(below(2)));
-    let fold = told_of_piece(&rt, alloc, &piece, &Asked::Fold(monoid, values()));
+    let count = plain_of_piece(&rt, alloc, &piece, &Asked::Count(below(3)));
+    let exists = plain_of_piece(&rt, alloc, &piece, &Asked::Exists(below(1)));
+    let for_all = plain_of_piece(&rt, alloc, &piece, &Asked::ForAll(below(4)));
+    let find = plain_of_piece(&rt, alloc, &piece, &Asked::Find(below(2)));
+    let fold = plain_of_piece(&rt, alloc, &piece, &Asked::Fold(monoid, values()));
     drop(taken);
-    assert_told(&rt, count, Plain::Number(2));
-    assert_told(&rt, exists, Plain::Truth(false));
-    assert_told(&rt, for_all, Plain::Truth(true));
-    assert_told(&rt, find, Plain::Found(Some((1, i64::MIN))));
-    assert_told(&rt, fold, Plain::Item(SUMS));
+    assert_plain(&rt, count, Plain::Number(2));
+    assert_plain(&rt, exists, Plain::Truth(false));
+    assert_plain(&rt, for_all, Plain::Truth(true));
+    assert_plain(&rt, find, Plain::Found(Some((1, i64::MIN))));
+    assert_plain(&rt, fold, Plain::Item(SUMS));
 }
 
 // Nor does it where the pairs are more than are taken from the trie at a time.
@@ -117,13 +117,13 @@ fn a_count_of_many_pairs_asks_for_no_memory(rt: HostRuntime) {
     let alloc = rt.alloc();
     let piece = whole(alloc, many(&rt, alloc, 1_200));
     let taken = take_all(alloc).expect(&rt, "no list");
-    let all = told_of_piece(&rt, alloc, &piece, &Asked::Count(below(1_200)));
-    let some = told_of_piece(&rt, alloc, &piece, &Asked::Count(below(301)));
-    let exists = told_of_piece(&rt, alloc, &piece, &Asked::Exists(below(0)));
+    let all = plain_of_piece(&rt, alloc, &piece, &Asked::Count(below(1_200)));
+    let some = plain_of_piece(&rt, alloc, &piece, &Asked::Count(below(301)));
+    let exists = plain_of_piece(&rt, alloc, &piece, &Asked::Exists(below(0)));
     drop(taken);
-    assert_told(&rt, all, Plain::Number(1_200));
-    assert_told(&rt, some, Plain::Number(301));
-    assert_told(&rt, exists, Plain::Truth(false));
+    assert_plain(&rt, all, Plain::Number(1_200));
+    assert_plain(&rt, some, Plain::Number(301));
+    assert_plain(&rt, exists, Plain::Truth(false));
 }
 
 // How many blocks of memory a filter of `pairs` pairs wants that keeps the keys below a number.
@@ -154,7 +154,7 @@ fn started(rt: &impl Abort, alloc: Global, given: usize) -> (bool, Option<Plain>
     let unit = query.unit(alloc).is_ok();
     let one = query.one(alloc, &key, &value);
     drop(taken);
-    (unit, told_if_made(rt, &one))
+    (unit, plain_if_made(rt, &one))
 }
 
 #[test]
@@ -166,7 +166,7 @@ fn unit_and_one_are_refused_until_there_is_memory(rt: HostRuntime) {
         let (unit, one) = started(&rt, alloc, given);
         if one.is_some() {
             assert!(rt; unit && given > 1);
-            return assert_told(&rt, one, Plain::Made(1, (Some(7), None, None)));
+            return assert_plain(&rt, one, Plain::Made(1, (Some(7), None, None)));
         }
     }
     assert!(rt; false, "one is refused with memory to spare");

@@ -4,7 +4,7 @@
 use super::rows::COUNT;
 use super::{assert_is, assert_true};
 use crate::maps::END;
-use crate::plain_outcome::{PlainOutcome, TestPart, part_told};
+use crate::plain_outcome::{PlainOutcome, TestPart, plain_part};
 use core_steps::{Board, Progress, first_board, law_of_jobs, work_on};
 use std::alloc::Global;
 use std::panic::Expect;
@@ -94,7 +94,7 @@ fn pieces_are_worked(rt: HostRuntime) {
     assert_moved(&rt, progress, Progress::Worked(0, END, 2, false));
     assert_is(
         &rt,
-        board.part(0).map(part_told),
+        board.part(0).map(plain_part),
         Some(PlainOutcome::Count(2)),
     );
 }

@@ -2,9 +2,9 @@
 
 use super::boards::two_pairs;
 use super::rows::COUNT;
-use super::{Case, answer_to, assert_is, assert_told, assert_true, core_of_two};
+use super::{Case, answer_to, assert_is, assert_outcome, assert_true, core_of_two};
 use crate::maps::END;
-use crate::plain_outcome::{PlainOutcome, part_told, told_of};
+use crate::plain_outcome::{PlainOutcome, plain_of, plain_part};
 use crate::plans::{Plan, TestCore, step_of};
 use core_steps::{
     Move, Progress, collected, first_board, law_of_boards, law_of_cores, law_of_coverings,
@@ -67,11 +67,11 @@ fn assert_copy(rt: &impl Abort, alloc: Global, core: &mut TestCore, row: Case) {
     let copy = step.try_clone().expect(rt, "no copy");
     drop(step);
     let outcome = answer_to(rt, alloc, core, copy);
-    assert_told(rt, told_of(&outcome), row.1);
+    assert_outcome(rt, plain_of(&outcome), row.1);
 }
 
 #[test]
-fn a_copy_of_a_step_is_told_the_same(rt: HostRuntime) {
+fn a_copy_of_a_step_returns_the_same(rt: HostRuntime) {
     let mut core = core_of_two(&rt, rt.alloc());
     assert_is(&rt, core.workers(), 2);
     for row in STEPS {
@@ -120,7 +120,7 @@ fn all_that_was_worked_is_collected(rt: HostRuntime) {
     let part = collected(rt.alloc(), &query, &board).expect(&rt, "no part");
     assert_is(
         &rt,
-        part.as_ref().map(part_told),
+        part.as_ref().map(plain_part),
         Some(PlainOutcome::Count(2)),
     );
 }

@@ -94,6 +94,6 @@ fn a_count_tells_the_size_before_a_clear(rt: HostRuntime) {
         Step::Call(Call::Drop(1)),
         Step::Work(0, 0),
     ];
-    let told = size_and_count(rt.alloc(), &mut core, 1, query, &steps);
-    assert_is(&rt, told, Ok(Some((2, 2))));
+    let returned = size_and_count(rt.alloc(), &mut core, 1, query, &steps);
+    assert_is(&rt, returned, Ok(Some((2, 2))));
 }

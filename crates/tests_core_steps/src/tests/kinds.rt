@@ -8,8 +8,8 @@ use versions::Refusal;
 pub const KINDS: usize = 32;
 
 /// The number of the kind of an outcome, or `KINDS` where no step has that outcome.
-pub fn kind_of(told: PlainOutcome) -> usize {
-    match told {
+pub fn kind_of(returned: PlainOutcome) -> usize {
+    match returned {
         PlainOutcome::Unit => 0,
         PlainOutcome::Old(None) => 1,
         PlainOutcome::Old(Some(_)) => 2,

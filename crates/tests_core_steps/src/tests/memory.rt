@@ -6,9 +6,9 @@ ghost use Rattle.core_steps.specs.Steps.{CanAsk, asked_by};
 
 use super::rows::{COUNT, all_worked};
 use super::twins::Twins;
-use super::{Case, LARGEST, assert_is, assert_told, plans_of};
+use super::{Case, LARGEST, assert_is, assert_outcome, plans_of};
 use crate::machine::Machine;
-use crate::plain_outcome::{PlainOutcome, TestOutcome, told_of};
+use crate::plain_outcome::{PlainOutcome, TestOutcome, plain_of};
 use crate::plans::{Plan, TestCore, TestStep, step_of, steps_of};
 use core_steps::Move;
 use std::alloc::Global;
@@ -33,7 +33,7 @@ const LISTS: usize = 128;
 const FIRST_PUT: usize = 1;
 
 /// What the core returns for a copy of the step, if it has the memory. The copy takes none.
-pub(super) fn told_if(
+pub(super) fn returned_if(
     rt: &impl Abort,
     alloc: Global,
     core: &mut TestCore,
@@ -43,13 +43,13 @@ pub(super) fn told_if(
 {
     let copy = step.try_clone().expect(rt, "no copy");
     match core.step(alloc, copy) {
-        Ok(outcome) => Some(told_of(&outcome)),
+        Ok(outcome) => Some(plain_of(&outcome)),
         Err(_) => None,
     }
 }
 
 // What the core returns for a step with `bytes` bytes of memory, if those are enough.
-fn told_with(
+fn returned_with(
     rt: &impl Abort,
     alloc: Global,
     core: &mut TestCore,
@@ -58,13 +58,13 @@ fn told_with(
 ) -> Option<PlainOutcome> {
     let step = step_of(rt, alloc, plan);
     let _shortage = Shortage::with_bytes(alloc, bytes).expect(rt, "no shortage");
-    told_if(rt, alloc, core, &step)
+    returned_if(rt, alloc, core, &step)
 }
 
 // The twins return these outcomes for the steps.
 fn assert_twins(rt: &impl Abort, alloc: Global, twins: &mut Twins, rows: &[Case]) {
-    for (plan, told) in rows {
-        assert_told(rt, twins.make(rt, alloc, *plan), *told);
+    for (plan, returned) in rows {
+        assert_outcome(rt, twins.make(rt, alloc, *plan), *returned);
     }
 }
 
@@ -79,7 +79,7 @@ fn twins_after(rt: &impl Abort, alloc: Global, rows: &[Case]) -> Twins {
 // The machine makes a step that the core has made, and returns the same outcome.
 fn follow(rt: &impl Abort, alloc: Global, twins: &mut Twins, row: Case) {
     let expected = twins.machine.step(rt, alloc, row.0);
-    assert_told(rt, expected.told, row.1);
+    assert_outcome(rt, expected.returned, row.1);
 }
 
 // The core has the maps of the machine's handles, its jobs and their parts.
@@ -97,17 +97,17 @@ fn assert_goes_on(rt: &impl Abort, alloc: Global, twins: &mut Twins, rows: &[Cas
 
 // The twins' next step has `bytes` bytes of memory: what the core returns for it, if those are enough. Else it is made
 // with ample memory then.
-fn told_next(
+fn returned_next(
     rt: &impl Abort,
     alloc: Global,
     twins: &mut Twins,
     row: Case,
     bytes: usize,
 ) -> Option<PlainOutcome> {
-    let told = told_with(rt, alloc, &mut twins.core, row.0, bytes);
-    if told.is_some() {
+    let returned = returned_with(rt, alloc, &mut twins.core, row.0, bytes);
+    if returned.is_some() {
         follow(rt, alloc, twins, row);
-        return told;
+        return returned;
     }
     assert_goes_on(rt, alloc, twins, &[row]);
     None
@@ -115,7 +115,7 @@ fn told_next(
 
 // The outcome of the step with this number with `bytes` bytes of memory, if those are enough. The steps before it and
 // those behind it have ample memory.
-fn told_at(
+fn returned_at(
     rt: &impl Abort,
     alloc: Global,
     rows: &[Case],
@@ -125,9 +125,9 @@ fn told_at(
     requires { number < length rows.now }
 {
     let mut twins = twins_after(rt, alloc, &rows[..number]);
-    let told = told_next(rt, alloc, &mut twins, rows[number], bytes);
+    let returned = returned_next(rt, alloc, &mut twins, rows[number], bytes);
     assert_goes_on(rt, alloc, &mut twins, &rows[number + 1..]);
-    told
+    returned
 }
 
 // The step with this number is refused with no memory, with a little, and so on, until it has its outcome: how often.
@@ -135,8 +135,8 @@ fn refusals(rt: &impl Abort, alloc: Global, rows: &[Case], number: usize) -> usi
     requires { number < length rows.now }
 {
     for refused in 0..TRIES {
-        if let Some(told) = told_at(rt, alloc, rows, number, refused * FEW) {
-            assert_told(rt, told, rows[number].1);
+        if let Some(returned) = returned_at(rt, alloc, rows, number, refused * FEW) {
+            assert_outcome(rt, returned, rows[number].1);
             return refused;
         }
     }
@@ -220,7 +220,7 @@ fn made_with(
     let steps = steps_of(rt, alloc, &plans);
     let outcomes = outcomes_with(rt, alloc, &mut twins.core, &steps, bytes);
     for (outcome, row) in outcomes.iter().zip(rows) {
-        assert_told(rt, told_of(outcome), row.1);
+        assert_outcome(rt, plain_of(outcome), row.1);
         follow(rt, alloc, twins, *row);
     }
     outcomes.len()

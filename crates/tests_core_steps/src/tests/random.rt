@@ -51,8 +51,8 @@ fn end(rt: &impl Abort, alloc: Global, twins: &mut Twins, number: u64) {
     for worker in 0..twins.machine.workers {
         work_all(rt, alloc, twins, number, worker);
     }
-    let told = twins.make(rt, alloc, Plan::Finish(number));
-    assert_true(rt, told != PlainOutcome::Unfinished);
+    let returned = twins.make(rt, alloc, Plan::Finish(number));
+    assert_true(rt, returned != PlainOutcome::Unfinished);
 }
 
 // The number of the last open job.
@@ -88,9 +88,9 @@ fn made(rt: &impl Abort, alloc: Global, list: u32) -> Twins {
 }
 
 // Counts the kinds of the outcomes.
-fn count_kinds(met: &mut Vec<u32>, told: &[PlainOutcome]) {
-    for told in told {
-        if let Some(count) = met.get_mut(kind_of(*told)) {
+fn count_kinds(met: &mut Vec<u32>, returned: &[PlainOutcome]) {
+    for returned in returned {
+        if let Some(count) = met.get_mut(kind_of(*returned)) {
             *count = count.saturating_add(1);
         }
     }
@@ -113,7 +113,7 @@ fn assert_list(rt: &impl Abort, alloc: Global, list: u32, met: &mut Vec<u32>) {
     end_some(rt, alloc, &mut twins);
     twins.assert_maps(rt, alloc);
     twins.assert_run(rt, alloc);
-    count_kinds(met, &twins.told);
+    count_kinds(met, &twins.returned);
 }
 
 // Lists from the number on, all beside plain machines. Each kind of outcome is met.

@@ -3,7 +3,7 @@
 ghost use Rattle.bulk_ops.specs.Queries.{IsReady};
 ghost use Rattle.core_steps.specs.Steps.{CanAsk, asked_by};
 
-use super::memory::{FEW, TRIES, told_if};
+use super::memory::{FEW, TRIES, returned_if};
 use super::rows::COUNT;
 use super::{Case, assert_is, assert_steps, core_of_two};
 use crate::plain_outcome::PlainOutcome;
@@ -27,7 +27,7 @@ const MAKES_1: Question = Question::Filter(ALL, 1);
 const MAKES_1024: Question = Question::Filter(ALL, 1024);
 
 // Whether the step has this outcome with no memory, with a little, and so on.
-fn is_always_told(
+fn always_returns(
     rt: &impl Abort,
     alloc: Global,
     core: &mut TestCore,
@@ -38,7 +38,7 @@ fn is_always_told(
 {
     let mut shortage = Shortage::with_bytes(alloc, 0).expect(rt, "no shortage");
     for _ in 0..TRIES {
-        if told_if(rt, alloc, core, step) != Some(want) {
+        if returned_if(rt, alloc, core, step) != Some(want) {
             return false;
         }
         shortage.give(alloc, FEW).expect(rt, "not given");
@@ -49,8 +49,8 @@ fn is_always_told(
 // The step has this outcome, whatever the memory.
 fn assert_always(rt: &impl Abort, alloc: Global, core: &mut TestCore, row: Case) {
     let step = step_of(rt, alloc, row.0);
-    let is_told = is_always_told(rt, alloc, core, &step, row.1);
-    assert_is(rt, (row.1, is_told), (row.1, true));
+    let is_returned = always_returns(rt, alloc, core, &step, row.1);
+    assert_is(rt, (row.1, is_returned), (row.1, true));
 }
 
 // Each of the steps has its outcome, whatever the memory.

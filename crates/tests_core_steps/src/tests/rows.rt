@@ -2,9 +2,9 @@
 //! words 0, 0xc000000000000000 and 1, so that P has position 0 and Q position 12; the keys a, b and c have the words of
 //! those texts.
 
-use super::{Case, assert_is, assert_run, assert_steps, core_of_two, plans_of, tolds_of};
+use super::{Case, assert_is, assert_run, assert_steps, core_of_two, outcomes_of, plans_of};
 use crate::maps::END;
-use crate::plain_outcome::{PlainOutcome, found_row, part_told};
+use crate::plain_outcome::{PlainOutcome, found_row, plain_part};
 use crate::plans::{Plan, TestCore};
 use bulk_ops::Part;
 use core_steps::{Move, Progress};
@@ -115,9 +115,9 @@ pub(super) fn all_worked(
 // A new core returns these outcomes for the steps as one list.
 fn assert_list(rt: &impl Abort, alloc: Global, rows: &[Case]) {
     let plans = plans_of(rt, alloc, rows);
-    let told = tolds_of(rt, alloc, rows);
+    let returned = outcomes_of(rt, alloc, rows);
     let mut core = core_of_two(rt, alloc);
-    assert_run(rt, alloc, &mut core, &plans, &told);
+    assert_run(rt, alloc, &mut core, &plans, &returned);
 }
 
 // A new core returns these outcomes for the steps, one after another and as one list.
@@ -191,7 +191,7 @@ fn assert_part(
     worker: u32,
     want: Option<PlainOutcome>,
 ) {
-    assert_is(rt, core.part(job, worker).map(part_told), want);
+    assert_is(rt, core.part(job, worker).map(plain_part), want);
 }
 
 // The outcomes when both pieces are worked and counted.

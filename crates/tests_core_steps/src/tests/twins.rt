@@ -1,11 +1,11 @@
 //! A core beside a plain machine that makes the same steps: the outcomes of both, what each handle shows, and what each
 //! worker's part is.
 
-use super::{answer_to, assert_is, assert_run, assert_told, assert_true};
+use super::{answer_to, assert_is, assert_outcome, assert_run, assert_true};
 use crate::machine::{Expected, Machine};
 use crate::plain_outcome::{
-    PlainOutcome, TestOutcome, TestPart, found_row, outcome_of, part_told, rows_of_map,
-    rows_of_view, told_of,
+    PlainOutcome, TestOutcome, TestPart, found_row, outcome_of, plain_of, plain_part, rows_of_map,
+    rows_of_view,
 };
 use crate::plans::{Plan, TestCore, step_of};
 use crate::worker_states::Job;
@@ -27,7 +27,7 @@ pub(super) struct Twins {
     pub(super) core: TestCore,
     pub(super) machine: Machine,
     pub(super) plans: Vec<Plan>,
-    pub(super) told: Vec<PlainOutcome>,
+    pub(super) returned: Vec<PlainOutcome>,
 }
 
 // A new core like a machine.
@@ -74,9 +74,9 @@ fn assert_part_shows(rt: &impl Abort, alloc: Global, part: &TestPart, rows: &[Pl
 fn assert_part(rt: &impl Abort, alloc: Global, part: &TestPart, job: &Job, worker: u32) {
     let rows = job.worked_rows(rt, alloc, worker);
     let chosen = job.question.chosen(alloc, &rows).expect(rt, "no room");
-    assert_told(
+    assert_outcome(
         rt,
-        part_told(part),
+        plain_part(part),
         outcome_of(answer(job.question, &chosen, rows.len())),
     );
     assert_part_shows(rt, alloc, part, &chosen);
@@ -90,7 +90,7 @@ impl Twins {
             core,
             machine,
             plans: Vec::new(alloc),
-            told: Vec::new(alloc),
+            returned: Vec::new(alloc),
         }
     }
 
@@ -99,15 +99,15 @@ impl Twins {
         let expected = self.machine.step(rt, alloc, plan);
         self.assert_made(rt, alloc, plan, &expected);
         self.plans.push(plan).expect(rt, "no room");
-        self.told.push(expected.told).expect(rt, "no room");
-        expected.told
+        self.returned.push(expected.returned).expect(rt, "no room");
+        expected.returned
     }
 
     // The core makes the step, which has the outcome that is expected.
     fn assert_made(&mut self, rt: &impl Abort, alloc: Global, plan: Plan, expected: &Expected) {
         let step = step_of(rt, alloc, plan);
         let outcome = answer_to(rt, alloc, &mut self.core, step);
-        assert_told(rt, told_of(&outcome), expected.told);
+        assert_outcome(rt, plain_of(&outcome), expected.returned);
         assert_shows(rt, alloc, &outcome, &expected.rows);
     }
 
@@ -144,6 +144,6 @@ impl Twins {
     // A new core returns the same outcomes for all steps as one list.
     pub(super) fn assert_run(&self, rt: &impl Abort, alloc: Global) {
         let mut core = core_like(rt, alloc, &self.machine);
-        assert_run(rt, alloc, &mut core, &self.plans, &self.told);
+        assert_run(rt, alloc, &mut core, &self.plans, &self.returned);
     }
 }

@@ -2,7 +2,7 @@
 
 use super::{Case, LARGEST, assert_entries, assert_is, assert_new, assert_rows, table_of};
 use crate::asking::{Ask, Asking};
-use crate::plain_outcome::{PlainOutcome, call_told, value_in};
+use crate::plain_outcome::{PlainOutcome, call_outcome_of, value_in};
 use crate::steps::{Act, Do, command_of};
 use handles::{Call, CallReply, Limits};
 use std::alloc::Global;
@@ -243,6 +243,6 @@ fn calls_as_a_list(rt: HostRuntime) {
         PlainOutcome::Refused(Refusal::Taken),
     ];
     for (answer, want) in answers.iter().zip(&want) {
-        assert_is(&rt, call_told(answer), *want);
+        assert_is(&rt, call_outcome_of(answer), *want);
     }
 }

@@ -7,7 +7,7 @@ ghost use Rattle.handles.specs.Views.{call_outcome, machine};
 use super::{LARGEST, assert_entries, assert_is, assert_rows, step, table_of};
 use crate::asking::{Ask, Asked, Asking, ThreeItems};
 use crate::plain_outcome::{
-    PlainOutcome, call_told, finish_told, freeze_told, unit_told, view_told,
+    PlainOutcome, call_outcome_of, finish_outcome, freeze_outcome, unit_outcome, view_outcome,
 };
 use crate::steps::{Act, Do, Prepared, part_of, take};
 use bulk_ops::{Answer, Asks, Part};
@@ -87,11 +87,11 @@ fn drawn_step(random: &mut Random) -> Do {
 // What the step's twin answers. None of them finishes a job.
 fn foreseen(table: &Asking, step: &Prepared) -> PlainOutcome {
     match step {
-        Prepared::Call(call) => call_told(&table.foresee_serve(call)),
-        Prepared::View(handle) => view_told(&table.foresee_view(*handle)),
-        Prepared::Freeze(handle, query) => freeze_told(&table.foresee_freeze(*handle, &**query)),
+        Prepared::Call(call) => call_outcome_of(&table.foresee_serve(call)),
+        Prepared::View(handle) => view_outcome(&table.foresee_view(*handle)),
+        Prepared::Freeze(handle, query) => freeze_outcome(&table.foresee_freeze(*handle, &**query)),
         Prepared::Finish(_) => PlainOutcome::Refused(Refusal::NoJob),
-        Prepared::Abandon(job) => unit_told(table.foresee_abandon(*job)),
+        Prepared::Abandon(job) => unit_outcome(table.foresee_abandon(*job)),
     }
 }
 
@@ -116,14 +116,14 @@ fn assert_foreseen(
     let before = state_of(table);
     let wanted = foreseen(table, step);
     assert_is(rt, state_of(table), before);
-    let told = take(alloc, table, step);
-    assert_is(rt, wanted, told);
-    told
+    let outcome = take(alloc, table, step);
+    assert_is(rt, wanted, outcome);
+    outcome
 }
 
 // Each kind of answer as a bit of its own.
-fn bit_of(told: PlainOutcome) -> u32 {
-    match told {
+fn bit_of(outcome: PlainOutcome) -> u32 {
+    match outcome {
         PlainOutcome::Refused(refusal) => bit_of_refusal(refusal),
         _ => 1,
     }
@@ -219,7 +219,7 @@ fn what_was_foreseen_is_an_outcome_of_the_step(rt: HostRuntime) {
     );
     for want in [PlainOutcome::Unit, PlainOutcome::Refused(Refusal::NoHandle)] {
         let dropped = dropped_as_foreseen(rt.alloc(), &mut table, 1);
-        assert_is(&rt, call_told(&dropped), want);
+        assert_is(&rt, call_outcome_of(&dropped), want);
     }
     assert_entries(&rt, &table, 3);
 }
@@ -234,12 +234,12 @@ fn closed_as_foreseen<K: PathKey + Drop, V: Eq + Drop, Q: Asks<K, V> + Drop>(
     ensures { IfOk result (λ both. summary_of both.0 ≡ summary_of both.1) }
 {
     let foreseen = table.foresee_finish(job, &part)?;
-    let told = table.finish(job, part)?;
-    Ok((foreseen, told))
+    let answer = table.finish(job, part)?;
+    Ok((foreseen, answer))
 }
 
 // Both, as plain values.
-fn told_twice(
+fn finished_twice(
     table: &mut Asking,
     job: u64,
     part: Part<ChosenKey, i64, ThreeItems>,
@@ -247,7 +247,7 @@ fn told_twice(
     requires { IfSome (job_at table.old job) (λ asking. ⟦<Asked as Bulk<ChosenKey, i64>>⟧.answers asking.query asking.frozen part) }
 {
     match closed_as_foreseen(table, job, part) {
-        Ok((foreseen, told)) => (finish_told(&Ok(foreseen)), finish_told(&Ok(told))),
+        Ok((foreseen, answer)) => (finish_outcome(&Ok(foreseen)), finish_outcome(&Ok(answer))),
         Err(refusal) => (
             PlainOutcome::Refused(refusal),
             PlainOutcome::Refused(refusal),
@@ -256,10 +256,16 @@ fn told_twice(
 }
 
 // The job is foreseen to return this, and returns it, with every request for memory refused.
-fn assert_told(rt: &impl Abort, alloc: Global, table: &mut Asking, job: u64, want: PlainOutcome) {
+fn assert_finished(
+    rt: &impl Abort,
+    alloc: Global,
+    table: &mut Asking,
+    job: u64,
+    want: PlainOutcome,
+) {
     let part = part_of(alloc, table, job).expect(rt, "no part");
     let taken = no_memory(rt, alloc);
-    let both = told_twice(table, job, part);
+    let both = finished_twice(table, job, part);
     drop(taken);
     assert_is(rt, both, (want, want));
 }
@@ -286,7 +292,7 @@ fn each_finish_is_foreseen(rt: HostRuntime) {
     for (ask, want) in rows {
         let frozen = PlainOutcome::Frozen(job, 2, Some(4));
         assert_rows(&rt, rt.alloc(), &mut table, &[(Do::Freeze(1, ask), frozen)]);
-        assert_told(&rt, rt.alloc(), &mut table, job, want);
+        assert_finished(&rt, rt.alloc(), &mut table, job, want);
         job = job.saturating_add(1);
     }
 }
@@ -306,6 +312,6 @@ fn foreseen_finish<K: PathKey + Drop, V: Eq + Drop, Q: Asks<K, V> + Drop>(
 fn a_finish_of_no_job_is_foreseen(rt: HostRuntime) {
     let table = table_of(&rt, rt.alloc(), LARGEST);
     let part = part_of(rt.alloc(), &table, 0).expect(&rt, "no part");
-    let told = finish_told(&foreseen_finish(&table, 0, &part));
-    assert_is(&rt, told, PlainOutcome::Refused(Refusal::NoJob));
+    let outcome = finish_outcome(&foreseen_finish(&table, 0, &part));
+    assert_is(&rt, outcome, PlainOutcome::Refused(Refusal::NoJob));
 }

@@ -5,7 +5,7 @@ ghost use Rattle.handles.specs.Machine.{job_at, map_at};
 use super::foresight::with_four;
 use super::{assert_is, assert_rows};
 use crate::asking::{Ask, Asked, Asking, ThreeItems, query_of};
-use crate::plain_outcome::{PlainOutcome, call_told, finish_told};
+use crate::plain_outcome::{PlainOutcome, call_outcome_of, finish_outcome};
 use crate::steps::{Act, Do, command_of, worked};
 use bulk_ops::{Answer, Asks};
 use handles::{
@@ -62,13 +62,13 @@ fn laws_tell_of_calls(rt: HostRuntime) {
         let command = command_of(rt.alloc(), act).expect(&rt, "no command");
         assert_is(
             &rt,
-            call_told(&written(rt.alloc(), &mut table, command)),
+            call_outcome_of(&written(rt.alloc(), &mut table, command)),
             want,
         );
     }
     assert_rows(&rt, rt.alloc(), &mut table, &kept);
-    let told = call_told(&refused(rt.alloc(), &mut table, Call::Snapshot(1, 2)));
-    assert_is(&rt, told, PlainOutcome::Refused(Refusal::Taken));
+    let outcome = call_outcome_of(&refused(rt.alloc(), &mut table, Call::Snapshot(1, 2)));
+    assert_is(&rt, outcome, PlainOutcome::Refused(Refusal::Taken));
     assert_rows(&rt, rt.alloc(), &mut table, &kept);
 }
 
@@ -112,7 +112,7 @@ fn finish<K: PathKey + Drop, V: Eq + Drop, Q: Asks<K, V> + Drop>(
 }
 
 // What a job on the handle 1 returns that is worked by the view of its freeze, after the call.
-fn told_after(
+fn finished_after(
     alloc: Global,
     table: &mut Asking,
     query: &Arc<Asked>,
@@ -129,12 +129,12 @@ fn laws_tell_of_jobs(rt: HostRuntime) {
     let mut table = with_four(&rt, rt.alloc());
     let query = Arc::new(rt.alloc(), query_of(Ask::Count(4, 4))).expect(&rt, "no query");
     for want in [1, 0] {
-        let told = finish_told(&told_after(
+        let outcome = finish_outcome(&finished_after(
             rt.alloc(),
             &mut table,
             &query,
             Call::On(1, Command::Clear),
         ));
-        assert_is(&rt, told, PlainOutcome::Count(want));
+        assert_is(&rt, outcome, PlainOutcome::Count(want));
     }
 }

@@ -3,7 +3,7 @@
 use super::foresight::{no_memory, with_four};
 use super::{Case, assert_entries, assert_is, assert_rows, step};
 use crate::asking::{Ask, Asking};
-use crate::plain_outcome::{PlainOutcome, finish_told};
+use crate::plain_outcome::{PlainOutcome, finish_outcome};
 use crate::steps::{Act, Do, Prepared, close, part_of, take};
 use std::alloc::Global;
 use std::panic::Expect;
@@ -81,9 +81,9 @@ const MAKES_5: Ask = Ask::Filter(4, 4, 5);
 fn assert_made(rt: &impl Abort, alloc: Global, table: &mut Asking, job: u64, pairs: u64) {
     let part = part_of(alloc, table, job).expect(rt, "no part");
     let taken = no_memory(rt, alloc);
-    let told = finish_told(&close(table, job, part));
+    let outcome = finish_outcome(&close(table, job, part));
     drop(taken);
-    assert_is(rt, told, PlainOutcome::Made(pairs));
+    assert_is(rt, outcome, PlainOutcome::Made(pairs));
 }
 
 const TAKEN: [Case; 2] = [

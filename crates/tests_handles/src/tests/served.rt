@@ -5,7 +5,7 @@ ghost use Rattle.handles.specs.Views.{is_counted};
 use super::foresight::{CALLS, SMALL, drawn_call, no_memory, state_of, with_four};
 use super::{assert_entries, assert_is, step, table_of};
 use crate::asking::{Asked, Asking};
-use crate::plain_outcome::{PlainOutcome, call_told};
+use crate::plain_outcome::{PlainOutcome, call_outcome_of};
 use crate::steps::{Act, Do, Prepared, take};
 use bulk_ops::Asks;
 use handles::{Call, CallReply, Table};
@@ -45,7 +45,7 @@ fn serve(alloc: Global, table: &mut Asking, step: &Prepared) -> PlainOutcome {
         return PlainOutcome::Refused(Refusal::NoJob);
     };
     match call.try_clone::<Asked>() {
-        Ok(call) => call_told(&served(alloc, table, call)),
+        Ok(call) => call_outcome_of(&served(alloc, table, call)),
         Err(_) => PlainOutcome::Refused(Refusal::NoMemory),
     }
 }
@@ -57,8 +57,8 @@ fn a_call_is_made_as_it_was_foreseen(rt: HostRuntime) {
     let mut random = Random(2027);
     for _ in 0..CALLS {
         let drawn = step(&rt, rt.alloc(), drawn_call(&mut random));
-        let told = serve(rt.alloc(), &mut table, &drawn);
-        assert_is(&rt, told, take(rt.alloc(), &mut plain, &drawn));
+        let outcome = serve(rt.alloc(), &mut table, &drawn);
+        assert_is(&rt, outcome, take(rt.alloc(), &mut plain, &drawn));
         assert_is(&rt, state_of(&table), state_of(&plain));
     }
     assert_entries(&rt, &table, SMALL.entries - 1);
@@ -78,9 +78,9 @@ const LEAVING: [(Act, PlainOutcome); 6] = [
 fn assert_served(rt: &impl Abort, alloc: Global, table: &mut Asking, what: Do, want: PlainOutcome) {
     let step = step(rt, alloc, what);
     let taken = no_memory(rt, alloc);
-    let told = serve(alloc, table, &step);
+    let outcome = serve(alloc, table, &step);
     drop(taken);
-    assert_is(rt, told, want);
+    assert_is(rt, outcome, want);
 }
 
 #[test]

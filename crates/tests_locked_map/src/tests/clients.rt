@@ -64,9 +64,9 @@ fn run_two<R: AllocGlobal + Abort + Threads + Wait + Sync>(
 }
 
 // One of them opened the handle.
-fn assert_opened(rt: &impl Abort, told: Two) {
+fn assert_opened(rt: &impl Abort, returned: Two) {
     let taken = Outcome::Refused(Refusal::Taken);
-    let (one, two) = told;
+    let (one, two) = returned;
     let opened = (one.0, two.0);
     assert!(rt; opened == (Outcome::Unit, taken) || opened == (taken, Outcome::Unit));
 }
@@ -76,9 +76,9 @@ const PUT_ONE: Request = On(1, Put(A, 1));
 const ADD_TWO: Request = On(1, PutIfAbsent(A, 2));
 
 // One put was the first.
-fn assert_put(rt: &impl Abort, told: Two) {
+fn assert_put(rt: &impl Abort, returned: Two) {
     let none = Outcome::Old(None);
-    let (one, two) = told;
+    let (one, two) = returned;
     let put = (one.1, two.1);
     assert!(rt; put == (none, Outcome::Old(Some(1))) || put == (Outcome::Old(Some(2)), none));
 }
@@ -96,10 +96,10 @@ fn assert_filed(rt: &impl Abort, entries: &[Entered], seat: u32, wanted: [Exchan
 }
 
 // The journal has the outcomes of both, and nothing else.
-fn assert_journal(rt: &impl Abort, alloc: Global, closed: &TestClosed, told: Two) {
+fn assert_journal(rt: &impl Abort, alloc: Global, closed: &TestClosed, returned: Two) {
     let entries = replayed(rt, alloc, LARGEST, closed);
     assert_is(rt, entries.len(), 4);
-    let (one, two) = told;
+    let (one, two) = returned;
     assert_filed(rt, &entries, 0, [(Open(1), one.0), (PUT_ONE, one.1)]);
     assert_filed(rt, &entries, 1, [(Open(1), two.0), (ADD_TWO, two.1)]);
 }
@@ -108,16 +108,16 @@ fn assert_journal(rt: &impl Abort, alloc: Global, closed: &TestClosed, told: Two
 #[test]
 fn two_clients_open_one_handle_and_put_one_key(rt: HostRuntime) {
     for _ in 0..TIMES {
-        let (told, closed) = run_two(&rt, Deed::Ask(PUT_ONE), Deed::Ask(ADD_TWO));
-        assert_opened(&rt, told);
-        assert_put(&rt, told);
-        assert_journal(&rt, rt.alloc(), &closed, told);
+        let (returned, closed) = run_two(&rt, Deed::Ask(PUT_ONE), Deed::Ask(ADD_TWO));
+        assert_opened(&rt, returned);
+        assert_put(&rt, returned);
+        assert_journal(&rt, rt.alloc(), &closed, returned);
     }
 }
 
 // What was got.
-fn value_in(told: Outcome) -> Option<u64> {
-    match told {
+fn value_in(returned: Outcome) -> Option<u64> {
+    match returned {
         Outcome::Got(_, value) => Some(value),
         _ => None,
     }

@@ -52,7 +52,7 @@ const FEW_ENTRIES: Limits = Limits {
 
 // Each of the calls would need memory for its entry, but makes none. It catches a call that looks for room first.
 #[test]
-fn a_full_journal_is_told_whatever_the_memory(rt: HostRuntime) {
+fn a_full_journal_is_refused_whatever_the_memory(rt: HostRuntime) {
     let mut steps = filled(&rt, rt.alloc(), &[Ask(0, Open(1), Outcome::Unit)], 32, 0);
     for request in [On(1, Get(A)), View(1), COUNT] {
         steps

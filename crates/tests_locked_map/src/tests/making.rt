@@ -3,7 +3,7 @@
 //! Nothing here returns early, and what the test itself lacks is an outcome too, which no test wants: so no function
 //! has values to drop on the way.
 use super::any_map::AnyMap;
-use super::outcomes::{Outcome, told_of_call, told_of_got, view_outcome};
+use super::outcomes::{Outcome, call_outcome_of, got_outcome, view_outcome};
 use super::questions::Query;
 use super::requests::{Deed, Prepared, prepare};
 use super::waiting::TestGate;
@@ -69,7 +69,7 @@ fn make_call<M: AnyMap, R: Wait>(
     call: &Call<ChosenKey, u64>,
 ) -> Outcome {
     match call.try_clone::<Query>() {
-        Ok(call) => told_of_call(&map.call(rt, seat, call)),
+        Ok(call) => call_outcome_of(&map.call(rt, seat, call)),
         Err(_) => Outcome::Lost,
     }
 }
@@ -87,17 +87,17 @@ fn freeze<M: AnyMap, R: Wait>(
     };
     match map.freeze(rt, seat, handle, query) {
         Ok((ticket, seen)) => {
-            let told = Outcome::Frozen(M::job(&ticket), seen);
-            kept(tickets, ticket, told)
+            let returned = Outcome::Frozen(M::job(&ticket), seen);
+            kept(tickets, ticket, returned)
         }
         Err(refusal) => Outcome::Refused(refusal),
     }
 }
 
-// Adds the ticket: the outcome `told`, unless the ticket is lost.
-fn kept<T: Drop>(tickets: &mut Vec<T>, ticket: T, told: Outcome) -> Outcome {
+// Adds the ticket. Returns the outcome, unless the ticket is lost.
+fn kept<T: Drop>(tickets: &mut Vec<T>, ticket: T, returned: Outcome) -> Outcome {
     match tickets.push(ticket) {
-        Ok(()) => told,
+        Ok(()) => returned,
         Err(_) => Outcome::Lost,
     }
 }
@@ -118,7 +118,7 @@ fn finish<M: AnyMap, R: Wait>(
         return Outcome::Lost;
     };
     match map.finish(rt, seat, ticket, part) {
-        Ok(told) => told,
+        Ok(returned) => returned,
         Err((refusal, ticket, _)) => kept(tickets, ticket, Outcome::Refused(refusal)),
     }
 }
@@ -162,7 +162,7 @@ fn get_or_store<M: AnyMap, R: Wait>(
         is_made = true;
         value
     });
-    told_of_got(is_made, &answer)
+    got_outcome(is_made, &answer)
 }
 
 fn take_bulk<M: AnyMap, R: Threads + Wait + Sync>(
@@ -190,7 +190,7 @@ pub fn bulk<M: AnyMap, R: Threads + Wait + Sync>(
     gate: &TestGate<'_>,
 ) -> Outcome {
     match map.bulk(rt, seat, handle, query, CREW, gate) {
-        Ok(told) => told,
+        Ok(returned) => returned,
         Err((refusal, ticket)) => match ticket {
             Some(ticket) => kept(tickets, ticket, Outcome::Returned(refusal)),
             None => Outcome::Refused(refusal),

@@ -30,9 +30,9 @@ pub fn dry<M: AnyMap, R: Threads + Wait + Sync>(
     let Ok(shortage) = Shortage::new(alloc) else {
         return Outcome::Lost;
     };
-    let told = take(rt, alloc, map, seat, tickets, prepared);
+    let returned = take(rt, alloc, map, seat, tickets, prepared);
     drop(shortage);
-    told
+    returned
 }
 
 /// The seat does it with no memory, with a little, and so on, until there is enough. Memory runs out at least once.
@@ -64,14 +64,14 @@ fn short_of_all<M: AnyMap, R: Threads + Wait + Sync>(
     };
     let mut gets = 0usize;
     for tried in 0..TRIES {
-        let told = take(rt, alloc, map, seat, tickets, prepared);
+        let returned = take(rt, alloc, map, seat, tickets, prepared);
         // the entry of a get that was made keeps some of what was given
-        if told == Outcome::NotGot(true, Refusal::NoMemory) {
+        if returned == Outcome::NotGot(true, Refusal::NoMemory) {
             gets = gets.saturating_add(1);
         }
-        let bytes = bytes_after(told, gets);
+        let bytes = bytes_after(returned, gets);
         if bytes == 0 {
-            return if tried > 0 { told } else { Outcome::Lost };
+            return if tried > 0 { returned } else { Outcome::Lost };
         }
         if shortage.give(alloc, bytes).is_err() {
             return Outcome::Lost;
@@ -81,8 +81,8 @@ fn short_of_all<M: AnyMap, R: Threads + Wait + Sync>(
 }
 
 // How many bytes are given after this outcome, with `gets` gets made; none where memory did not run out.
-fn bytes_after(told: Outcome, gets: usize) -> usize {
-    match told {
+fn bytes_after(returned: Outcome, gets: usize) -> usize {
+    match returned {
         Outcome::Refused(Refusal::NoMemory) => STEP,
         Outcome::NotGot(_, Refusal::NoMemory) => STEP.saturating_mul(gets.saturating_add(1)),
         Outcome::Returned(Refusal::NoMemory) => LARGE_STEP,
@@ -106,7 +106,7 @@ fn short_finish<M: AnyMap, R: Wait>(
         return Outcome::Lost;
     };
     match finish(rt, alloc, map, seat, ticket, part) {
-        Some(told) => told,
+        Some(returned) => returned,
         None => Outcome::Lost,
     }
 }
@@ -127,7 +127,7 @@ fn finish<M: AnyMap, R: Wait>(
     let mut shortage = Shortage::new(alloc).ok()?;
     for refused in 0..TRIES {
         match map.finish(rt, seat, ticket, part) {
-            Ok(told) => return if refused > 0 { Some(told) } else { None },
+            Ok(returned) => return if refused > 0 { Some(returned) } else { None },
             Err((Refusal::NoMemory, same_ticket, same_part)) => {
                 ticket = same_ticket;
                 part = same_part;

@@ -10,7 +10,7 @@ use test_keys::ChosenKey;
 use test_machine::{PlainPair, PlainTable, Request, row_of};
 
 // What the plain table returns for the request. The outcome `elsewhere` decides only which row a find gives.
-fn told(
+fn plain_returns(
     rt: &impl Abort,
     alloc: Global,
     table: &mut PlainTable,
@@ -22,9 +22,9 @@ fn told(
     outcome_of(expected.outcome, shown(&expected.rows), found)
 }
 
-// One of the rows, where there are some: the one in `told`, if it is among them.
-fn found_in(rows: &[PlainPair], told: Outcome) -> Option<(u64, u64)> {
-    match told {
+// One of the rows, where there are some: the one in `returned`, if it is among them.
+fn found_in(rows: &[PlainPair], returned: Outcome) -> Option<(u64, u64)> {
+    match returned {
         Outcome::Found(Some((path, value))) if rows.contains(&row_at(path, value)) => {
             Some((path, value))
         }
@@ -74,8 +74,8 @@ fn table_after(rt: &impl Abort, alloc: Global, limits: Limits, entries: &[Entere
             outcome,
             ..
         } = *entry;
-        let told = told(rt, alloc, &mut table, request, outcome);
-        assert_is(rt, (request, told), (request, outcome));
+        let returned = plain_returns(rt, alloc, &mut table, request, outcome);
+        assert_is(rt, (request, returned), (request, outcome));
     }
     table
 }

@@ -84,7 +84,7 @@ pub fn shown(rows: &[PlainPair]) -> Seen {
 }
 
 /// The outcome of a value that was got or stored.
-pub fn told_of_got(is_made: bool, answer: &Result<Arc<u64>, Refusal>) -> Outcome {
+pub fn got_outcome(is_made: bool, answer: &Result<Arc<u64>, Refusal>) -> Outcome {
     match answer {
         Ok(value) => Outcome::Got(is_made, **value),
         Err(refusal) => Outcome::NotGot(is_made, *refusal),
@@ -92,7 +92,7 @@ pub fn told_of_got(is_made: bool, answer: &Result<Arc<u64>, Refusal>) -> Outcome
 }
 
 /// What a call returns.
-pub fn told_of_call(answer: &Result<CallReply<u64>, Refusal>) -> Outcome {
+pub fn call_outcome_of(answer: &Result<CallReply<u64>, Refusal>) -> Outcome {
     match answer {
         Ok(reply) => reply_outcome(reply),
         Err(refusal) => Outcome::Refused(*refusal),
@@ -122,8 +122,8 @@ fn reply_outcome(reply: &CallReply<u64>) -> Outcome {
 }
 
 /// The outcome of a request, with what a view or a freeze shows and the pair that is found.
-pub fn outcome_of(told: TableOutcome, seen: Seen, found: Option<(u64, u64)>) -> Outcome {
-    match told {
+pub fn outcome_of(returned: TableOutcome, seen: Seen, found: Option<(u64, u64)>) -> Outcome {
+    match returned {
         TableOutcome::Unit => Outcome::Unit,
         TableOutcome::Old(value) => Outcome::Old(value),
         TableOutcome::Done(done) => Outcome::Done(done),
@@ -142,8 +142,8 @@ pub fn outcome_of(told: TableOutcome, seen: Seen, found: Option<(u64, u64)>) -> 
 }
 
 /// A response as a plain value.
-pub fn plain_outcome(told: &Response<ChosenKey, u64, i128>) -> Outcome {
-    match told {
+pub fn plain_outcome(returned: &Response<ChosenKey, u64, i128>) -> Outcome {
+    match returned {
         Response::Reply(reply) => reply_outcome(reply),
         Response::View(view) => Outcome::View(seen_in(view)),
         Response::Frozen(job, view) => Outcome::Frozen(*job, seen_in(view)),

@@ -157,9 +157,9 @@ impl Plays for Player {
         for call in 0..CALLS {
             let deed = next_deed::<M>(&mut draws, &tickets, jobs, made_by(number, call));
             let begun = clock.fetch_add(1, Ordering::SeqCst);
-            let told = act(rt, alloc, map, seat, &mut tickets, deed);
+            let returned = act(rt, alloc, map, seat, &mut tickets, deed);
             let ended = clock.fetch_add(1, Ordering::SeqCst);
-            note_down(&mut notes, (begun, ended), deed, told);
+            note_down(&mut notes, (begun, ended), deed, returned);
         }
         notes
     }
@@ -187,9 +187,9 @@ fn next_deed<M: AnyMap>(draws: &mut Draws, tickets: &[M::Ticket], jobs: u32, mad
 type Times = (u64, u64);
 
 // A note for which there is no room is missed by the test.
-fn add(notes: &mut Vec<Note>, times: Times, request: Request, told: Outcome) {
+fn add(notes: &mut Vec<Note>, times: Times, request: Request, returned: Outcome) {
     let (begun, ended) = times;
-    let exchange = (request, told);
+    let exchange = (request, returned);
     let _ = notes.push(Note {
         begun,
         ended,
@@ -199,11 +199,11 @@ fn add(notes: &mut Vec<Note>, times: Times, request: Request, told: Outcome) {
 
 // Notes down the requests and outcomes of one call: of a value that was got or stored, a get, and a put_if_absent where
 // the value was made.
-fn note_down(notes: &mut Vec<Note>, times: Times, deed: Deed, told: Outcome) {
+fn note_down(notes: &mut Vec<Note>, times: Times, deed: Deed, returned: Outcome) {
     match deed {
-        Deed::Ask(request) => add(notes, times, request, told),
+        Deed::Ask(request) => add(notes, times, request, returned),
         Deed::GetOrStore(handle, key, made) => {
-            let (is_made, answer) = got_of(told, made);
+            let (is_made, answer) = got_of(returned, made);
             let get = Request::On(handle, Do::Get(key));
             if is_made {
                 add(notes, times, get, Outcome::Old(None));
@@ -218,11 +218,11 @@ fn note_down(notes: &mut Vec<Note>, times: Times, deed: Deed, told: Outcome) {
 }
 
 // Whether the value was made, and what the last of the requests must have returned.
-fn got_of(told: Outcome, made: u64) -> (bool, Outcome) {
-    match told {
+fn got_of(returned: Outcome, made: u64) -> (bool, Outcome) {
+    match returned {
         Outcome::Got(true, value) if value == made => (true, Outcome::Old(None)),
         Outcome::Got(is_made, value) => (is_made, Outcome::Old(Some(value))),
         Outcome::NotGot(is_made, refusal) => (is_made, Outcome::Refused(refusal)),
-        _ => (false, told),
+        _ => (false, returned),
     }
 }

@@ -11,7 +11,7 @@ use super::model::replayed;
 use super::outcomes::{Outcome, seen_in};
 use super::questions::Query;
 use super::requests::{Deed, prepare};
-use super::steps::{Memory, Step, entry_in, told_in, turn_of};
+use super::steps::{Memory, Step, entry_in, outcome_in, turn_of};
 use super::{assert_is, assert_limits};
 use handles::Limits;
 use locked_map::{JournalName, MOST_SEATS, Seat, SharedMap, Use, with};
@@ -45,7 +45,7 @@ type OutcomesAndViews = (Vec<Outcome>, Vec<View<ChosenKey, u64>>);
 struct Script {
     steps: Vec<Step>,
     ending: Ending,
-    told: Vec<Outcome>,
+    returned: Vec<Outcome>,
     views: Vec<View<ChosenKey, u64>>,
 }
 
@@ -80,7 +80,7 @@ fn play<M: AnyMap, R: Threads + Wait + Sync>(
     let Script {
         steps,
         ending,
-        mut told,
+        mut returned,
         mut views,
     } = script;
     let mut tickets = Vec::new(alloc);
@@ -88,10 +88,10 @@ fn play<M: AnyMap, R: Threads + Wait + Sync>(
     for step in steps {
         let outcome = take_step(rt, alloc, map, seats, &mut tickets, &mut views, step);
         // what is not noted is missed by the test
-        let _ = told.push(outcome);
+        let _ = returned.push(outcome);
     }
     arrange(seats, ending);
-    (told, views)
+    (returned, views)
 }
 
 fn take_step<M: AnyMap, R: Threads + Wait + Sync>(
@@ -146,8 +146,8 @@ fn take_other<M: AnyMap, R: Threads + Wait + Sync>(
             Some(seat) => keep(rt, map, seat, views, handle),
             None => Outcome::Lost,
         },
-        Step::FinishAll(number, told) => match seats.get_mut(number as usize) {
-            Some(seat) => finish_all(rt, alloc, map, seat, tickets, told),
+        Step::FinishAll(number, returned) => match seats.get_mut(number as usize) {
+            Some(seat) => finish_all(rt, alloc, map, seat, tickets, returned),
             None => Outcome::Lost,
         },
         Step::Meet => {
@@ -179,18 +179,18 @@ fn keep<M: AnyMap, R: Wait>(
     }
 }
 
-// Finishes each job: returns `told` if that is the outcome of each, or else the first other outcome.
+// Finishes each job. Returns the outcome `returned` if each has it, or else the first other outcome.
 fn finish_all<M: AnyMap, R: Threads + Wait + Sync>(
     rt: &R,
     alloc: Global,
     map: &M,
     seat: &mut M::Seat,
     tickets: &mut Vec<M::Ticket>,
-    told: Outcome,
+    returned: Outcome,
 ) -> Outcome {
     for _ in 0..TICKETS {
         let Some(job) = first_job::<M>(tickets) else {
-            return told;
+            return returned;
         };
         let outcome = act(
             rt,
@@ -200,11 +200,11 @@ fn finish_all<M: AnyMap, R: Threads + Wait + Sync>(
             tickets,
             Deed::Ask(Request::Finish(job)),
         );
-        if outcome != told {
+        if outcome != returned {
             return outcome;
         }
     }
-    told
+    returned
 }
 
 // The job of the first ticket.
@@ -254,7 +254,7 @@ fn lent<R: AllocGlobal + Abort + Threads + Wait + Sync>(
     assert_limits(rt, limits);
     assert!(rt; 1 <= seats && seats <= MOST_SEATS);
     match with(rt, rt.alloc(), seats, limits, script) {
-        Ok((told, closed)) => (told, closed.ok()),
+        Ok((returned, closed)) => (returned, closed.ok()),
         Err(_) => panic!(rt; "no map"),
     }
 }
@@ -263,7 +263,7 @@ fn script_of(rt: &impl Abort, alloc: Global, steps: &[Step], ending: Ending) -> 
     Script {
         steps: Vec::from_slice(alloc, steps).expect(rt, "no steps"),
         ending,
-        told: Vec::with_capacity(alloc, steps.len()).expect(rt, "no room for what is told"),
+        returned: Vec::with_capacity(alloc, steps.len()).expect(rt, "no room for what is returned"),
         views: Vec::new(alloc),
     }
 }
@@ -285,10 +285,10 @@ pub fn closed_len<R: AllocGlobal + Abort + Threads + Wait + Sync>(
 }
 
 // Each step has its outcome.
-fn assert_told(rt: &impl Abort, told: &[Outcome], steps: &[Step]) {
-    assert_is(rt, told.len(), steps.len());
-    for (told, step) in told.iter().zip(steps) {
-        assert_is(rt, *told, told_in(*step));
+fn assert_outcomes(rt: &impl Abort, returned: &[Outcome], steps: &[Step]) {
+    assert_is(rt, returned.len(), steps.len());
+    for (returned, step) in returned.iter().zip(steps) {
+        assert_is(rt, *returned, outcome_in(*step));
     }
 }
 
@@ -333,8 +333,8 @@ pub fn played<R: AllocGlobal + Abort + Threads + Wait + Sync>(
 ) -> Vec<Entered> {
     let alloc = rt.alloc();
     let script = script_of(rt, alloc, steps, Ending::All);
-    let ((told, views), closed) = lent(rt, seats, limits, script);
-    assert_told(rt, &told, steps);
+    let ((returned, views), closed) = lent(rt, seats, limits, script);
+    assert_outcomes(rt, &returned, steps);
     let closed = closed.expect(rt, "the map is torn");
     let entries = assert_closed(rt, alloc, limits, closed, ends);
     assert_kept(rt, &views, steps);

@@ -52,39 +52,54 @@ pub type Turn = (u32, Memory, Deed, Outcome);
 /// What a seat does in the step, if it is such a step.
 pub fn turn_of(step: Step) -> Option<Turn> {
     match step {
-        Step::Ask(seat, request, told) => Some((seat, Memory::Ample, Deed::Ask(request), told)),
-        Step::Dry(seat, request, told) => Some((seat, Memory::None, Deed::Ask(request), told)),
-        Step::Short(seat, request, told) => {
-            Some((seat, Memory::Wanting, Deed::Ask(request), told))
+        Step::Ask(seat, request, returned) => Some((
+            seat,
+            Memory::Ample,
+            Deed::Ask(request),
+            returned,
+        )),
+        Step::Dry(seat, request, returned) => Some((
+            seat,
+            Memory::None,
+            Deed::Ask(request),
+            returned,
+        )),
+        Step::Short(seat, request, returned) => {
+            Some((seat, Memory::Wanting, Deed::Ask(request), returned))
         }
-        Step::GetOrStore(seat, handle, key, value, told) => {
+        Step::GetOrStore(seat, handle, key, value, returned) => {
             let deed = Deed::GetOrStore(handle, key, value);
-            Some((seat, Memory::Ample, deed, told))
+            Some((seat, Memory::Ample, deed, returned))
         }
-        Step::ShortGet(seat, handle, key, value, told) => {
+        Step::ShortGet(seat, handle, key, value, returned) => {
             let deed = Deed::GetOrStore(handle, key, value);
-            Some((seat, Memory::Wanting, deed, told))
+            Some((seat, Memory::Wanting, deed, returned))
         }
-        Step::Bulk(seat, handle, question, told) => {
-            Some((seat, Memory::Ample, Deed::Bulk(handle, question), told))
+        Step::Bulk(seat, handle, question, returned) => {
+            Some((seat, Memory::Ample, Deed::Bulk(handle, question), returned))
         }
-        Step::DryBulk(seat, handle, question, told) => {
-            Some((seat, Memory::None, Deed::Bulk(handle, question), told))
+        Step::DryBulk(seat, handle, question, returned) => {
+            Some((seat, Memory::None, Deed::Bulk(handle, question), returned))
         }
-        Step::ShortBulk(seat, handle, question, told) => {
-            Some((seat, Memory::Wanting, Deed::Bulk(handle, question), told))
+        Step::ShortBulk(seat, handle, question, returned) => {
+            Some((
+                seat,
+                Memory::Wanting,
+                Deed::Bulk(handle, question),
+                returned,
+            ))
         }
         _ => None,
     }
 }
 
 /// The outcome that a step has to have.
-pub fn told_in(step: Step) -> Outcome {
+pub fn outcome_in(step: Step) -> Outcome {
     match step {
         Step::Keep(_, _, seen) => Outcome::View(seen),
-        Step::FinishAll(_, told) => told,
+        Step::FinishAll(_, returned) => returned,
         _ => match turn_of(step) {
-            Some((_, _, _, told)) => told,
+            Some((_, _, _, returned)) => returned,
             None => Outcome::Unit,
         },
     }
@@ -93,11 +108,11 @@ pub fn told_in(step: Step) -> Outcome {
 /// The entry of a step, where it is known which that is.
 pub fn entry_in(step: Step) -> Option<Entered> {
     let (seat, request, outcome) = match step {
-        Step::Ask(seat, request, told) => (seat, request, told),
-        Step::Dry(seat, request, told) => (seat, request, told),
-        Step::Short(seat, request, told) => (seat, request, told),
+        Step::Ask(seat, request, returned) => (seat, request, returned),
+        Step::Dry(seat, request, returned) => (seat, request, returned),
+        Step::Short(seat, request, returned) => (seat, request, returned),
         Step::Keep(seat, handle, seen) => (seat, Request::View(handle), Outcome::View(seen)),
-        Step::Files(seat, request, told) => (seat, request, told),
+        Step::Files(seat, request, returned) => (seat, request, returned),
         _ => return None,
     };
     if outcome.is_entry() {

@@ -185,7 +185,7 @@ fn play_putter<M: AnyMap, R: Threads + Wait + Sync>(
     if !wait_for(&signs.begun, MOST_TURNS) {
         return Outcome::Lost;
     }
-    let told = act(
+    let returned = act(
         rt,
         alloc,
         map,
@@ -194,7 +194,7 @@ fn play_putter<M: AnyMap, R: Threads + Wait + Sync>(
         Deed::Ask(On(1, Put(A, 2))),
     );
     signs.answered.store(1, Ordering::SeqCst);
-    told
+    returned
 }
 
 // A client that gets a value or counts, and one that puts.
@@ -226,11 +226,11 @@ fn run_pair<R: AllocGlobal + Abort + Threads + Wait + Sync>(rt: &R, counts: bool
     let alloc = rt.alloc();
     let signs = Arc::new(alloc, no_signs()).expect(rt, "no signs");
     let clients = two_clients(rt, alloc, &signs, counts);
-    let (told, closed) = run_clients(rt, LARGEST, clients);
+    let (returned, closed) = run_clients(rt, LARGEST, clients);
     let entries = replayed(rt, alloc, LARGEST, &closed);
     let ran_out = signs.ran_out.load(Ordering::SeqCst);
     let callers = signs.callers.load(Ordering::SeqCst);
-    (told, ran_out, callers, entries)
+    (returned, ran_out, callers, entries)
 }
 
 // The first client has this outcome and the put finds nothing, no wait runs out, the caller begins no piece, and behind
@@ -242,9 +242,9 @@ fn assert_met<R: AllocGlobal + Abort + Threads + Wait + Sync>(
     before: usize,
     wanted: &[Entered],
 ) {
-    let (told, ran_out, callers, entries) = run_pair(rt, counts);
-    assert_is(rt, told.first().copied(), Some(first));
-    assert_is(rt, told.get(1).copied(), Some(Outcome::Old(None)));
+    let (returned, ran_out, callers, entries) = run_pair(rt, counts);
+    assert_is(rt, returned.first().copied(), Some(first));
+    assert_is(rt, returned.get(1).copied(), Some(Outcome::Old(None)));
     assert_is(rt, (ran_out, callers), (0, 0));
     assert_is(rt, entries.len(), before.saturating_add(wanted.len()));
     for (entry, wanted) in entries.iter().skip(before).zip(wanted) {

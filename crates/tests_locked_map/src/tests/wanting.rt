@@ -39,10 +39,12 @@ fn assert_short<R: AllocGlobal + Abort + Threads + Wait + Sync>(
     rt: &R,
     first: &[Step],
     request: Request,
-    told: Outcome,
+    returned: Outcome,
 ) {
     let mut steps = filled(rt, rt.alloc(), first, ENTRIES, 1);
-    steps.push(Short(0, request, told)).expect(rt, "no room");
+    steps
+        .push(Short(0, request, returned))
+        .expect(rt, "no room");
     assert_steps(rt, 1, LARGEST, &steps);
 }
 
@@ -60,8 +62,8 @@ const CALLS: [(Request, Outcome); 9] = [
 
 #[test]
 fn calls_are_refused_at_each_request(rt: HostRuntime) {
-    for (request, told) in CALLS {
-        assert_short(&rt, &ONE, request, told);
+    for (request, returned) in CALLS {
+        assert_short(&rt, &ONE, request, returned);
     }
 }
 

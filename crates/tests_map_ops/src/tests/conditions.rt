@@ -56,8 +56,8 @@ fn assert_removal_where<C: Condition<i64>>(
     condition: &C,
     want: (Option<i64>, bool),
 ) {
-    let told = remove_text_where(rt, alloc, version, at, condition);
-    assert_is(rt, told, want);
+    let seen = remove_text_where(rt, alloc, version, at, condition);
+    assert_is(rt, seen, want);
 }
 
 #[test]

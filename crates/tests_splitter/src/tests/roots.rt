@@ -292,7 +292,7 @@ fn assert_has(rt: &impl Abort, alloc: Global, piece: &Part, rows: &[PlainPair]) 
 
 // Each new branch asks for memory: one for the lower piece, three for the upper.
 #[test]
-fn want_of_memory_leaves_the_piece(rt: HostRuntime) {
+fn out_of_memory_leaves_the_piece(rt: HostRuntime) {
     let alloc = rt.alloc();
     let (map, rows) = map_of(&rt, alloc, &[third(3), third(4), third(31)]);
     let all = whole(alloc, view_of(&rt, &map));

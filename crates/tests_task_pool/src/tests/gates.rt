@@ -86,11 +86,11 @@ fn met<R: AllocGlobal + Threads + Wait + Abort + Sync>(rt: &R) -> (Option<u64>, 
     let alloc = rt.alloc();
     let map = Mutex::new(filled(rt, alloc, 64, false));
     let signs = no_signs();
-    let (shared, told) = (&map, &signs);
+    let (shared, shared_signs) = (&map, &signs);
     let (counted, ()) = thread::join(
         rt,
-        || count(rt, shared, told),
-        || put_meanwhile(rt, alloc, shared, told),
+        || count(rt, shared, shared_signs),
+        || put_meanwhile(rt, alloc, shared, shared_signs),
     );
     let pairs = map.lock(rt).len();
     (

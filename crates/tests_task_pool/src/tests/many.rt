@@ -26,7 +26,7 @@ fn hasty() -> Crew
 type Answers = (Option<bool>, Option<(u32, u64)>);
 
 // What such a crew answers about the view, where it says something.
-fn told<R: AllocGlobal + Threads + Wait + Abort + Sync>(
+fn answer_of<R: AllocGlobal + Threads + Wait + Abort + Sync>(
     rt: &R,
     view: &Seen,
     query: &Asked,
@@ -47,7 +47,7 @@ fn all_pairs_pass(rt: HostRuntime) {
     let view = seen(&rt, rt.alloc(), 64, false);
     let query = Asked::ForAll(all());
     for _ in 0..RUNS {
-        assert_is(&rt, told(&rt, &view, &query), (Some(true), None));
+        assert_is(&rt, answer_of(&rt, &view, &query), (Some(true), None));
     }
 }
 
@@ -56,7 +56,7 @@ fn an_absent_value_does_not_exist(rt: HostRuntime) {
     let view = seen(&rt, rt.alloc(), 64, false);
     let query = Asked::Exists(equal(64));
     for _ in 0..RUNS {
-        assert_is(&rt, told(&rt, &view, &query), (Some(false), None));
+        assert_is(&rt, answer_of(&rt, &view, &query), (Some(false), None));
     }
 }
 
@@ -65,7 +65,7 @@ fn the_one_pair_that_passes_is_found(rt: HostRuntime) {
     let view = seen(&rt, rt.alloc(), 64, false);
     let query = Asked::Find(equal(17));
     for _ in 0..RUNS {
-        assert_is(&rt, told(&rt, &view, &query), (None, Some((17, 17))));
+        assert_is(&rt, answer_of(&rt, &view, &query), (None, Some((17, 17))));
     }
 }
 

@@ -114,9 +114,9 @@ fn memory_is_wanting_from_some_piece_on(rt: HostRuntime) {
     let mut refused = 0u32;
     for round in 0..PAIRS / APART + 1 {
         let at = round.wrapping_mul(APART);
-        let told = is_counted_until(&rt, alloc, &view, at);
-        assert!(rt; told.is_some(), "from piece {at} on");
-        if told == Some(false) {
+        let counted = is_counted_until(&rt, alloc, &view, at);
+        assert!(rt; counted.is_some(), "from piece {at} on");
+        if counted == Some(false) {
             refused = refused.wrapping_add(1);
         }
     }

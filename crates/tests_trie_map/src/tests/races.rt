@@ -113,7 +113,11 @@ fn all_calls<R: Wait>(rt: &R, map: &Map, calls: Calls) -> PutResult {
 }
 
 // The answers of all threads.
-fn told<R: AllocGlobal + Threads + Wait + Abort + Sync>(rt: &R, map: &Map, calls: Calls) -> u64 {
+fn sum_by_threads<R: AllocGlobal + Threads + Wait + Abort + Sync>(
+    rt: &R,
+    map: &Map,
+    calls: Calls,
+) -> u64 {
     let mut sum = 0u64;
     let all = thread::map_indices(
         rt,
@@ -135,7 +139,7 @@ fn what_is_added_is_removed_once(rt: HostRuntime) {
         Calls::PutReplaceAndRemove,
     ] {
         let map = empty(&rt);
-        let left = told(&rt, &map, calls);
+        let left = sum_by_threads(&rt, &map, calls);
         assert_eq!(rt; left, map.len(&rt), "{calls:?}");
     }
 }
@@ -144,7 +148,7 @@ fn what_is_added_is_removed_once(rt: HostRuntime) {
 fn a_value_is_replaced_once(rt: HostRuntime) {
     let map = empty(&rt);
     put(&rt, &map, the_key(), 0);
-    let times = told(&rt, &map, Calls::Replace);
+    let times = sum_by_threads(&rt, &map, Calls::Replace);
     assert_is(&rt, at(&rt, &map, the_key()), Some(times));
 }
 
@@ -152,14 +156,14 @@ fn a_value_is_replaced_once(rt: HostRuntime) {
 #[test]
 fn a_number_is_drawn_once(rt: HostRuntime) {
     let map = empty(&rt);
-    assert_is(&rt, told(&rt, &map, Calls::Draw), 800_020_000);
+    assert_is(&rt, sum_by_threads(&rt, &map, Calls::Draw), 800_020_000);
     assert_is(&rt, at(&rt, &map, the_key()), Some(40_000));
 }
 
 #[test]
 fn no_fourth_thread_is_inside(rt: HostRuntime) {
     let map = empty(&rt);
-    assert_is(&rt, told(&rt, &map, Calls::Enter), 0);
+    assert_is(&rt, sum_by_threads(&rt, &map, Calls::Enter), 0);
     assert_is(&rt, at(&rt, &map, the_key()), Some(0));
 }
 

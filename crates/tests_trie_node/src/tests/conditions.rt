@@ -22,7 +22,7 @@ fn conditions_decide_on_the_value_found(rt: HostRuntime) {
 }
 
 // Whether there is a new root, and what the key had before.
-fn told(
+fn plainly(
     rt: &impl Abort,
     answer: Result<Written<'_, ChosenKey, u32>, NoMemory>,
 ) -> (bool, Option<u32>) {
@@ -42,7 +42,7 @@ fn put_if_absent(
 ) -> (bool, Option<u32>) {
     let key = shared_key(rt, alloc, at);
     let value = shared_value(rt, alloc, 6);
-    told(rt, trie.put_where(alloc, key, value, Stamp(2), &IfAbsent))
+    plainly(rt, trie.put_where(alloc, key, value, Stamp(2), &IfAbsent))
 }
 
 // What a removal of the key answers, if it has this value.
@@ -53,7 +53,7 @@ fn removed_if(
     at: ChosenKey,
     value: u32,
 ) -> (bool, Option<u32>) {
-    told(
+    plainly(
         rt,
         trie.removed_where(alloc, &at, Stamp(2), &IfEqual(&value)),
     )

@@ -1,4 +1,4 @@
-use Rattle.audit.proofs.TellingLemmas.{made_of}
+use Rattle.audit.proofs.ReplyPartLemmas.{made_of}
 use Rattle.audit.proofs.images.some_images.Goals as goal
 
 pub returns-clause-image : goal.returns-clause-image

@@ -7,7 +7,7 @@ use Rattle.handles.specs.Machine.{finish}
 use Rattle.handles.specs.Views.{finished_outcome}
 use Rattle.audit.specs.Answers.{Answers, NoneAnswers}
 use Rattle.audit.proofs.FinishLemmas.{finished_so}
-use Rattle.audit.proofs.TellingLemmas.{told_part}
+use Rattle.audit.proofs.ReplyPartLemmas.{told_part}
 use Rattle.audit.proofs.judging.finished.Goals as goal
 
 pub returns : goal.returns

@@ -1,4 +1,4 @@
-use Rattle.std.proofs.Common.{◌≡◌, ◌∙◌, [], rules}
+use Rattle.std.proofs.Common.{◌≡◌, [], rules}
 use Rattle.hash_path.specs.Fnv.{fnv1a}
 use Rattle.keys.specs.Order.{bytes_cmp}
 use Rattle.trie_shape.specs.Order.{walked}

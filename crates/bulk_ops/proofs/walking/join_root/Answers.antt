@@ -1,5 +1,5 @@
 use Rattle.std.proofs.Common.{ap, arith, length, sym, subst}
-use Rattle.combiner.specs.Bulks.{CanJoinMap, IsJoinedMap}
+use Rattle.combiner.specs.Bulks.{CanJoinMap}
 use Rattle.bulk_ops.proofs.Pieces.{part_le}
 use Rattle.bulk_ops.proofs.walking.join_root.Goals as goal
 

@@ -1,6 +1,5 @@
 use Rattle.std.proofs.Common.{◌≡◌, true, codes, rules, Some, None, string_bytes}
 use Rattle.serde_json.specs.View.{view}
-use Rattle.serde_json.specs.Errors.{IsMemory}
 use Rattle.journal_lines.specs.Members.{number_at, text_at}
 use Rattle.journal_lines.proofs.ReadLemmas.{unread_is_no_line, no_call, no_reply, no_seat, has_members}
 use Rattle.journal_lines.proofs.line.members_in.Goals as goal

@@ -1,6 +1,5 @@
-use Rattle.std.proofs.Common.{◌≡◌, ◌≢◌, ℕ, ◌<◌, ◌+◌, get_or, length, take, drop, arith, rules, add-one, List, ◌∷◌}
+use Rattle.std.proofs.Common.{◌≡◌, ◌≢◌, ℕ, ◌<◌, get_or, length, rules, add-one}
 use Rattle.std.proofs.lemmas.Bool.Decides.{nat_tests}
-use Rattle.journal_lines.specs.Lines.{lines_in}
 use Rattle.journal_lines.proofs.LineEnds.{first_ended, unended}
 use Rattle.journal_lines.proofs.lines.bytes_in_line.Goals as goal
 

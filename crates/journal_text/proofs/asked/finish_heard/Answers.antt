@@ -1,5 +1,4 @@
-use Rattle.std.proofs.Common.{ℕ, ◌<◌, ◌^◌, ◌≡◌, rules, arith, sym}
-use Rattle.std.specs.Fmt.{decimal}
+use Rattle.std.proofs.Common.{◌<◌, ◌^◌, ◌≡◌, rules}
 use Rattle.journal_text.proofs.HeardLemmas.{a_number, no_number, heard_finish, unheard_finish}
 use Rattle.journal_text.proofs.asked.finish_heard.Goals as goal
 

@@ -1,4 +1,4 @@
-use Rattle.std.proofs.Common.{◌≡◌, ◌++◌, ◌∷◌, [], Some, length, rules, arith}
+use Rattle.std.proofs.Common.{◌≡◌, ◌++◌, ◌∷◌, [], Some, length, rules}
 use Rattle.std.specs.List.{slice_get}
 use Rattle.journal_lines.specs.Lines.{end_line}
 use Rattle.journal_text.specs.Entries.{text_of_journal}

@@ -28,7 +28,7 @@ images-requires g c = kinds.pairs_map g.M.Monoid.combine g.M.Monoid.unit_of c.ar
 pub item-requires : goal.item-requires
 item-requires g c = kinds.item_of g.M.Monoid.combine g.M.Monoid.unit_of c.args.self.now c.in-Fold.monoid c.in-Fold.field-1 c.args.part.now c.in-Fold.is c.requires
 
--- 2. What is told is what the part's answer tells.
+-- 2. What is returned is the summary of the part's answer.
 pub returns-in_ok-again-in-Find-clause-told : goal.returns-in_ok-again-in-Find-clause-told
 returns-in_ok-again-in-Find-clause-told g c = pair_told c.args.part.now c.in_ok-again-in-Find.field-0 c.found.result.now c.found.ensures c.in_ok-again-in-Find.ensures
 

@@ -8,7 +8,7 @@ use Rattle.journal.specs.Tokens.{entry_at}
 use Rattle.journal.proofs.Runs.{kept_more}
 use Rattle.journal.proofs.Beside.{closed_still, abandons, abandon_keeps}
 use Rattle.journal.proofs.Events.{files_event, opened_in}
-use Rattle.journal.proofs.Openers.{each_closed, openers_of-filter, is_own}
+use Rattle.journal.proofs.Openers.{each_closed, openers_of-filter}
 use Rattle.journal.proofs.journaled_table.JournaledTable.abandon.Goals as goal
 
 pub invariant_of-self-2 : goal.invariant_of-self-2

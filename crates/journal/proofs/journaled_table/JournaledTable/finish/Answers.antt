@@ -11,7 +11,7 @@ use Rattle.journal.specs.Tokens.{entry_at}
 use Rattle.journal.proofs.Runs.{kept_more}
 use Rattle.journal.proofs.Beside.{closed_still, finishes, finish_keeps, opened_stands}
 use Rattle.journal.proofs.Events.{files_event, opened_in}
-use Rattle.journal.proofs.Openers.{each_closed, openers_of-filter, is_own}
+use Rattle.journal.proofs.Openers.{each_closed, openers_of-filter}
 use Rattle.journal.proofs.journaled_table.JournaledTable.finish.Goals as goal
 
 pub entered_finish-entered-requires : goal.entered_finish-entered-requires

@@ -5,9 +5,9 @@ use Rattle.handles.specs.Views.{call_outcome, machine, request_of}
 use Rattle.journal.specs.Answers.{answered}
 use Rattle.locked_map.specs.declared.filed.Filed.{Filed}
 use Rattle.journal.proofs.Foresight.{call_names_no_job}
-use Rattle.locked_map.specs.Getting.{MayBeTold}
+use Rattle.locked_map.specs.Getting.{MayReturn}
 use Rattle.locked_map.proofs.Adding.{event_adds, unfiled_adds}
-use Rattle.locked_map.proofs.Getting.{may_be_told}
+use Rattle.locked_map.proofs.Getting.{may_return}
 use Rattle.locked_map.proofs.shared_map.SharedMap.call.Goals as goal
 
 pub returns-in-Ok-clause-adds : goal.returns-in-Ok-clause-adds
@@ -29,4 +29,4 @@ returns-in-Err-clause-adds g c =
 pub returns-in-Ok-clause-told : goal.returns-in-Ok-clause-told
 returns-in-Ok-clause-told g c =
     let kind = machine g.K.Ord.cmp g.V.PartialEq.eq g.Q.Asks.target_of g.Q.Asks.answered in
-    subst (λ a. IfOk a (λ y. MayBeTold kind (request_of c.args.call) (call_outcome y))) (sym c.file.ensures.answer) (may_be_told kind _ _ (request_of c.args.call) call_outcome c.in-Ok.event.answer c.in-Ok.ensures.filed.step)
+    subst (λ a. IfOk a (λ y. MayReturn kind (request_of c.args.call) (call_outcome y))) (sym c.file.ensures.answer) (may_return kind _ _ (request_of c.args.call) call_outcome c.in-Ok.event.answer c.in-Ok.ensures.filed.step)

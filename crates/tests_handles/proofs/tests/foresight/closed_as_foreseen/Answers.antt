@@ -10,4 +10,4 @@ pub finish-requires : goal.finish-requires
 finish-requires g c = answers_job g.Q.Bulk.answers (job_at c.args.table.now c.args.job) c.args.part c.requires
 
 pub returns : goal.returns
-returns g c = c.in_ok-foreseen.ensures.told ∙ sym c.in_ok-told.ensures.told
+returns g c = c.in_ok-foreseen.ensures.told ∙ sym c.in_ok-answer.ensures.told

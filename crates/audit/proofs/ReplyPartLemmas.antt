@@ -1,21 +1,14 @@
--- What a job may be told.
+-- What the reply of a job may be.
 use Prim.Native.Nat.{zero, suc}
 use Rattle.std.proofs.Common.{◌≡◌, Bool, true, false, ◌||◌, ℕ, ◌∙◌, List, [], ◌∷◌, drop, take, Option, Some, None, Result, Ok, Err, IfOk, refl, sym, ap, subst, arith}
-use Rattle.std.specs.Prelude.{ℤ, cond, Contains, IsTrue, MatchOption, ◌&&◌, ◌==◌, codes}
+use Rattle.std.specs.Prelude.{ℤ, Contains, IsTrue, MatchOption, ◌==◌, codes}
 use Rattle.std.specs.List.{list_any}
-use Rattle.std.specs.Cmp.{IsTotalOrder, tied_itself}
-use Rattle.std.specs.Cmp.Rules.{comparing}
-use Rattle.std.specs.FinMap.{is_sorted, nat_cmp-IsAntisymmetric, slice_cmp-IsAntisymmetric}
-use Rattle.std.specs.declared.cmp.Ordering.{Ordering}
-use Rattle.std.specs.declared.cmp.Ordering.TheVariants.{Less, Equal, Greater}
 use Rattle.std.specs.Fmt.{signed_decimal}
-use Rattle.std.specs.FinMap.Entries.{below_all}
-use Rattle.std.specs.Ordering.{is_eq, is_lt, ordering_reverse}
 use Rattle.std.specs.Cmp.Lexicographic.{pointwise}
 use Rattle.versions.specs.Contents.{Contents}
 use Rattle.versions.specs.declared.version.TheConstants.{MOST_PAIRS}
 use Rattle.bulk_ops.specs.Summaries.{MakesFor}
-use Rattle.versions.specs.Map.{Map, IsMap, value_at}
+use Rattle.versions.specs.Map.{IsMap, value_at}
 use Rattle.keys.specs.Order.{bytes_cmp}
 use Rattle.bulk_ops.specs.Answers as plain
 use Rattle.bulk_ops.specs.Answers.{IsImage}
@@ -30,13 +23,13 @@ use Rattle.arguments.specs.declared.pair_mapping.PairMapping.{PairMapping}
 use Rattle.script.specs.declared.reply.LineReply.TheVariants as replies
 use Rattle.questions.specs.Folds.{Item}
 use Rattle.questions.specs.Queries.{ScriptQuestion, IsPartFor, answers, find, paired, target_of}
-use Rattle.questions.specs.Program.{asks_choice, asks_images, asks_pair, ProgramAnswer, ProgramSummary, told_reply}
+use Rattle.questions.specs.Program.{asks_choice, asks_images, asks_pair, ProgramAnswer, ProgramSummary, summary_reply}
 use Rattle.questions.proofs.OneStep.{is_the_answer}
 use Rattle.journal_text.specs.Calls.{outcome_text}
-use Rattle.audit.specs.Answers.{NoneTold}
-use Rattle.audit.specs.Images.{AreValuesTold, HasAllRead}
+use Rattle.audit.specs.Answers.{NoneInReply}
+use Rattle.audit.specs.Images.{AreValuesInReply, HasAllRead}
 use Rattle.audit.proofs.ImageLemmas.{only_images}
-use Rattle.audit.specs.Telling.{IsOnlyTold, IsFront, HasNoFront, TellsNoPair, IsKeyTold, IsPairAt, NonePairAt}
+use Rattle.audit.specs.ReplyParts.{IsOnlyInReply, IsFront, HasNoFront, TellsNoPair, IsKeyInReply, IsPairAt, NonePairAt}
 use Rattle.audit.proofs.SpaceLemmas.{signed_spaceless}
 use Rattle.audit.proofs.PairLemmas.{ScriptMap, contained, value_found}
 
@@ -60,17 +53,17 @@ pub no_prefix : (reply : List ℕ) → pointwise ◌==◌ (take 5 reply) (codes 
 no_prefix reply h key value e = let bad : true ≡ false = ap (λ (r : List ℕ). pointwise ◌==◌ (take 5 r) (codes "pair ")) (sym e) ∙ h in cc
 
 pub key_parted : {A : Type 0} (now : A → List ℕ) (reply rest : List ℕ) (found : Option A) → pointwise ◌==◌ (take 5 reply) (codes "pair ") ≡ true → rest ≡ drop 5 reply → MatchOption found (HasNoFront rest) (λ f. IsFront rest (now f))
-    → MatchOption found (TellsNoPair reply) (λ f. IsKeyTold reply (now f))
+    → MatchOption found (TellsNoPair reply) (λ f. IsKeyInReply reply (now f))
 key_parted now reply rest None starts is h = λ key value e. h key (signed_decimal value) (signed_spaceless value) (is ∙ ap (λ (r : List ℕ). drop 5 r) e)
 key_parted now reply rest (Some f) starts is h = record {
   other = λ e. let bad : false ≡ true = ap (λ (r : List ℕ). pointwise ◌==◌ (take 5 r) (codes "pair ")) (sym e) ∙ starts in cc;
   keyed = λ k value e. h k (signed_decimal value) (signed_spaceless value) (is ∙ ap (λ (r : List ℕ). drop 5 r) e);
 }
 
--- ---- what a query for some pair is told
+-- ---- the reply to a query for some pair
 
--- no pair of the key that is told passes
-pub none_at : (test : Test) (m : ScriptMap) (key reply : List ℕ) → IsKeyTold reply key → NonePairAt test m key → NoneTold (find test) m reply
+-- no pair of the reply's key passes
+pub none_at : (test : Test) (m : ScriptMap) (key reply : List ℕ) → IsKeyInReply reply key → NonePairAt test m key → NoneInReply (find test) m reply
 none_at test m key reply k h (plain.Answer.found None) is ordered e = k.other e
 none_at test m key reply k h (plain.Answer.found (Some x)) is ordered e =
     let same : x.0 ≡ key = k.keyed x.0 x.1 e in
@@ -84,32 +77,32 @@ none_at test m key reply k h (plain.Answer.made n) is ordered e = absurd is
 none_at test m key reply k h (plain.Answer.images n) is ordered e = absurd is
 none_at test m key reply k h (plain.Answer.item n) is ordered e = absurd is
 
-only_pair : (test : Test) (m : ScriptMap) (key reply : List ℕ) (part : ScriptPart) → IsKeyTold reply key → IsPairAt test m key part → IsOnlyTold (find test) m reply part
+only_pair : (test : Test) (m : ScriptMap) (key reply : List ℕ) (part : ScriptPart) → IsKeyInReply reply key → IsPairAt test m key part → IsOnlyInReply (find test) m reply part
 only_pair test m key reply part k h (plain.Answer.found None) is ordered e = absurd (k.other e)
 only_pair test m key reply part k h (plain.Answer.found (Some x)) is ordered e =
     let same : x.0 ≡ key = k.keyed x.0 x.1 e in
     let there : Some x.1 ≡ Some h.value = sym (value_found m x h.is_map is.0) ∙ ap (λ (n : List ℕ). value_at bytes_cmp m n) same ∙ h.there in
     let value : x.1 ≡ h.value = cc in
     let one : ◌≡◌ {A = ProgramAnswer} (plain.Answer.found (Some x)) (plain.Answer.found (Some (key, h.value))) = λ i. plain.Answer.found (Some (same i, value i)) in
-    ap (λ (b : ProgramAnswer). plain.summary b) (one ∙ sym h.told)
+    ap (λ (b : ProgramAnswer). plain.summary b) (one ∙ sym h.found)
 only_pair test m key reply part k h (plain.Answer.number n) is ordered e = absurd is
 only_pair test m key reply part k h (plain.Answer.truth b) is ordered e = absurd is
 only_pair test m key reply part k h (plain.Answer.made n) is ordered e = absurd is
 only_pair test m key reply part k h (plain.Answer.images n) is ordered e = absurd is
 only_pair test m key reply part k h (plain.Answer.item n) is ordered e = absurd is
 
--- the pair of the key that is told passes
-pub pair_for : (test : Test) (m : ScriptMap) (key reply : List ℕ) (part : ScriptPart) → IsKeyTold reply key → IsPairAt test m key part → IsPartFor (find test) m part × IsOnlyTold (find test) m reply part
+-- the pair of the reply's key passes
+pub pair_for : (test : Test) (m : ScriptMap) (key reply : List ℕ) (part : ScriptPart) → IsKeyInReply reply key → IsPairAt test m key part → IsPartFor (find test) m part × IsOnlyInReply (find test) m reply part
 pair_for test m key reply part k h = (
-  record { loose = h.loose; answer = subst (λ (a : ProgramAnswer). answers (find test) m a) (sym h.told) (contained m key h.value h.there, h.passing) },
+  record { loose = h.loose; answer = subst (λ (a : ProgramAnswer). answers (find test) m a) (sym h.found) (contained m key h.value h.there, h.passing) },
   only_pair test m key reply part k h,
 )
 
--- what is found by the key that is told, if memory was there
-pub pair_read : {E : Type 0} (q : ScriptQuestion) (test : Test) (m : ScriptMap) (key reply : List ℕ) (read : Result (Option ScriptPart) E) → q ≡ find test → IsKeyTold reply key → IfOk read (λ found. MatchOption found (NonePairAt test m key) (λ part. IsPairAt test m key part))
-    → IfOk read (λ found. MatchOption found (NoneTold q m reply) (λ part. IsPartFor q m part × IsOnlyTold q m reply part))
-pair_read q test m key reply (Ok None) same k h = subst (λ (x : ScriptQuestion). NoneTold x m reply) (sym same) (none_at test m key reply k h)
-pair_read q test m key reply (Ok (Some part)) same k h = subst (λ (x : ScriptQuestion). IsPartFor x m part × IsOnlyTold x m reply part) (sym same) (pair_for test m key reply part k h)
+-- what is found by the reply's key, if memory was there
+pub pair_read : {E : Type 0} (q : ScriptQuestion) (test : Test) (m : ScriptMap) (key reply : List ℕ) (read : Result (Option ScriptPart) E) → q ≡ find test → IsKeyInReply reply key → IfOk read (λ found. MatchOption found (NonePairAt test m key) (λ part. IsPairAt test m key part))
+    → IfOk read (λ found. MatchOption found (NoneInReply q m reply) (λ part. IsPartFor q m part × IsOnlyInReply q m reply part))
+pair_read q test m key reply (Ok None) same k h = subst (λ (x : ScriptQuestion). NoneInReply x m reply) (sym same) (none_at test m key reply k h)
+pair_read q test m key reply (Ok (Some part)) same k h = subst (λ (x : ScriptQuestion). IsPartFor x m part × IsOnlyInReply x m reply part) (sym same) (pair_for test m key reply part k h)
 pair_read q test m key reply (Err e) same k h = h
 
 none_alike : (test : Test) (m : ScriptMap) (b : ProgramAnswer) → list_any (plain.passes (passes test)) m ≡ false → answers (find test) m b → plain.Answer.found None ≡ b
@@ -121,8 +114,8 @@ none_alike test m (plain.Answer.made n) none is = absurd is
 none_alike test m (plain.Answer.images n) none is = absurd is
 none_alike test m (plain.Answer.item n) none is = absurd is
 
--- no pair is told
-pub other_for : (test : Test) (m : ScriptMap) (reply : List ℕ) (part : ScriptPart) → TellsNoPair reply → IsPartFor (find test) m part → IsOnlyTold (find test) m reply part
+-- the reply has no pair
+pub other_for : (test : Test) (m : ScriptMap) (reply : List ℕ) (part : ScriptPart) → TellsNoPair reply → IsPartFor (find test) m part → IsOnlyInReply (find test) m reply part
 other_for test m reply part none p (plain.Answer.found None) is ordered e = ap (λ (b : ProgramAnswer). plain.summary b) (none_alike test m (answer_of part) is p.answer)
 other_for test m reply part none p (plain.Answer.found (Some x)) is ordered e = absurd (none x.0 x.1 e)
 other_for test m reply part none p (plain.Answer.number n) is ordered e = absurd is
@@ -131,7 +124,7 @@ other_for test m reply part none p (plain.Answer.made n) is ordered e = absurd i
 other_for test m reply part none p (plain.Answer.images n) is ordered e = absurd is
 other_for test m reply part none p (plain.Answer.item n) is ordered e = absurd is
 
--- ---- what any query is told
+-- ---- the reply to any query
 
 no_choice : (q : ScriptQuestion) → asks_pair q ≡ false → asks_images q ≡ false → asks_choice q ≡ false
 no_choice (find test) found made = cc
@@ -139,13 +132,13 @@ no_choice (paired mapping to) found made = cc
 no_choice q found made = refl
 
 -- a question that asks for no pair and no images has one answer
-pub one_for : (q : ScriptQuestion) (m : ScriptMap) (reply : List ℕ) (part : ScriptPart) → asks_pair q ≡ false → asks_images q ≡ false → IsPartFor q m part → IsOnlyTold q m reply part
+pub one_for : (q : ScriptQuestion) (m : ScriptMap) (reply : List ℕ) (part : ScriptPart) → asks_pair q ≡ false → asks_images q ≡ false → IsPartFor q m part → IsOnlyInReply q m reply part
 one_for q m reply part found made p a is ordered e =
     let never = no_choice q found made in
     ap (λ (b : ProgramAnswer). plain.summary b) (is_the_answer q m a never is ∙ sym (is_the_answer q m (answer_of part) never p.answer))
 
--- what a script is told is what the journal shows, but of images
-shown_as : (q : ScriptQuestion) (m : ScriptMap) (a : ProgramAnswer) → asks_images q ≡ false → answers q m a → text_of (told_reply (plain.summary a)) ≡ outcome_text (finished (plain.summary a))
+-- the reply to a script is what the journal shows, but of images
+shown_as : (q : ScriptQuestion) (m : ScriptMap) (a : ProgramAnswer) → asks_images q ≡ false → answers q m a → text_of (summary_reply (plain.summary a)) ≡ outcome_text (finished (plain.summary a))
 shown_as (paired mapping to) m (plain.Answer.images n) never is = cc
 shown_as q m (plain.Answer.images n) never is = absurd is
 shown_as q m (plain.Answer.number n) never is = refl
@@ -154,25 +147,25 @@ shown_as q m (plain.Answer.found x) never is = refl
 shown_as q m (plain.Answer.made n) never is = refl
 shown_as q m (plain.Answer.item i) never is = refl
 
--- the only answer that may be told so is told otherwise
-pub told_otherwise : (q : ScriptQuestion) (m : ScriptMap) (reply : List ℕ) (part : ScriptPart) (b : ProgramSummary) → asks_images q ≡ false → IsPartFor q m part → IsOnlyTold q m reply part → b ≡ plain.summary (answer_of part)
-    → (reply ≡ text_of (told_reply b) → ⊥) → NoneTold q m reply
-told_otherwise q m reply part b never p only same other a is ordered e = other (e ∙ ap (λ (c : ProgramSummary). outcome_text (finished c)) (only a is ordered e) ∙ sym (ap (λ (c : ProgramSummary). text_of (told_reply c)) same ∙ shown_as q m (answer_of part) never p.answer))
+-- the only answer that may have this reply has another
+pub shown_otherwise : (q : ScriptQuestion) (m : ScriptMap) (reply : List ℕ) (part : ScriptPart) (b : ProgramSummary) → asks_images q ≡ false → IsPartFor q m part → IsOnlyInReply q m reply part → b ≡ plain.summary (answer_of part)
+    → (reply ≡ text_of (summary_reply b) → ⊥) → NoneInReply q m reply
+shown_otherwise q m reply part b never p only same other a is ordered e = other (e ∙ ap (λ (c : ProgramSummary). outcome_text (finished c)) (only a is ordered e) ∙ sym (ap (λ (c : ProgramSummary). text_of (summary_reply c)) same ∙ shown_as q m (answer_of part) never p.answer))
 
--- it is told so
-pub told_so : (q : ScriptQuestion) (m : ScriptMap) (reply : List ℕ) (part : ScriptPart) (b : ProgramSummary) → asks_images q ≡ false → IsPartFor q m part → b ≡ plain.summary (answer_of part) → reply ≡ text_of (told_reply b)
+-- it has this reply
+pub told_so : (q : ScriptQuestion) (m : ScriptMap) (reply : List ℕ) (part : ScriptPart) (b : ProgramSummary) → asks_images q ≡ false → IsPartFor q m part → b ≡ plain.summary (answer_of part) → reply ≡ text_of (summary_reply b)
     → reply ≡ outcome_text (finished (plain.summary (answer_of part)))
-told_so q m reply part b never p same is = is ∙ ap (λ (c : ProgramSummary). text_of (told_reply c)) same ∙ shown_as q m (answer_of part) never p.answer
+told_so q m reply part b never p same is = is ∙ ap (λ (c : ProgramSummary). text_of (summary_reply c)) same ∙ shown_as q m (answer_of part) never p.answer
 
 -- the text that tells the part
 pub told_part : (q : ScriptQuestion) (m : ScriptMap) (reply : List ℕ) (found : Option ScriptPart) (part : ScriptPart) → found ≡ Some part
-    → MatchOption found (NoneTold q m reply) (λ x. IsPartFor q m x × (reply ≡ outcome_text (finished (plain.summary (answer_of x))))) → reply ≡ outcome_text (finished (plain.summary (answer_of part)))
+    → MatchOption found (NoneInReply q m reply) (λ x. IsPartFor q m x × (reply ≡ outcome_text (finished (plain.summary (answer_of x))))) → reply ≡ outcome_text (finished (plain.summary (answer_of part)))
 told_part q m reply None part e h = cc
 told_part q m reply (Some x) part e h = let same : x ≡ part = cc in subst (λ (y : ScriptPart). reply ≡ outcome_text (finished (plain.summary (answer_of y)))) same h.1
 
--- ---- what a query for images is told
+-- ---- the reply to a query for images
 
--- the map that was read answers, and is told by the text
+-- the map that was read answers, and the text shows it
 pub images_for : (q : ScriptQuestion) (mapping : PairMapping) (to : ℕ) (m told : ScriptMap) (v : Contents (List ℕ) ℤ) (w : ScriptMap) (reply : List ℕ) → q ≡ paired mapping to → v.limit ≡ MOST_PAIRS → v.stamp ≡ 0 → w ≡ v.entries → HasAllRead (image_of mapping) m told v.entries → reply ≡ text_of (replies.Pairs w)
     → IsPartFor q m (parts.Images v w) × (reply ≡ outcome_text (finished (plain.summary (answer_of {K = List ℕ} {V = ℤ} {I = Item} (parts.Images v w)))))
 images_for q mapping to m told v w reply same limit stamp seen all is =
@@ -182,12 +175,12 @@ images_for q mapping to m told v w reply same limit stamp seen all is =
 pub never_shown : (b : Bool) → b ≡ false → IsTrue b → ⊥
 never_shown b none shown = let bad : true ≡ false = sym shown ∙ none in cc
 
--- no map but the one that was read is told, and that is told otherwise
-pub images_none : (q : ScriptQuestion) (mapping : PairMapping) (to : ℕ) (m some told w : ScriptMap) (reply : List ℕ) → q ≡ paired mapping to → IsImage (image_of mapping) m some → IsMap bytes_cmp some → AreValuesTold some reply told
-    → HasAllRead (image_of mapping) m told w → (reply ≡ text_of (replies.Pairs w) → ⊥) → NoneTold q m reply
-images_none q mapping to m some told w reply same is sorted values all other = subst (λ (x : ScriptQuestion). NoneTold x m reply) (sym same) none
+-- the text shows no map but the one that was read, and that has another text
+pub images_none : (q : ScriptQuestion) (mapping : PairMapping) (to : ℕ) (m some told w : ScriptMap) (reply : List ℕ) → q ≡ paired mapping to → IsImage (image_of mapping) m some → IsMap bytes_cmp some → AreValuesInReply some reply told
+    → HasAllRead (image_of mapping) m told w → (reply ≡ text_of (replies.Pairs w) → ⊥) → NoneInReply q m reply
+images_none q mapping to m some told w reply same is sorted values all other = subst (λ (x : ScriptQuestion). NoneInReply x m reply) (sym same) none
   where
-    none : NoneTold (paired mapping to) m reply
+    none : NoneInReply (paired mapping to) m reply
     none (plain.Answer.images n) image ordered e = other (e ∙ ap (λ (x : ScriptMap). text_of (replies.Pairs x)) (only_images (image_of mapping) m some told w n reply is sorted values all image ordered e))
     none (plain.Answer.number n) image ordered e = absurd image
     none (plain.Answer.truth b) image ordered e = absurd image

@@ -1,4 +1,4 @@
--- What a text may tell of a job.
+-- What a text may show of a job.
 use Rattle.std.specs.Prelude.{◌≡◌, ◌≢◌, ℕ, ℤ, true, false, List, [], ◌∷◌, ◌++◌, Some, codes}
 use Rattle.versions.specs.Map.{Map, IsMap, value_at}
 use Rattle.keys.specs.Order.{bytes_cmp}
@@ -16,8 +16,8 @@ use Rattle.questions.specs.Queries.{ScriptQuestion, IsInOrder, IsLoose, answers}
 use Rattle.journal_text.specs.Calls.{outcome_text}
 
 -- each answer of the question for the map that has this text has the summary of the part's answer
-abbrev pub IsOnlyTold : ScriptQuestion → Map (List ℕ) ℤ → List ℕ → Part (List ℕ) ℤ Item → Type 0
-IsOnlyTold q m reply part = (a : ProgramAnswer) → answers q m a → IsInOrder a → reply ≡ outcome_text (finished (plain.summary a)) → plain.summary a ≡ plain.summary (answer_of part)
+abbrev pub IsOnlyInReply : ScriptQuestion → Map (List ℕ) ℤ → List ℕ → Part (List ℕ) ℤ Item → Type 0
+IsOnlyInReply q m reply part = (a : ProgramAnswer) → answers q m a → IsInOrder a → reply ≡ outcome_text (finished (plain.summary a)) → plain.summary a ≡ plain.summary (answer_of part)
 
 -- no byte is a space
 abbrev pub IsSpaceless : List ℕ → Type 0
@@ -37,7 +37,7 @@ abbrev pub TellsNoPair : List ℕ → Type 0
 TellsNoPair reply = (key : List ℕ) (value : ℤ) → reply ≡ text_of (replies.Pair key value) → ⊥
 
 -- the text is not `none`, and if it is that of a pair, the pair has this key
-pub record IsKeyTold (reply key : List ℕ) : Type 0 where
+pub record IsKeyInReply (reply key : List ℕ) : Type 0 where
   pub other : reply ≢ codes "none"
   pub keyed : (k : List ℕ) (value : ℤ) → reply ≡ text_of (replies.Pair k value) → k ≡ key
 
@@ -48,7 +48,7 @@ pub record IsPairAt (test : Test) (m : Map (List ℕ) ℤ) (key : List ℕ) (par
   pub there : value_at bytes_cmp m key ≡ Some value
   pub passing : passes test key value ≡ true
   pub loose : IsLoose part
-  pub told : answer_of part ≡ plain.Answer.found (Some (key, value))
+  pub found : answer_of part ≡ plain.Answer.found (Some (key, value))
 
 -- the map has no pair of the key that passes the test
 pub record NonePairAt (test : Test) (m : Map (List ℕ) ℤ) (key : List ℕ) : Type 0 where

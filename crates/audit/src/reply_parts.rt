@@ -7,51 +7,51 @@ ghost use Rattle.handles.specs.Machine.{finished};
 ghost use Rattle.journal_text.specs.Calls.{outcome_text};
 ghost use Rattle.questions.specs.Program.{asks_images};
 ghost use Rattle.questions.specs.Queries.{IsPartFor, find};
-ghost use Rattle.audit.specs.Answers.{NoneTold};
-ghost use Rattle.audit.specs.Telling.{IsOnlyTold};
+ghost use Rattle.audit.specs.Answers.{NoneInReply};
+ghost use Rattle.audit.specs.ReplyParts.{IsOnlyInReply};
 
-use crate::images::images_told;
+use crate::images::images_in_reply;
 use crate::judging::is_shown_as;
-use crate::pairs::{key_told, pair_at};
+use crate::pairs::{key_in_reply, pair_at};
 use arguments::Test;
 use bulk_ops::{Asks, work};
 use iter::parts_follow_intervals;
 use keys::ByteText;
-use questions::{ScriptPart, ScriptQuery, told};
+use questions::{ScriptPart, ScriptQuery, reply_to_answer};
 use splitter::whole;
 use std::alloc::Global;
 use versions::{NoMemory, View};
 
 /// A part that answers the query for the map and whose reply is this text, if there is one.
-pub fn part_told(
+pub fn part_in_reply(
     alloc: Global,
     query: &ScriptQuery,
     view: &View<ByteText, i64>,
     reply: &[u8],
 ) -> Result<Option<ScriptPart>, NoMemory>
-    ensures { IfOk result (λ found. MatchOption found (NoneTold query.now view.now reply.now) (λ part. IsPartFor query.now view.now part × (reply.now ≡ outcome_text (finished (plain.summary (answer_of part)))))) }
+    ensures { IfOk result (λ found. MatchOption found (NoneInReply query.now view.now reply.now) (λ part. IsPartFor query.now view.now part × (reply.now ≡ outcome_text (finished (plain.summary (answer_of part)))))) }
 {
     match query.pair_mapping() {
-        Some(mapping) => images_told(alloc, mapping, query, view, reply),
-        None => other_told(alloc, query, view, reply),
+        Some(mapping) => images_in_reply(alloc, mapping, query, view, reply),
+        None => other_part_in_reply(alloc, query, view, reply),
     }
 }
 
 /// The same of a query for no images, whose answer a journal shows as a script's reply does.
-#[tactic(auto, using(crate::proofs::TellingLemmas::told_otherwise, crate::proofs::TellingLemmas::told_so))]
-fn other_told(
+#[tactic(auto, using(crate::proofs::ReplyPartLemmas::shown_otherwise, crate::proofs::ReplyPartLemmas::told_so))]
+fn other_part_in_reply(
     alloc: Global,
     query: &ScriptQuery,
     view: &View<ByteText, i64>,
     reply: &[u8],
 ) -> Result<Option<ScriptPart>, NoMemory>
     requires { asks_images query.now ≡ false }
-    ensures { IfOk result (λ found. MatchOption found (NoneTold query.now view.now reply.now) (λ part. IsPartFor query.now view.now part × (reply.now ≡ outcome_text (finished (plain.summary (answer_of part)))))) }
+    ensures { IfOk result (λ found. MatchOption found (NoneInReply query.now view.now reply.now) (λ part. IsPartFor query.now view.now part × (reply.now ≡ outcome_text (finished (plain.summary (answer_of part)))))) }
 {
     let Some(part) = only_part(alloc, query, view, reply)? else {
         return Ok(None);
     };
-    let shown = told(query.tell(&part)?);
+    let shown = reply_to_answer(query.tell(&part)?);
     if is_shown_as(alloc, &Some(shown), reply)? {
         Ok(Some(part))
     } else {
@@ -60,7 +60,7 @@ fn other_told(
 }
 
 /// A part that answers the query for the map, if this text may be its reply; no answer but the part's has this text.
-#[tactic(auto, using(crate::proofs::TellingLemmas::one_for))]
+#[tactic(auto, using(crate::proofs::ReplyPartLemmas::one_for))]
 fn only_part(
     alloc: Global,
     query: &ScriptQuery,
@@ -68,18 +68,18 @@ fn only_part(
     reply: &[u8],
 ) -> Result<Option<ScriptPart>, NoMemory>
     requires { asks_images query.now ≡ false }
-    ensures { IfOk result (λ found. MatchOption found (NoneTold query.now view.now reply.now) (λ part. IsPartFor query.now view.now part × IsOnlyTold query.now view.now reply.now part)) }
+    ensures { IfOk result (λ found. MatchOption found (NoneInReply query.now view.now reply.now) (λ part. IsPartFor query.now view.now part × IsOnlyInReply query.now view.now reply.now part)) }
 {
     if let Some(test) = query.pair_test() {
-        return pair_told(alloc, test, query, view, reply);
+        return pair_in_reply(alloc, test, query, view, reply);
     }
     let part = part_of(alloc, query, view)?;
     Ok(Some(part))
 }
 
 /// The same of a query for some pair.
-#[tactic(auto, using(crate::proofs::TellingLemmas::none_at, crate::proofs::TellingLemmas::pair_for, crate::proofs::TellingLemmas::other_for))]
-fn pair_told(
+#[tactic(auto, using(crate::proofs::ReplyPartLemmas::none_at, crate::proofs::ReplyPartLemmas::pair_for, crate::proofs::ReplyPartLemmas::other_for))]
+fn pair_in_reply(
     alloc: Global,
     test: &Test,
     query: &ScriptQuery,
@@ -87,9 +87,9 @@ fn pair_told(
     reply: &[u8],
 ) -> Result<Option<ScriptPart>, NoMemory>
     requires { query.now ≡ find test.now }
-    ensures { IfOk result (λ found. MatchOption found (NoneTold query.now view.now reply.now) (λ part. IsPartFor query.now view.now part × IsOnlyTold query.now view.now reply.now part)) }
+    ensures { IfOk result (λ found. MatchOption found (NoneInReply query.now view.now reply.now) (λ part. IsPartFor query.now view.now part × IsOnlyInReply query.now view.now reply.now part)) }
 {
-    let Some(key) = key_told(reply) else {
+    let Some(key) = key_in_reply(reply) else {
         let part = part_of(alloc, query, view)?;
         return Ok(Some(part));
     };

@@ -3,10 +3,10 @@ use Rattle.versions.specs.Map.{Map}
 use Rattle.std.specs.Prelude.{ℕ, ℤ, List}
 use Rattle.script.specs.Replies.{text_of}
 use Rattle.script.specs.declared.reply.LineReply.TheVariants as replies
-use Rattle.audit.proofs.TellingLemmas.{images_none, never_shown}
-use Rattle.audit.proofs.images.images_told.Goals as goal
+use Rattle.audit.proofs.ReplyPartLemmas.{images_none, never_shown}
+use Rattle.audit.proofs.images.images_in_reply.Goals as goal
 
--- the only map that may be told has another text
+-- the only map that the text may show has another text
 pub returns : goal.returns
 returns c =
     let made = c.in_ok-map.map.entries in

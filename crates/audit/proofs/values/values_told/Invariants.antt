@@ -1,6 +1,0 @@
-use Rattle.audit.proofs.ValueLemmas.{IsFollowed}
-use Rattle.audit.proofs.values.values_told.Given as goal
-
--- what was read, and what is left to read
-abbrev pub invariant-loop-key : goal.invariant-loop-key
-invariant-loop-key l = IsFollowed l.fn.map.entries l.fn.reply l.key-iterator l.told.entries l.left
