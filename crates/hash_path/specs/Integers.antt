@@ -1,6 +1,6 @@
 -- The path words of integers, which are their own keys.
 use Rattle.std.specs.Prelude.{ℕ, ℤ, ◌^◌, ◌<◌}
-use Rattle.std.specs.Int.{Width, w64, cast_unsigned, to_le_bytes}
+use Rattle.std.specs.Int.{Width, cast_unsigned, to_le_bytes}
 use Rattle.hash_path.specs.Fnv.{fnv1a, fnv1a-below}
 use Rattle.hash_path.specs.Widths.{word_bits}
 
@@ -17,17 +17,3 @@ bytes_path-below width n = fnv1a-below (to_le_bytes width n)
 
 pub signed_bytes_path-below : (width : Width) (z : ℤ) → signed_bytes_path width z < 2 ^ word_bits
 signed_bytes_path-below width z = bytes_path-below width (cast_unsigned width z)
-
--- the path word of a number of 64 bits: the hash of its eight bytes, little-endian
-abbrev pub unsigned_path : ℕ → ℕ
-unsigned_path n = fnv1a (to_le_bytes w64 n)
-
--- that of a number with a sign: of its eight bytes in two's complement
-abbrev pub signed_path : ℤ → ℕ
-signed_path z = unsigned_path (cast_unsigned w64 z)
-
-pub unsigned_path-below : (n : ℕ) → unsigned_path n < 2 ^ word_bits
-unsigned_path-below n = fnv1a-below (to_le_bytes w64 n)
-
-pub signed_path-below : (z : ℤ) → signed_path z < 2 ^ word_bits
-signed_path-below z = unsigned_path-below (cast_unsigned w64 z)

@@ -1,4 +1,4 @@
-//! Keys that are made of others: arrays of bytes, and pairs of keys.
+//! Keys that are made of others: arrays of bytes, and pairs and triples of keys.
 
 use crate::{Path, PathKey};
 
@@ -34,5 +34,29 @@ impl<A: PathKey, B: PathKey> PathKey for (A, B) {
         let Path(first) = self.0.path();
         let Path(second) = self.1.path();
         Path::fnv1a([first.to_le_bytes(), second.to_le_bytes()].as_flattened())
+    }
+}
+
+/// The path word of a triple is the FNV-1a hash of 24 bytes: those of the three keys' words, each little-endian. Triples
+/// are in the order of their first keys, then of their second ones, and then of their third ones.
+impl<A: PathKey, B: PathKey, C: PathKey> PathKey for (A, B, C) {
+    ghost use Rattle.hash_path.specs.Compound.{exact_triples, triple_path, triple_path-below};
+
+    ghost path_of = { λ triple. triple_path (A.path_of triple.0) (B.path_of triple.1) (C.path_of triple.2) };
+
+    ghost exact = { exact_triples A.Ord.cmp B.Ord.cmp C.Ord.cmp A.exact B.exact C.exact };
+
+    ghost small = { λ triple. triple_path-below (A.path_of triple.0) (B.path_of triple.1) (C.path_of triple.2) };
+
+    fn path(&self) -> Path {
+        let Path(first) = self.0.path();
+        let Path(second) = self.1.path();
+        let Path(third) = self.2.path();
+        let words = [
+            first.to_le_bytes(),
+            second.to_le_bytes(),
+            third.to_le_bytes(),
+        ];
+        Path::fnv1a(words.as_flattened())
     }
 }

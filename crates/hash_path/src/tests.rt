@@ -148,6 +148,38 @@ fn integers_of_other_widths_are_keys(rt: HostRuntime) {
     );
 }
 
+/// The same of one byte and of two, of the sixteen of an `i128`, and of the eight of `usize` and `isize`.
+#[test]
+fn each_width_is_a_key(rt: HostRuntime) {
+    assert_eq!(rt; seen(&7u8, &8), (Path(0xaf63_ba4c_8601_b2c6), true));
+    assert_eq!(rt; seen(&u8::MAX, &0), (Path(0xaf64_724c_8602_eb6e), false));
+    assert_eq!(rt; seen(&-1i8, &0), (Path(0xaf64_724c_8602_eb6e), true));
+    assert_eq!(rt; seen(&i8::MIN, &-1), (Path(0xaf64_3d4c_8602_915f), true));
+    assert_eq!(rt; seen(&0x0102u16, &1), (Path(0x0839_5307_b4f1_348c), false));
+    assert_eq!(rt; seen(&u16::MAX, &0), (Path(0x0a99_c907_b6f6_4763), false));
+    assert_eq!(rt; seen(&-2i16, &-1), (Path(0x0a9d_c907_b6fa_303a), true));
+    assert_eq!(rt; seen(&-1i128, &0), (Path(0xd660_7508_f5a1_e855), true));
+    assert_eq!(rt; seen(&i128::MIN, &-1), (Path(0x881f_9fb9_60fe_8ae5), true));
+    assert_eq!(rt;
+        seen(&0x0102_0304_0506_0708usize, &1),
+        (Path(0x0c6d_4496_e178_59d5), false)
+    );
+    assert_eq!(rt; seen(&-1isize, &0), (Path(0x8cf5_1a8b_fca3_883d), true));
+}
+
+/// The same program computed the hashes of the 24 bytes of three words.
+#[test]
+fn triples_are_keys(rt: HostRuntime) {
+    assert_eq!(rt;
+        seen(&(1u64, 2u64, 3u32), &(1, 2, 4)),
+        (Path(0x01e8_3772_21bd_0561), true)
+    );
+    assert_eq!(rt;
+        seen(&(7u8, -1i64, *b"ab"), &(7, -2, *b"zz")),
+        (Path(0x5c98_f942_c709_0d07), false)
+    );
+}
+
 /// The same program computed the hashes of the sixteen bytes of both words, and that of 16 bytes.
 #[test]
 fn pairs_and_arrays_are_keys(rt: HostRuntime) {

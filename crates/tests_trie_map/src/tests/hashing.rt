@@ -107,14 +107,15 @@ impl<'a> Ord for Tallied<'a> {
 }
 
 impl<'a> PathKey for Tallied<'a> {
-    ghost use Rattle.hash_path.specs.Integers.{unsigned_path, unsigned_path-below};
+    ghost use Rattle.hash_path.specs.Integers.{bytes_path, bytes_path-below};
     ghost use Rattle.std.proofs.lemmas.Map.Lookups.{exact_unsigned};
+    ghost use Rattle.std.specs.Int.{w64};
 
-    ghost path_of = { unsigned_path };
+    ghost path_of = { bytes_path w64 };
 
     ghost exact = { exact_unsigned };
 
-    ghost small = { unsigned_path-below };
+    ghost small = { bytes_path-below w64 };
 
     fn path(&self) -> Path {
         self.tally.hashed.fetch_add(1, Ordering::SeqCst);
