@@ -1,5 +1,5 @@
 //! A value that was found, or that is made where none was.
-ghost use Rattle.std.specs.Prelude.{◌≡◌, IfNone, IfSome, None};
+ghost use Rattle.std.specs.Prelude.{◌≡◌, Err, IfErr, IfNone, IfOk, IfSome, None, Ok};
 
 use std::sync::Arc;
 
@@ -21,5 +21,21 @@ pub fn found_or_made<V: Drop, F: FnOnce() -> V>(found: Option<Arc<V>>, make: F) 
     match found {
         Some(found) => Origin::Found(found),
         None => Origin::Made(make()),
+    }
+}
+
+/// The same where `make` may fail: then its error.
+pub fn found_or_tried<V: Drop, E, F: FnOnce() -> Result<V, E>>(
+    found: Option<Arc<V>>,
+    make: F,
+) -> Result<Origin<V>, E>
+    requires { found ≡ None → F.pre make }
+    ensures found { IfSome found (λ value. result ≡ Ok (Origin.Found value)) }
+    ensures made { IfNone found (IfOk result (λ origin. (value : V) × F.post make (Ok value) × (origin ≡ Origin.Made value))) }
+    ensures failed { IfErr result (λ error. F.post make (Err error)) }
+{
+    match found {
+        Some(found) => Ok(Origin::Found(found)),
+        None => Ok(Origin::Made(make()?)),
     }
 }

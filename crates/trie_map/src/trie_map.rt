@@ -1,5 +1,5 @@
 //! The map that threads share.
-ghost use Rattle.std.specs.Prelude.{◌≡◌, IfOk, IfSome, IsTrue, None, false, length};
+ghost use Rattle.std.specs.Prelude.{◌≡◌, Err, IfErr, IfOk, IfSome, IsTrue, None, false, length};
 ghost use Rattle.hash_path.specs.Digits.{fan_out};
 ghost use Rattle.stripes.specs.Rules.{AllKeep};
 ghost use Rattle.stripes.specs.Stripes.{digits_of, up_to};
@@ -13,7 +13,7 @@ mod reading;
 mod reading_hot;
 mod retaining;
 
-use crate::origin::{Origin, found_or_made};
+use crate::origin::{Origin, found_or_made, found_or_tried};
 use crate::put_error::PutError;
 use hash_path::{Path, PathKey, Sought};
 use map_view::View;
@@ -39,11 +39,11 @@ use versions::{Change, Refusal};
 ///
 /// `K::cmp`, `K::path`, `V::eq` and, of a look-up or a removal, `Sought::compare_with` run while the stripe of the key
 /// is locked, and so do the drops of a key that is replaced or removed, and of a key and a value that are not written.
-/// They must not call the map: the thread would wait for itself. A value that is replaced or removed is handed out,
-/// and dropped by whoever has it last; what `clear` removes is dropped once all locks are free; the closure of
-/// `get_or_else_update` runs with no lock held. The closure of `update`, `update_with`, `try_update`, `read` or
-/// `remove_where` runs under the lock too, and what it makes is dropped there where it cannot be stored; so does that
-/// of `retain`, once more for each pair that fails.
+/// They must not call the map: the thread would wait for itself. A value that is replaced or removed is handed out, and
+/// dropped by whoever has it last; what `clear` removes is dropped once all locks are free; the closures of
+/// `get_or_else_update` and `try_get_or_else_update` run with no lock held. The closure of `update`, `update_with`,
+/// `try_update`, `read` or `remove_where` runs under the lock too, and what it makes is dropped there where it cannot
+/// be stored; so does that of `retain`, once more for each pair that fails.
 ///
 /// # Between two calls
 ///
@@ -171,6 +171,34 @@ impl<K: PathKey + Drop, V: Drop, P: Keeps<K, V>> TrieMap<K, V, P> {
         match self.write(rt, key, path, made, &IfAbsent)?.previous {
             Some(found) => Ok(found),
             None => Ok(answer),
+        }
+    }
+
+    /// What `get_or_else_update` does, where `make` may fail: nothing is put then, and the error of `make` is answered.
+    ///
+    /// It is refused as `put` is: that is the outer error, and the inner one is that of `make`.
+    pub fn try_get_or_else_update<R: Wait, E, F: FnOnce() -> Result<V, E>>(
+        &self,
+        rt: &R,
+        key: K,
+        make: F,
+    ) -> Result<Result<Arc<V>, E>, PutError>
+        requires callable { F.pre make }
+        requires rule { (made : _) → F.post make made → IfOk made (P.holds key) }
+        ensures kept { IfOk result (λ done. IfOk done (λ value. P.holds key value.value)) }
+        ensures failed { IfOk result (λ done. IfErr done (λ error. F.post make (Err error))) }
+    {
+        let path = key.path();
+        let made = match found_or_tried(self.found(rt, &key, path)?, make) {
+            Ok(Origin::Found(found)) => return Ok(Ok(found)),
+            Ok(Origin::Made(made)) => Arc::new(self.alloc, made)?,
+            Err(error) => return Ok(Err(error)),
+        };
+        let answer = Arc::try_clone(&made)?;
+        let key = Arc::new(self.alloc, key)?;
+        match self.write(rt, key, path, made, &IfAbsent)?.previous {
+            Some(found) => Ok(Ok(found)),
+            None => Ok(Ok(answer)),
         }
     }
 

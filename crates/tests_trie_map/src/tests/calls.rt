@@ -195,6 +195,29 @@ fn the_closure_runs_where_the_key_is_absent_alone(rt: HostRuntime) {
     assert_is(&rt, value_or(&rt, &map, 6), Ok((4, 0)));
 }
 
+// What is answered where the key is absent and the closure fails, then where it makes a value, and then where the key is
+// present; and how often the closures ran.
+fn tried<R: Wait>(rt: &R, map: &Map) -> Result<([Result<u64, u32>; 3], u32), PutError> {
+    let mut runs = 0u32;
+    let mut answers = [Err(0), Err(0), Err(0)];
+    for (answer, made) in answers.iter_mut().zip([Err(7), Ok(5), Err(8)]) {
+        let found = map.try_get_or_else_update(rt, key(1, 0), || {
+            runs = runs.wrapping_add(1);
+            made
+        })?;
+        *answer = found.map(|value| *value);
+    }
+    Ok((answers, runs))
+}
+
+#[test]
+fn a_closure_that_fails_puts_nothing(rt: HostRuntime) {
+    let map = empty(&rt);
+    assert_is(&rt, tried(&rt, &map), Ok(([Err(7), Ok(5), Ok(5)], 2)));
+    assert_is(&rt, at(&rt, &map, key(1, 0)), Some(5));
+    assert_is(&rt, map.len(&rt), 1);
+}
+
 // What is answered where the closure puts 7 under the key, and makes 8. It may use the map: no lock is held meanwhile.
 fn put_meanwhile<R: Wait>(rt: &R, map: &Map) -> Result<u64, PutError> {
     let found = map.get_or_else_update(rt, key(1, 0), || {

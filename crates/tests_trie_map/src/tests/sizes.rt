@@ -103,13 +103,15 @@ fn made_of_new<R: Wait>(rt: &R, map: &Map) -> [bool; 5] {
 }
 
 // What calls on a key that is new to the full stripe are answered.
-fn of_new<R: Wait>(rt: &R, map: &Map) -> [bool; 8] {
+fn of_new<R: Wait>(rt: &R, map: &Map) -> [bool; 9] {
     let new = in_first_stripe(MOST_PAIRS_OF_STRIPE);
     [
         map.put(rt, new, 1).is_err_and(|e| e == PutError::Full),
         map.put_if_absent(rt, new, 1)
             .is_err_and(|e| e == PutError::Full),
         map.get_or_else_update(rt, new, || 1)
+            .is_err_and(|e| e == PutError::Full),
+        map.try_get_or_else_update(rt, new, || -> Result<u64, u32> { Ok(1) })
             .is_err_and(|e| e == PutError::Full),
         map.replace(rt, new, 1).is_ok_and(|found| found.is_none()),
         map.replace_if(rt, new, &1, 2).is_ok_and(|done| !done),
@@ -164,7 +166,7 @@ fn made_room<R: Wait>(rt: &R, map: &Map) -> Result<[Option<u64>; 2], PutError> {
 fn a_full_stripe(rt: HostRuntime) {
     let map = empty(&rt);
     assert_is(&rt, fill(&rt, &map), Ok(()));
-    assert_is(&rt, of_new(&rt, &map), [true; 8]);
+    assert_is(&rt, of_new(&rt, &map), [true; 9]);
     assert_is(&rt, of_old(&rt, &map), Ok([5, 5, 6, 6, 1, 8]));
     assert_is(&rt, made_of_new(&rt, &map), [true; 5]);
     assert_is(&rt, made_of_old(&rt, &map), Ok([8, 10, 11]));
