@@ -137,7 +137,7 @@ def printed(lines: list[str]) -> str:
 
 
 def events(verb: str, words: list[str], reply: str, model: Model) -> list[tuple[str, str]]:
-    """What a line that is no getorelse asks of the table and is told, event by event, but for the number of its job."""
+    """What a line that is no getorelse asks of the table and what that returns, event by event, but for the number of its job."""
     line = " ".join([verb, *words])
     if verb == "list":
         return [(f"view {words[0]}", reply)]
