@@ -1,6 +1,8 @@
 //! The integers as keys, in their own order. The path word of one is the FNV-1a hash of its bytes, little-endian; `usize`
 //! and `isize` have eight.
 
+// Each impl is written out: `rt ci` refuses those that a macro of the repository writes.
+
 use crate::{Path, PathKey};
 
 impl PathKey for u8 {
