@@ -25,11 +25,11 @@ pub type ProgramResponse = Response<ByteText, i64, Option<i128>>;
 pub fn push_response(
     alloc: Global,
     out: &mut Vec<u8>,
-    told: &ProgramResponse,
+    response: &ProgramResponse,
 ) -> Result<(), NoMemory>
-    ensures { OnOk result (out.new.items ≡ out.old.items ++ outcome_text (response_outcome told.now)) }
+    ensures { OnOk result (out.new.items ≡ out.old.items ++ outcome_text (response_outcome response.now)) }
 {
-    let done = match told {
+    let done = match response {
         Response::Frozen(job, _) => write!(out, "job {job}"),
         Response::Reply(reply) => push_reply(out, &reply_shown(reply)),
         Response::View(view) => push_reply(out, &LineReply::Pairs(listing_of(alloc, view)?)),
