@@ -77,8 +77,8 @@ fn calls_of<R: Wait>(
     Ok(records)
 }
 
-// Reads all keys so often, and records none of it: a read leaves the map as it is. Where keys were written, the reader
-// has a new base by then.
+// Reads all keys `times` times, and records none of it: a read leaves the map as it is. Where keys were written, the
+// reader has a new base by then.
 fn read_all<R: Wait>(rt: &R, reader: &mut OwnReader<'_>, times: u64) {
     for _ in 0..times {
         for key in ALL_KEYS {

@@ -80,7 +80,7 @@ fn clear<R: AllocGlobal + Wait + Abort>(rt: &R, row: &TestStripes) {
     clear_all(held, empty_maps);
 }
 
-// Reads the absent key so often.
+// Reads the absent key `times` times.
 fn miss<R: Wait>(rt: &R, reader: &mut Reader<'_, u64, u64>, times: u32) {
     for _ in 0..times {
         reader.get_copied(rt, &ABSENT);

@@ -69,7 +69,7 @@ impl Reading {
 /// What a client did.
 #[derive(Clone, Copy)]
 pub enum Did {
-    /// It wrote until so long after the start.
+    /// It wrote until this long after the start.
     Wrote(Duration),
     /// It read.
     Read(Reading),

@@ -21,7 +21,7 @@ const ROUNDS: u64 = 1_000;
 // What the writer adds to the number of reads when it is done.
 const DONE: u64 = 1 << 62;
 
-// Waits until the reader has read so often.
+// Waits until the reader has read `reads` times.
 fn wait_for<R: Wait>(rt: &R, signals: &AtomicU64, reads: u64) {
     for _ in rt.forever() {
         if signals.load(Ordering::SeqCst) >= reads {

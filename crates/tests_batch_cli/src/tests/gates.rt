@@ -160,7 +160,7 @@ pub struct Recorder {
 }
 
 impl Recorder {
-    /// It was asked nothing yet, and may be asked so often.
+    /// It was asked nothing yet, and may be asked `most` times.
     pub fn new(alloc: Global, most: u32) -> Result<Recorder, AllocError> {
         let mut room = Vec::new(alloc);
         for _ in 0..most {

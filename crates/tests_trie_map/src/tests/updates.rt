@@ -94,7 +94,7 @@ fn a_key_is_removed_where_its_value_passes(rt: HostRuntime) {
     assert_is(&rt, map.len(&rt), 1);
 }
 
-// Counts the word once more, so often.
+// Counts the word once more, `TIMES` times.
 fn count<R: Wait>(rt: &R, counts: &Map, word: ChosenKey) -> Result<(), PutError> {
     for _ in 0..TIMES {
         counts.update(rt, word, |old| Some(old.map_or(1, |n| n.saturating_add(1))))?;
