@@ -1,0 +1,5 @@
+pub mod Prefixes
+pub mod Counting
+pub mod Values
+pub mod Turning
+pub mod AllDigits
