@@ -1,0 +1,2 @@
+pub mod Sip
+pub mod Seeded

@@ -1,0 +1,11 @@
+//! Keys for a map whose texts others choose: texts with a path word that nobody can foresee who does not know the seed.
+#![tactic(auto)]
+
+mod seed;
+mod seeded;
+mod sought;
+#[cfg(test)]
+mod tests;
+
+pub use seed::Seed;
+pub use seeded::SeededText;
