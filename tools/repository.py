@@ -1,16 +1,19 @@
 """What the tools of the repository share: its crates, what they stand on, and what each costs the gate."""
 
 import dataclasses
+import importlib.machinery
+import importlib.util
 import os
 import pathlib
 import re
+import subprocess
+import sys
+import types
 
 TOP = pathlib.Path(__file__).resolve().parent.parent
-# The page with the table of times, and the heading that the table stands under.
-TIMES = pathlib.Path("docs/PROOFS.md")
-HEADING = "## Times"
-# A row of that table: a crate, the seconds of its proof and of its tests, how many edits it has, and their seconds.
-ROW = re.compile(r"\| (\w+) \| (\d+) \| (\d*) \| \d* \| (\d*) \|")
+# The table of times. A row has a crate, and the seconds of its proof, of its tests and of its edits.
+TIMES = pathlib.Path("tools/times.tsv")
+ROW = re.compile(r"(\w+)\t(\d+)\t(\d+)\t(\d+)")
 
 
 class Fault(Exception):
@@ -48,14 +51,29 @@ def crates() -> dict[str, list[str]]:
     return crates_of((TOP / "crates.txt").read_text(encoding="utf-8"))
 
 
-def benchmarks() -> list[str]:
-    """The crates that crates.txt lists below its heading of benchmarks. The gate proves none of them."""
+def headed(begin: str) -> list[str]:
+    """The crates that crates.txt lists below headings that begin so."""
     text = (TOP / "crates.txt").read_text(encoding="utf-8")
     parts = re.split(r"^# (.*)$", text, flags=re.MULTILINE)
-    headed = [lines for heading, lines in zip(parts[1::2], parts[2::2]) if heading.startswith("Benchmarks")]
-    if len(headed) != 1:
-        raise Fault("crates.txt is to have one heading '# Benchmarks', and the crates below it")
-    return list(lines_of(headed[0]))
+    found = [lines_of(lines) for heading, lines in zip(parts[1::2], parts[2::2]) if heading.startswith(begin)]
+    if not found:
+        raise Fault(f"crates.txt is to have a heading '# {begin}', and crates below it")
+    return [name for it in found for name in it]
+
+
+def benchmarks() -> list[str]:
+    """The benchmarks, which the gate does not prove: tests/benchmarks runs them."""
+    return headed("Benchmarks")
+
+
+def checked() -> list[str]:
+    """The tests and examples that the gate does not prove: tests/checked compiles them with checks and runs them."""
+    return headed("Run with checks")
+
+
+def unproved() -> list[str]:
+    """All crates that the gate does not prove."""
+    return [*checked(), *benchmarks()]
 
 
 def below(crates: dict[str, list[str]], names: list[str]) -> list[str]:
@@ -88,8 +106,73 @@ def has_tests(name: str) -> bool:
     return any("#[test]" in it.read_text(encoding="utf-8") for it in files)
 
 
+def tests_of(name: str) -> list[str]:
+    """The crates of tests that crates/README.md names as tests of the crate, or that have its name."""
+    page = (TOP / "crates" / "README.md").read_text(encoding="utf-8")
+    rows = re.findall(r"^\| (\w+) \| (.*) \|$", page, re.MULTILINE)
+    found = [f"tests_{name}", *(test for test, of in rows if f"`{name}`" in of)]
+    return [it for it in crates() if it in found and it.startswith("tests_")]
+
+
 def is_program(folder: pathlib.Path) -> bool:
     return (folder / "src" / "main.rt").is_file()
+
+
+def static_libraries() -> list[str]:
+    """The crates that crates.txt lists as static libraries."""
+    lines = lines_of((TOP / "crates.txt").read_text(encoding="utf-8"))
+    return [name for name, it in lines.items() if "staticlib" in it.partition(":")[0].split()]
+
+
+def is_made(name: str) -> bool:
+    """Whether the crate was proved and built before, as far as can be seen without reading its files."""
+    folder = TOP / "crates" / name
+    if is_program(folder):
+        return (folder / "out" / name).is_file()
+    made = f"lib{name}.a" if name in static_libraries() else "rlib/stamp"
+    return (folder / "out" / made).is_file()
+
+
+def tool(path: str) -> types.ModuleType:
+    """A tool as a module: `repository.tool("tests/faults")`, or one of the toolchain by its whole path."""
+    name = pathlib.Path(path).stem
+    if name not in sys.modules:
+        # (where it stands nothing is written)
+        sys.dont_write_bytecode = True
+        loader = importlib.machinery.SourceFileLoader(name, str(TOP / path))
+        sys.modules[name] = importlib.util.module_from_spec(importlib.util.spec_from_loader(name, loader))
+        loader.exec_module(sys.modules[name])
+    return sys.modules[name]
+
+
+def kit() -> pathlib.Path:
+    """The folder of the toolchain."""
+    found = subprocess.run(["rt", "doc"], stdin=subprocess.DEVNULL, capture_output=True, text=True, check=True)
+    return pathlib.Path(found.stdout.strip()).parent
+
+
+def built(names: list[str]) -> list[str]:
+    """Those of these crates that are built here of the files that they have, lowest first. None where that cannot be seen."""
+    try:
+        rtlib = tool(f"{kit()}/bin/rtlib.py")
+        found = [it for it in names if rtlib.Crate(str(TOP / "crates" / it), str(TOP), {}).is_built()]
+    except (Exception, SystemExit):
+        return []
+    return [it for it in found if set(below(crates(), [it])).issubset(found)]
+
+
+def note_built(top: pathlib.Path, names: list[str]) -> None:
+    """Has the toolchain take the libraries that `rt ci` left in a copy of the repository, and prove none of them again.
+
+    `rt ci` leaves them without the stamp by which other commands know a library that fits those below it. Here each was
+    built by one run over the others, or kept by sums of them, so each fits. A library that is missing is proved again.
+    """
+    rtlib = tool(f"{kit()}/bin/rtlib.py")
+    for name in names:
+        crate = rtlib.Crate(str(top / "crates" / name), str(top), {})
+        if pathlib.Path(crate.rlib, "format").is_file():
+            stamp = pathlib.Path(crate.rlib).with_name("stamp")
+            stamp.write_text(crate.stamp(), encoding="utf-8")
 
 
 @dataclasses.dataclass(frozen=True)
@@ -106,14 +189,16 @@ class Cost:
 
 def costs() -> dict[str, Cost]:
     """What each crate costs, by the table of times."""
-    page = TOP / TIMES
-    if not page.is_file():
-        raise Fault(f"there is no page {TIMES}")
-    _, _, text = page.read_text(encoding="utf-8").partition(f"\n{HEADING}\n")
-    rows = [ROW.fullmatch(it) for it in text.splitlines()]
-    found = {row[1]: Cost(int(row[2]), int(row[3] or 0), int(row[4] or 0)) for row in rows if row}
-    if not found:
-        raise Fault(f"{TIMES} has no table of times below the heading '{HEADING}'")
+    file = TOP / TIMES
+    if not file.is_file():
+        raise Fault(f"there is no table {TIMES}")
+    found = {}
+    for number, line in enumerate(file.read_text(encoding="utf-8").splitlines(), 1):
+        row = ROW.fullmatch(line)
+        if row:
+            found[row[1]] = Cost(int(row[2]), int(row[3]), int(row[4]))
+        elif line and not line.startswith("#"):
+            raise Fault(f"{TIMES}:{number} is no row of a crate and three numbers")
     return found
 
 

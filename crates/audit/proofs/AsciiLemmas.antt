@@ -9,7 +9,7 @@ use Rattle.versions.specs.Commands.{old, done, cleared}
 use Rattle.versions.specs.Commands as commands
 use Rattle.versions.specs.declared.refusal.Refusal.{Refusal}
 use Rattle.versions.specs.declared.refusal.Refusal.TheVariants.{NoHandle}
-use Rattle.bulk_ops.specs.Answers as plain
+use Rattle.bulk_work.specs.Answers as plain
 use Rattle.handles.specs.Machine.{open_handle, snapshot, drop_handle, on, view, freeze, finish, abandon}
 use Rattle.handles.specs.Machine.{worker_step, made, replied, viewed, frozen, finished, unfinished, refused, worked}
 use Rattle.arguments.specs.Keys.{IsKey}

@@ -13,7 +13,6 @@ use Rattle.questions.proofs.OneStep.{Settled, settled}
 use Rattle.journal_text.specs.Calls.{outcome_text}
 use Rattle.audit.specs.Answers.{Answers, NoneAnswers, NoneInReply}
 use Rattle.audit.proofs.OneState.{finish_outcome}
-use Rattle.audit.proofs.InOrder.{in_order}
 use Rattle.audit.proofs.JudgedLemmas.{step_of}
 
 abbrev ScriptJob : Type 0
@@ -51,7 +50,7 @@ some_settled s t j job text o there none filed is (inr (clear, g)) =
     let f = finish_outcome s j o t filed g in
     let named : Some f.2.job ≡ Some job = sym f.2.named ∙ there in
     let same : f.2.job ≡ job = cc in
-    none f.2.answer (subst (λ (x : ScriptJob). answers x.query x.frozen f.2.answer) same f.2.is_answer.0) (in_order s t j f.0 f.2) (is ∙ ap outcome_text (f.1 ∙ ap (λ (b : ProgramSummary). finished b) f.2.told))
+    none f.2.answer (subst (λ (x : ScriptJob). answers x.query x.frozen f.2.answer) same f.2.is_answer) (is ∙ ap outcome_text (f.1 ∙ ap (λ (b : ProgramSummary). finished b) f.2.told))
 
 -- where no answer of its query has this reply, no entry of its end has it
 pub untold : (s : ProgramState) (j : ℕ) (job : ScriptJob) (text : List ℕ) → job_at s j ≡ Some job → NoneInReply job.query job.frozen text → NoneAnswers s (finish j) text

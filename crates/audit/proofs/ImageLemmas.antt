@@ -1,37 +1,24 @@
 -- Maps of images that texts tell: the images that were read are put into one answer.
-use Prim.Native.Nat.{zero, suc}
-use Rattle.std.proofs.Common.{◌≡◌, ◌≢◌, ◌<◌, ◌-◌, ◌⊎◌, length, Bool, true, false, ℕ, ◌∙◌, inl, inr, List, [], ◌∷◌, Some, None, refl, sym, ap, subst, arith}
-use Rattle.std.specs.Prelude.{ℤ, cond, AllPairs, Contains, FitsSigned, slice_index_or, T}
+use Rattle.std.proofs.Common.{◌≡◌, ◌-◌, ◌⊎◌, Bool, true, false, ℕ, ◌∙◌, inl, inr, List, [], ◌∷◌, Some, None, refl, sym, ap, subst}
+use Rattle.std.specs.Prelude.{ℤ, cond, Contains, FitsSigned, T}
 use Rattle.std.specs.Int.{w64}
 use Rattle.std.specs.Cmp.{tied_itself}
 use Rattle.std.specs.declared.cmp.Ordering.{Ordering}
 use Rattle.std.specs.declared.cmp.Ordering.TheVariants.{Less, Equal, Greater}
-use Rattle.std.specs.Ordering.{is_eq, is_lt, eq_by_cmp}
+use Rattle.std.specs.Ordering.{is_eq, eq_by_cmp}
 use Rattle.std.specs.FinMap.{is_sorted}
-use Rattle.std.specs.FinMap.Entries.{below_all, is_sorted-put}
+use Rattle.std.specs.FinMap.Entries.{is_sorted-put}
 use Rattle.versions.specs.Map.{IsMap, value_at, with_pair}
 use Rattle.keys.specs.Order.{bytes_cmp}
 use Rattle.trie_shape.specs.Listings.{IsListing}
 use Rattle.script.specs.Replies.{text_of}
 use Rattle.script.specs.declared.reply.LineReply.TheVariants as replies
-use Rattle.bulk_ops.specs.Answers.{IsImage, image}
+use Rattle.bulk_work.specs.Answers.{IsImage, image}
 use Rattle.audit.specs.Images.{WasRead, AreValuesInReply, HasIfRead, HasAllRead, IsPutIfRead}
-use Rattle.audit.proofs.PairLemmas.{ScriptMap, both, is_less, total, antisymmetric, map_behind, value_found, contained}
-use Rattle.audit.proofs.KeyedMaps.{value_put, put_other, put_here, first_of, later_of, which_of, none_of, HasKey, not_below, same_keys, image_keys, same_map}
+use Rattle.audit.proofs.PairLemmas.{ScriptMap, total, antisymmetric, value_found, contained}
+use Rattle.audit.proofs.KeyedMaps.{value_put, put_other, put_here, first_of, later_of, which_of, none_of, HasKey, same_keys, image_keys, same_map}
 
 -- ---- the walk that puts the images that were read
-
-below_at : (k : List ℕ) (m : ScriptMap) (j : ℕ) (d : List ℕ × ℤ) → below_all bytes_cmp k m ≡ true → j < length m → bytes_cmp k (slice_index_or m j d).0 ≡ Less
-below_at k [] j d h lt = absurd (omega arith)
-below_at k (x ∷ m) zero d h lt = is_less (bytes_cmp k x.0) (both (is_lt (bytes_cmp k x.0)) (below_all bytes_cmp k m) h).0
-below_at k (x ∷ m) (suc j) d h lt = below_at k m j d (both (is_lt (bytes_cmp k x.0)) (below_all bytes_cmp k m) h).1 (omega arith)
-
--- keys that rise stand once
-once_of : (m : ScriptMap) → IsMap bytes_cmp m → AllPairs (λ x y. x.0 ≢ y.0) m
-once_of [] h i j d lt l = absurd (omega arith)
-once_of (x ∷ m) h i zero d lt l = absurd (omega arith)
-once_of (x ∷ m) h zero (suc j) d lt l = λ same. not_below x.0 (slice_index_or m j d).0 same (below_at x.0 m j d (both (below_all bytes_cmp x.0 m) (is_sorted bytes_cmp m) h).0 (omega arith))
-once_of (x ∷ m) h (suc i) (suc j) d lt l = once_of m (map_behind x m h) i j d (omega arith) (omega arith)
 
 true_of : (b : Bool) → T b → b ≡ true
 true_of true t = refl
@@ -70,16 +57,16 @@ put_key m k q v h (z, c) = by (eq_by_cmp bytes_cmp q k) refl
     by false is = (z, contained (with_pair bytes_cmp m k v) q z (put_other m q k v is ∙ value_found m (q, z) h c))
 
 -- an image that is put leaves a map of images
-image_put : (f : List ℕ → ℤ → List ℕ × ℤ) (m w : ScriptMap) (x : List ℕ × ℤ) → IsImage f m w → IsMap bytes_cmp w → Contains m x → IsImage f m (with_pair bytes_cmp w (image f x).0 (image f x).1)
+image_put : (f : List ℕ → ℤ → List ℕ × ℤ) (m w : ScriptMap) (x : List ℕ × ℤ) → IsImage bytes_cmp f m w → IsMap bytes_cmp w → Contains m x → IsImage bytes_cmp f m (with_pair bytes_cmp w (image f x).0 (image f x).1)
 image_put f m w x is h c = record {
-  once = once_of (with_pair bytes_cmp w (image f x).0 (image f x).1) (sorted_put w (image f x).0 (image f x).1 h);
+  is_map = sorted_put w (image f x).0 (image f x).1 h;
   from = λ y d. elim (put_pair w (image f x).0 (image f x).1 y h d) as (λ u. (z : List ℕ × ℤ) × Contains m z × (image f z ≡ y)) [ inl e ↦ (x, c, e) | inr there ↦ is.from y there ];
   keys = λ y d. put_key w (image f x).0 (image f y).0 (image f x).1 h (is.keys y d);
 }
 
 -- w is a map of the images of m; of each pair that was passed it has the image, if that was read
 pub record IsWalked (f : List ℕ → ℤ → List ℕ × ℤ) (m told rest w : ScriptMap) : Type 0 where
-  pub image : IsImage f m w
+  pub image : IsImage bytes_cmp f m w
   pub sorted : IsMap bytes_cmp w
   pub left : (x : List ℕ × ℤ) → Contains rest x → Contains m x
   pub passed : (x : List ℕ × ℤ) → Contains m x → Contains rest x ⊎ HasIfRead f told w x
@@ -101,7 +88,7 @@ listed [] x once c = absurd (none_of x c)
 listed (y ∷ xs) x once c = listed_step y x xs once (which_of y x xs c) (λ d. listed xs x once.1 d)
 
 -- a walk lists the pairs of the map
-pub walk_begun : (f : List ℕ → ℤ → List ℕ × ℤ) (m told rest w : ScriptMap) → IsImage f m w → IsMap bytes_cmp w → IsMap bytes_cmp m → IsListing bytes_cmp rest → ((k : List ℕ) → value_at bytes_cmp rest k ≡ value_at bytes_cmp m k) → IsWalked f m told rest w
+pub walk_begun : (f : List ℕ → ℤ → List ℕ × ℤ) (m told rest w : ScriptMap) → IsImage bytes_cmp f m w → IsMap bytes_cmp w → IsMap bytes_cmp m → IsListing bytes_cmp rest → ((k : List ℕ) → value_at bytes_cmp rest k ≡ value_at bytes_cmp m k) → IsWalked f m told rest w
 walk_begun f m told rest w is hw hm once finds = record {
   image = is;
   sorted = hw;
@@ -192,8 +179,8 @@ read_at told (y ∷ n) x read c fits = elim (which_of y x n c) as (λ u. value_a
 ]
 
 -- the text shows no map of images but this one
-pub only_images : (f : List ℕ → ℤ → List ℕ × ℤ) (m some told w n : ScriptMap) (reply : List ℕ) → IsImage f m some → IsMap bytes_cmp some → AreValuesInReply some reply told → HasAllRead f m told w
-    → IsImage f m n → IsMap bytes_cmp n → reply ≡ text_of (replies.Pairs n) → n ≡ w
+pub only_images : (f : List ℕ → ℤ → List ℕ × ℤ) (m some told w n : ScriptMap) (reply : List ℕ) → IsImage bytes_cmp f m some → IsMap bytes_cmp some → AreValuesInReply some reply told → HasAllRead f m told w
+    → IsImage bytes_cmp f m n → IsMap bytes_cmp n → reply ≡ text_of (replies.Pairs n) → n ≡ w
 only_images f m some told w n reply is hs values all image hn e =
     let keys = same_keys n some hn hs (image_keys f m n some image is) (image_keys f m some n is image) in
     let read = values n hn keys e in

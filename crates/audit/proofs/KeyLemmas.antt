@@ -9,8 +9,9 @@ use Rattle.std.specs.Prelude.{ℤ, pos, ◌+ℤ◌, Contains, FitsSigned, Option
 use Rattle.std.specs.Ordering.{nat_cmp}
 use Rattle.versions.specs.Map.{Map, value_at, with_pair, without}
 use Rattle.versions.specs.Commands.{Command, get, put, put_if_absent, replace, replace_if, remove, remove_if, size, clear, after, is_equal}
-use Rattle.bulk_ops.specs.Answers as plain
-use Rattle.bulk_ops.specs.Answers.{IsImage, with_values}
+use Rattle.keys.specs.Order.{bytes_cmp}
+use Rattle.bulk_work.specs.Answers as plain
+use Rattle.bulk_work.specs.Answers.{IsImage, with_values}
 use Rattle.handles.specs.Machine.{Step, Granted, held_by, live_after, open_handle, snapshot, drop_handle}
 use Rattle.handles.specs.Machine.{on, view, freeze, finish, abandon, worker_step, finished, refused}
 use Rattle.journal.specs.Journals.{is_filed}
@@ -103,7 +104,7 @@ each_pair : (n : Map (List ℕ) ℤ) → ((y : List ℕ × ℤ) → Contains n y
 each_pair [] so = tt
 each_pair (y ∷ n) so = let p = so y (0, omega arith, refl) in (p.0, p.1, each_pair n (λ z c. so z (suc c.0, omega (arith, c.1), c.2)))
 
-image_keys : (f : PairMapping) (m n : Map (List ℕ) ℤ) → IsPairMapping f → IsPlainMap m → IsImage (image_of f) m n → IsPlainMap n
+image_keys : (f : PairMapping) (m n : Map (List ℕ) ℤ) → IsPairMapping f → IsPlainMap m → IsImage bytes_cmp (image_of f) m n → IsPlainMap n
 image_keys f m n is all image = each_pair n (λ y c.
     let x = image.from y c in
     let p = contained m x.0 x.1.0 x.1.1 x.1.2 all in
@@ -184,9 +185,9 @@ finish_keys s j o t filed k g =
     let job = f.2.job in
     let answer = f.2.answer in
     let frozen = (each_at nat_cmp Any HasPlainMap s.jobs j job k.jobs f.2.named).3 in
-    let shows : IsAsciiShown f.0 = subst IsAsciiShown (sym f.2.told) (told_key job.query job.frozen answer frozen.1 f.2.is_answer.0 frozen.0) in
+    let shows : IsAsciiShown f.0 = subst IsAsciiShown (sym f.2.told) (told_key job.query job.frozen answer frozen.1 f.2.is_answer frozen.0) in
     keeps o (finished f.0) t _ f.1 f.2.left shows (record {
-      live = after_keys s (program.target job.query) answer k (map_keys job.query job.frozen answer frozen.1 f.2.is_answer.0 frozen.0);
+      live = after_keys s (program.target job.query) answer k (map_keys job.query job.frozen answer frozen.1 f.2.is_answer frozen.0);
       jobs = each_without nat_cmp Any HasPlainMap s.jobs j k.jobs;
     })
 

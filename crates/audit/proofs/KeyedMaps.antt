@@ -16,7 +16,7 @@ use Rattle.versions.specs.Map.{IsMap, value_at, with_pair}
 use Rattle.keys.specs.Order.{bytes_cmp}
 use Rattle.script.specs.Replies.{pair_text}
 use Rattle.script.proofs.ListingLemmas.{inserted}
-use Rattle.bulk_ops.specs.Answers.{IsImage}
+use Rattle.bulk_work.specs.Answers.{IsImage}
 use Rattle.audit.specs.ReplyParts.{IsSpaceless}
 use Rattle.audit.specs.Images.{StartsSpaced, HaveSameKeys}
 use Rattle.audit.proofs.SpaceLemmas.{signed_spaceless}
@@ -114,7 +114,7 @@ same_keys (x ∷ n) (y ∷ w) hn hw there back =
     (same, same_keys n w (map_behind x n hn) (map_behind y w hw) (keys_behind x y n w hn same there) (keys_behind y x w n hw (sym same) back))
 
 -- all maps of the images of one map have the same keys
-pub image_keys : (f : List ℕ → ℤ → List ℕ × ℤ) (m n w : ScriptMap) → IsImage f m n → IsImage f m w → HasKeysOf w n
+pub image_keys : (f : List ℕ → ℤ → List ℕ × ℤ) (m n w : ScriptMap) → IsImage bytes_cmp f m n → IsImage bytes_cmp f m w → HasKeysOf w n
 image_keys f m n w is other x c = let y = is.from x c in subst (λ (z : List ℕ × ℤ). HasKey w z.0) y.2 (other.keys y.0 y.1)
 
 -- a map with the same keys that has each pair of the other is the other

@@ -1,5 +1,4 @@
 pub mod OneState
-pub mod InOrder
 pub mod PairLemmas
 pub mod KeyedMaps
 pub mod ValueLemmas

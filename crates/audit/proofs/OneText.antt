@@ -3,7 +3,7 @@ use Rattle.std.proofs.Common.{◌≡◌, true, ℕ, ◌+◌, ◌∙◌, List, []
 use Rattle.std.specs.Prelude.{ℤ}
 use Rattle.std.specs.Ordering.{nat_cmp}
 use Rattle.versions.specs.Map.{Map, without}
-use Rattle.bulk_ops.specs.Answers as plain
+use Rattle.bulk_work.specs.Answers as plain
 use Rattle.handles.specs.Machine.{Step, Finishes, Job, live_after, finish, worker_step, finished, open_handle, snapshot, drop_handle, on, view, freeze, abandon}
 use Rattle.journal.specs.Journals.{is_filed}
 use Rattle.arguments.specs.Questions.{image_of}
@@ -12,11 +12,9 @@ use Rattle.questions.specs.Queries.{ScriptQuestion, answers, find, paired, targe
 use Rattle.questions.specs.Program.{program, ProgramAnswer, ProgramSummary, ProgramState, ProgramRequest, ProgramOutcome}
 use Rattle.questions.proofs.OneStep.{Settled, settled, refused_in, granted_once, is_the_answer, one_step}
 use Rattle.journal_text.specs.Calls.{IsLawfulRequest, outcome_text}
-use Rattle.questions.specs.Queries.{IsInOrder}
 use Rattle.audit.specs.Runs.{MayBeAsked}
 use Rattle.audit.proofs.AsciiLemmas.{IsPlainMap}
 use Rattle.audit.proofs.KeyedMaps.{AllFit, image_keys, same_keys, same_text}
-use Rattle.audit.proofs.InOrder.{in_order}
 use Rattle.audit.proofs.KeyLemmas.{HasPlainMaps, HasPlainMap, IsAsked, map_keys}
 use Rattle.audit.proofs.MapLemmas.{each_at}
 use Rattle.audit.proofs.OneState.{finish_outcome}
@@ -42,36 +40,36 @@ all_fit [] all = tt
 all_fit (x ∷ n) all = (all.1, all_fit n all.2)
 
 -- maps of images of one map that have one text are one
-same_images : (f : PairMapping) (to : ℕ) (m : Map (List ℕ) ℤ) (a b : ProgramAnswer) → IsAsked (paired f to) → IsPlainMap m → answers (paired f to) m a → answers (paired f to) m b → IsInOrder a → IsInOrder b
+same_images : (f : PairMapping) (to : ℕ) (m : Map (List ℕ) ℤ) (a b : ProgramAnswer) → IsAsked (paired f to) → IsPlainMap m → answers (paired f to) m a → answers (paired f to) m b
     → outcome_text (finished (plain.summary a)) ≡ outcome_text (finished (plain.summary b)) → a ≡ b
-same_images f to m (plain.Answer.images n) (plain.Answer.images k) asked all x y hn hk text =
-    let keys = same_keys n k hn hk (image_keys (image_of f) m n k x y) (image_keys (image_of f) m k n y x) in
+same_images f to m (plain.Answer.images n) (plain.Answer.images k) asked all x y text =
+    let keys = same_keys n k x.is_map y.is_map (image_keys (image_of f) m n k x y) (image_keys (image_of f) m k n y x) in
     let fn = all_fit n (map_keys (paired f to) m (plain.Answer.images n) asked x all) in
     let fk = all_fit k (map_keys (paired f to) m (plain.Answer.images k) asked y all) in
     ap (λ (l : Map (List ℕ) ℤ). plain.Answer.images l) (same_text n k keys fn fk (ap (λ (t : List ℕ). drop 5 t) text))
-same_images f to m (plain.Answer.images n) b asked all x y hn hk text = absurd y
-same_images f to m a b asked all x y hn hk text = absurd x
+same_images f to m (plain.Answer.images n) b asked all x y text = absurd y
+same_images f to m a b asked all x y text = absurd x
 
 -- what a finish leaves
 abbrev finished_in : ProgramState → ℕ → ScriptJob → ProgramAnswer → ProgramState
 finished_in s j job answer = record s { live = live_after program s (target_of job.query) answer; jobs = without nat_cmp s.jobs j; entries = s.entries + 1 }
 
 -- what a finish whose reply has the same text leaves is one: a pair that is found makes no map
-leaves_one : (s : ProgramState) (j : ℕ) (q : ScriptQuestion) (m : Map (List ℕ) ℤ) (a b : ProgramAnswer) → IsAsked q → IsPlainMap m → answers q m a → answers q m b → IsInOrder a → IsInOrder b
+leaves_one : (s : ProgramState) (j : ℕ) (q : ScriptQuestion) (m : Map (List ℕ) ℤ) (a b : ProgramAnswer) → IsAsked q → IsPlainMap m → answers q m a → answers q m b
     → outcome_text (finished (plain.summary a)) ≡ outcome_text (finished (plain.summary b)) → finished_in s j (record { query = q; frozen = m }) a ≡ finished_in s j (record { query = q; frozen = m }) b
-leaves_one s j (find test) m a b asked all x y hn hk text = refl
-leaves_one s j (paired f to) m a b asked all x y hn hk text = ap (finished_in s j (record { query = paired f to; frozen = m })) (same_images f to m a b asked all x y hn hk text)
-leaves_one s j q m a b asked all x y hn hk text = let one = is_the_answer q m a refl x in let other = is_the_answer q m b refl y in ap (finished_in s j (record { query = q; frozen = m })) (one ∙ sym other)
+leaves_one s j (find test) m a b asked all x y text = refl
+leaves_one s j (paired f to) m a b asked all x y text = ap (finished_in s j (record { query = paired f to; frozen = m })) (same_images f to m a b asked all x y text)
+leaves_one s j q m a b asked all x y text = let one = is_the_answer q m a refl x in let other = is_the_answer q m b refl y in ap (finished_in s j (record { query = q; frozen = m })) (one ∙ sym other)
 
 -- an open job whose reply has the same text is finished in one state
 finishes_leave_one : (s t u : ProgramState) (j : ℕ) (b c : ProgramSummary) → HasPlainMaps s → outcome_text (finished b) ≡ outcome_text (finished c) → Finishes program s j b t → Finishes program s j c u → t ≡ u
 finishes_leave_one s t u j b c plains text f k =
     let named : Some f.job ≡ Some k.job = sym f.named ∙ k.named in
     let same : f.job ≡ k.job = cc in
-    let answered : answers f.job.query f.job.frozen k.answer = subst (λ (x : ScriptJob). answers x.query x.frozen k.answer) (sym same) k.is_answer.0 in
+    let answered : answers f.job.query f.job.frozen k.answer = subst (λ (x : ScriptJob). answers x.query x.frozen k.answer) (sym same) k.is_answer in
     let all = (each_at nat_cmp Any HasPlainMap s.jobs j f.job plains.jobs f.named).3 in
     let texts = ap (λ (d : ProgramSummary). outcome_text (finished d)) (sym f.told) ∙ text ∙ ap (λ (d : ProgramSummary). outcome_text (finished d)) k.told in
-    f.left ∙ leaves_one s j f.job.query f.job.frozen f.answer k.answer all.1 all.0 f.is_answer.0 answered (in_order s t j b f) (in_order s u j c k) texts ∙ ap (λ (x : ScriptJob). finished_in s j x k.answer) same ∙ sym k.left
+    f.left ∙ leaves_one s j f.job.query f.job.frozen f.answer k.answer all.1 all.0 f.is_answer answered texts ∙ ap (λ (x : ScriptJob). finished_in s j x k.answer) same ∙ sym k.left
 
 one_finish : (s t u : ProgramState) (j : ℕ) (o p : ProgramOutcome) → HasPlainMaps s → outcome_text o ≡ outcome_text p → is_filed o ≡ true → is_filed p ≡ true → Settled s (finish j) o t → Settled s (finish j) p u → t ≡ u
 one_finish s t u j o p plains text filed too (inl (e, a, b, d)) (inl (f, a', b', d')) =

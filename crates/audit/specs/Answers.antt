@@ -3,13 +3,13 @@ use Rattle.std.specs.Prelude.{◌≡◌, ℕ, ℤ, ◌+◌, Bool, true, false, L
 use Rattle.versions.specs.Map.{Map}
 use Rattle.versions.specs.declared.refusal.Refusal.{Refusal}
 use Rattle.versions.specs.declared.refusal.Refusal.TheVariants.{NoMemory}
-use Rattle.bulk_ops.specs.Answers as plain
+use Rattle.bulk_work.specs.Answers as plain
 use Rattle.handles.specs.Machine.{Step, finished}
 use Rattle.journal.specs.Journals.{is_filed}
 use Rattle.script.specs.Replies.{text_of}
 use Rattle.script.specs.declared.reply.LineReply.{LineReply}
 use Rattle.questions.specs.Program.{program, ProgramState, ProgramRequest, ProgramOutcome, ProgramAnswer, reply_to}
-use Rattle.questions.specs.Queries.{ScriptQuestion, IsInOrder, answers}
+use Rattle.questions.specs.Queries.{ScriptQuestion, answers}
 use Rattle.journal_text.specs.Calls.{outcome_text}
 use Rattle.journal_lines.specs.Lines.{ended}
 use Rattle.journal_text.specs.Entries.{ProgramEntry, IsLawfulEntry, entry_line}
@@ -48,7 +48,7 @@ IsTextOf o text = (is_filed o ≡ true) × (text ≡ outcome_text o)
 
 -- no answer that the question may have has this text
 abbrev pub NoneInReply : ScriptQuestion → Map (List ℕ) ℤ → List ℕ → Type 0
-NoneInReply q m reply = (a : ProgramAnswer) → answers q m a → IsInOrder a → reply ≡ outcome_text (finished (plain.summary a)) → ⊥
+NoneInReply q m reply = (a : ProgramAnswer) → answers q m a → reply ≡ outcome_text (finished (plain.summary a)) → ⊥
 
 -- the reply is there, and has this text
 abbrev pub IsShownAs : Option LineReply → List ℕ → Type 0

@@ -6,7 +6,7 @@ use Rattle.versions.specs.Map.{Map, IsMap, value_at, with_pair}
 use Rattle.keys.specs.Order.{bytes_cmp}
 use Rattle.script.specs.Replies.{text_of}
 use Rattle.script.specs.declared.reply.LineReply.TheVariants as replies
-use Rattle.bulk_ops.specs.Answers.{IsImage, image}
+use Rattle.bulk_work.specs.Answers.{IsImage, image}
 use Rattle.audit.specs.ReplyParts.{IsSpaceless}
 
 -- a space stands first, if anything does
@@ -47,7 +47,7 @@ HasIfRead f seen w x = FitsSigned w64 (image f x).1 × (value_at bytes_cmp seen 
 
 -- w is a map of the images of m, and has each image that was read
 pub record HasAllRead (f : List ℕ → ℤ → List ℕ × ℤ) (m seen w : Map (List ℕ) ℤ) : Type 0 where
-  pub image : IsImage f m w
+  pub image : IsImage bytes_cmp f m w
   pub sorted : IsMap bytes_cmp w
   pub read : (x : List ℕ × ℤ) → Contains m x → HasIfRead f seen w x
 

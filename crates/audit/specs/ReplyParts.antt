@@ -2,7 +2,7 @@
 use Rattle.std.specs.Prelude.{◌≡◌, ◌≢◌, ℕ, ℤ, true, false, List, [], ◌∷◌, ◌++◌, Some, codes}
 use Rattle.versions.specs.Map.{Map, IsMap, value_at}
 use Rattle.keys.specs.Order.{bytes_cmp}
-use Rattle.bulk_ops.specs.Answers as plain
+use Rattle.bulk_work.specs.Answers as plain
 use Rattle.bulk_ops.specs.Queries.{answer_of}
 use Rattle.bulk_ops.specs.declared.part.Part.{Part}
 use Rattle.arguments.specs.Questions.{passes}
@@ -12,12 +12,12 @@ use Rattle.arguments.specs.declared.passing.Test.{Test}
 use Rattle.script.specs.declared.reply.LineReply.TheVariants as replies
 use Rattle.questions.specs.Folds.{Item}
 use Rattle.questions.specs.Program.{ProgramAnswer}
-use Rattle.questions.specs.Queries.{ScriptQuestion, IsInOrder, IsLoose, answers}
+use Rattle.questions.specs.Queries.{ScriptQuestion, IsLoose, answers}
 use Rattle.journal_text.specs.Calls.{outcome_text}
 
 -- each answer of the question for the map that has this text has the summary of the part's answer
 abbrev pub IsOnlyInReply : ScriptQuestion → Map (List ℕ) ℤ → List ℕ → Part (List ℕ) ℤ Item → Type 0
-IsOnlyInReply q m reply part = (a : ProgramAnswer) → answers q m a → IsInOrder a → reply ≡ outcome_text (finished (plain.summary a)) → plain.summary a ≡ plain.summary (answer_of part)
+IsOnlyInReply q m reply part = (a : ProgramAnswer) → answers q m a → reply ≡ outcome_text (finished (plain.summary a)) → plain.summary a ≡ plain.summary (answer_of part)
 
 -- no byte is a space
 abbrev pub IsSpaceless : List ℕ → Type 0

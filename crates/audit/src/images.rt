@@ -7,8 +7,8 @@ ghost use Rattle.keys.specs.Order.{bytes_cmp};
 ghost use Rattle.arguments.specs.Questions.{image_of};
 ghost use Rattle.versions.specs.Map.{IsMap, value_at};
 ghost use Rattle.versions.specs.declared.version.TheConstants.{MOST_PAIRS};
-ghost use Rattle.bulk_ops.specs.Answers as plain;
-ghost use Rattle.bulk_ops.specs.Answers.{IsImage};
+ghost use Rattle.bulk_work.specs.Answers as plain;
+ghost use Rattle.bulk_work.specs.Answers.{IsImage};
 ghost use Rattle.bulk_ops.specs.Queries.{answer_of};
 ghost use Rattle.handles.specs.Machine.{finished};
 ghost use Rattle.questions.specs.Queries.{IsPartFor, paired};
@@ -20,7 +20,8 @@ use crate::judging::is_shown_as;
 use crate::reply_parts::part_of;
 use crate::values::{Values, values_in_reply};
 use arguments::{MapKey, PairMapping};
-use bulk_ops::{Asks, Part};
+use bulk_ops::Part;
+use bulk_work::Asks;
 use iter::pairs;
 use keys::ByteText;
 use questions::{ScriptPart, ScriptQuery, listing_of};
@@ -67,7 +68,7 @@ fn some_images(
     view: &View<ByteText, i64>,
 ) -> Result<Version<ByteText, i64>, NoMemory>
     requires { (to : ℕ) × (query.now ≡ paired _mapping.now to) }
-    ensures image { IfOk result (λ map. IsImage (image_of _mapping.now) view.now map.entries) }
+    ensures image { IfOk result (λ map. IsImage bytes_cmp (image_of _mapping.now) view.now map.entries) }
     ensures sorted { IfOk result (λ map. IsMap bytes_cmp map.entries) }
     ensures limit { IfOk result (λ map. map.limit ≡ MOST_PAIRS) }
     ensures stamp { IfOk result (λ map. map.stamp ≡ 0) }
@@ -93,7 +94,7 @@ pub fn with_read(
     some: Version<ByteText, i64>,
     read: &Values,
 ) -> Result<Version<ByteText, i64>, NoMemory>
-    requires { IsImage (image_of mapping.now) view.now some.entries }
+    requires { IsImage bytes_cmp (image_of mapping.now) view.now some.entries }
     ensures read { IfOk result (λ map. HasAllRead (image_of mapping.now) view.now read.now.entries map.entries) }
     ensures limit { IfOk result (λ map. map.limit ≡ some.limit) }
     ensures stamp { IfOk result (λ map. map.stamp ≡ some.stamp) }

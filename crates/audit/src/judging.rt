@@ -1,4 +1,4 @@
-//! Whether a request is answered so.
+//! Whether a request has this reply.
 
 ghost use Rattle.std.specs.Prelude.{◌≡◌, ◌↔◌, ◌++◌, IfOk, IsTrue, MatchBool, OnOk, codes, false};
 ghost use Rattle.std.specs.Arc.{arc_value};

@@ -14,7 +14,7 @@ pub fn law_of_runs()
     ensures { RunsAreLegal }
 {}
 
-/// The entries of such a journal are lawful, so each has a line: what it asked and was answered is text.
+/// The entries of such a journal are lawful, so each has a line: what it asked and what was returned is text.
 pub fn law_of_entries()
     ensures { EntriesAreLawful }
 {}

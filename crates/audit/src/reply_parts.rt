@@ -1,7 +1,7 @@
 //! Whether a text is the reply of a job.
 
 ghost use Rattle.std.specs.Prelude.{◌≡◌, IfOk, MatchOption, false};
-ghost use Rattle.bulk_ops.specs.Answers as plain;
+ghost use Rattle.bulk_work.specs.Answers as plain;
 ghost use Rattle.bulk_ops.specs.Queries.{answer_of};
 ghost use Rattle.handles.specs.Machine.{finished};
 ghost use Rattle.journal_text.specs.Calls.{outcome_text};
@@ -14,7 +14,7 @@ use crate::images::images_in_reply;
 use crate::judging::is_shown_as;
 use crate::pairs::{key_in_reply, pair_at};
 use arguments::Test;
-use bulk_ops::{Asks, work};
+use bulk_work::{Asks, work};
 use iter::parts_follow_intervals;
 use keys::ByteText;
 use questions::{ScriptPart, ScriptQuery, reply_to_answer};

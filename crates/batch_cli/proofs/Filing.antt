@@ -8,8 +8,8 @@ use Rattle.versions.specs.Map.{Map}
 use Rattle.versions.specs.Commands.{get, put_if_absent, old, done, count, cleared}
 use Rattle.versions.specs.declared.refusal.Refusal.{Refusal}
 use Rattle.versions.specs.declared.refusal.Refusal.TheVariants.{NoHandle, Taken, Full, NoJob, Unfinished, NoWorker, TooManyJobs, JournalFull, NoMemory, BadNumber}
-use Rattle.bulk_ops.specs.Summaries.{summary_of}
-use Rattle.bulk_ops.specs.declared.asks.Answer.{Answer}
+use Rattle.bulk_work.specs.Summaries.{summary_of}
+use Rattle.bulk_work.specs.declared.asks.Answer.{Answer}
 use Rattle.handles.specs.Machine.{finish, freeze, frozen, is_entry, made, on, replied, viewed, finished, refused, unfinished, worked}
 use Rattle.handles.specs.Views.{call_outcome, is_counted, outcome_of}
 use Rattle.handles.specs.declared.call_reply.CallReply.{CallReply}

@@ -4,6 +4,7 @@ ghost use Rattle.std.specs.Prelude.{◌≡◌, ◌≢◌, ◌≤◌, IfOk, strin
 ghost use Rattle.batch_cli.specs.Audits.{TellsVerdict, status_for, verdict_line};
 
 use audit::{Verdict, audit};
+use line_faults::bad_line_in;
 use program_io::{DONE, RunFault, failed};
 use std::alloc::{AllocError, Global};
 use std::io::Write;
@@ -11,8 +12,9 @@ use std::io::Write;
 /// The text is that of no legal journal.
 const BAD: u8 = 3;
 
-/// Writes whether the text is that of a legal journal and of how many entries, or which line spoils it first, and gives
-/// the status: 0 where it is legal, 3 where it is not, and 1 where memory or the output failed.
+/// Writes whether the text is that of a legal journal and of how many entries, or which line spoils it first, and to
+/// `err` what is wrong in that line. It gives the status: 0 where the text is legal, 3 where it is not, and 1 where
+/// memory or the output failed.
 pub fn audited<W: Write, E: Write>(alloc: Global, text: &[u8], out: &mut W, err: &mut E) -> u8
     ensures told { result ≢ 1 → TellsVerdict text.now result (W.contents out.old) (W.contents out.new) }
     ensures other { result ≢ 2 }
@@ -25,8 +27,21 @@ pub fn audited<W: Write, E: Write>(alloc: Global, text: &[u8], out: &mut W, err:
         return failed(err, &RunFault::Memory);
     };
     match out.write_all(line.as_bytes()) {
-        Ok(()) => status_of(verdict),
+        Ok(()) => {
+            explain(alloc, text, verdict, err);
+            status_of(verdict)
+        }
         Err(_) => failed(err, &RunFault::Write),
+    }
+}
+
+/// Writes what is wrong in the first bad line, if there is one.
+fn explain<E: Write>(alloc: Global, text: &[u8], verdict: Verdict, err: &mut E) {
+    let Verdict::Bad(number) = verdict else {
+        return;
+    };
+    if let Ok(bad) = bad_line_in(alloc, text, number) {
+        let _ = writeln!(err, "trierun: line {number}: {bad}");
     }
 }
 

@@ -1,4 +1,4 @@
-//! The events of statements: what a client asks of the map for each, and how that is answered.
+//! The events of statements: what a client asks of the map for each, and what is returned.
 
 ghost use Rattle.std.specs.Prelude.{◌≡◌, IfOk, OnErr, OnOk, Some, false, true};
 ghost use Rattle.std.specs.Arc.{arc_value};
@@ -45,7 +45,7 @@ pub fn answer<J: JournalName, R: Threads + Wait + Sync>(
     }
 }
 
-/// Makes the call, and gives the reply that shows its answer.
+/// Makes the call, and returns the reply that shows what it returned.
 fn served<J: JournalName, R: Wait>(
     rt: &R,
     map: &ProgramMap<J>,

@@ -24,7 +24,7 @@ use std::thread::Threads;
 use task_pool::Crew;
 use versions::MOST_PAIRS;
 
-/// The journal of a run: what each client asked and was answered, in the order in which it was done. A freeze holds
+/// The journal of a run: what each client asked and was returned, in the order in which it was done. A freeze holds
 /// the question of its line.
 pub type Journal = locked_map::Journal<ByteText, i64, ScriptQuery, Option<i128>>;
 

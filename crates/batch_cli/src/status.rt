@@ -13,8 +13,9 @@ use crate::gate::Free;
 use crate::journaling::kept;
 use crate::run::{Journal, run_script};
 use command_line::Options;
+use line_faults::bad_byte_at;
 use program_io::{REFUSED, failed};
-use script::{Script, ScriptFault, parse_script};
+use script::{Reason, Script, ScriptFault, parse_script};
 use std::alloc::Global;
 use std::io::Write;
 use std::sync::Wait;
@@ -25,8 +26,8 @@ use task_pool::Crew;
 const PATIENCE: u32 = 1_000;
 
 /// Runs the script that the text spells, with the crews that the options name; or audits the text as a journal's, if
-/// they ask for that. The replies or the verdict go to `out`, and why it failed goes to `err` as one line, if that takes
-/// it.
+/// they ask for that. The replies or the verdict go to `out`. Why it failed goes to `err` as one line, if that takes it,
+/// and where a byte or a line is bad, what is wrong there as a further one.
 ///
 /// The first part of what it gives is the status of the program: 0 where it is done, 1 where memory or the output
 /// failed, 2 where the script has a fault, of which nothing was run then, and 3 where the text is that of no legal
@@ -89,8 +90,23 @@ fn ran<R: Threads + Wait + Sync, W: Write, E: Write>(
         Err(ScriptFault::Memory) => Err(failed(err, &ScriptFault::Memory)),
         Err(fault) => {
             let _ = writeln!(err, "{fault}");
+            explain(text, &fault, err);
             Err(REFUSED)
         }
+    }
+}
+
+/// Writes which byte of the faulty line is a bad one, where that is the fault.
+fn explain<E: Write>(text: &[u8], fault: &ScriptFault, err: &mut E) {
+    let ScriptFault::Line {
+        number,
+        reason: Reason::BadByte,
+    } = fault
+    else {
+        return;
+    };
+    if let Some(bad) = bad_byte_at(text, *number) {
+        let _ = writeln!(err, "trierun: {bad}");
     }
 }
 

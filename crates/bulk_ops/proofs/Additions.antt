@@ -10,8 +10,9 @@ use Rattle.combiner.specs.Unions.{AreApart}
 use Rattle.combiner.specs.Bulks.{IsAdded}
 use Rattle.combiner.specs.Monoids.{IsAssociative, IsCommutative, IsNeutral, IsClosed, folded}
 use Rattle.bulk_ops.specs.Meanings.{Means, MeansImages}
-use Rattle.bulk_ops.specs.Answers.{Question, count, exists, for_all, find, filtered, mapped, paired, fold, Answer, answers, IsImage, passes, passing, items_of}
-use Rattle.bulk_ops.specs.Parts.{pair_of, IsPut, IsImagePut}
+use Rattle.bulk_work.specs.Answers.{Question, count, exists, for_all, find, filtered, mapped, paired, fold, Answer, answers, IsImage, passes, passing, items_of}
+use Rattle.bulk_work.specs.Pairs.{pair_of}
+use Rattle.bulk_ops.specs.Parts.{IsPut, IsImagePut}
 use Rattle.bulk_ops.specs.Queries.{Asks, PartAnswers}
 use Rattle.bulk_ops.specs.declared.closure.PairFn.{Ghosts}
 use Rattle.bulk_ops.specs.declared.closure.ImageFn.{Ghosts as ImageGhosts}
@@ -21,10 +22,10 @@ use Rattle.bulk_ops.specs.declared.query.Query.{Query}
 use Rattle.bulk_ops.specs.declared.query.Query.TheVariants.{Count, Exists, ForAll, Find, Filter, MapValues, MapPairs, Fold}
 use Rattle.bulk_ops.specs.declared.part.Part.{Part}
 use Rattle.bulk_ops.specs.declared.part.Part.TheVariants as parts
-use Rattle.bulk_ops.proofs.Unions.{truth_of}
+use Rattle.bulk_work.proofs.Unions.{truth_of}
 use Rattle.std.specs.List.{list_any}
 use Rattle.bulk_ops.proofs.Totals.{all_union, any_union, count_union, fold_union, folded_is_item}
-use Rattle.bulk_ops.proofs.Made.{in_left, in_right, passing_union, values_union}
+use Rattle.bulk_work.proofs.Made.{in_left, in_right, passing_union, values_union}
 use Rattle.bulk_ops.proofs.Images.{image_one, image_union}
 
 or_false : (b : Bool) → b ≡ (b || false)
@@ -70,7 +71,7 @@ module _ {K V P : Type 0} {h : ImageGhosts P K V} (k : K) (v : V) where
 module _ {K V : Type 0} (R : K → K → Ordering) (o : IsTotalOrder R) (k : K) (v : V) where
   -- what was found in a map is found with a pair that does not pass
   kept_found : (I : Type 0) (p : K → V → Bool) (m : Map K V) (x : Option (K × V)) → false ≡ p k v → AreApart R ((k, v) ∷ []) m
-      → answers {I = I} (find p) m (Answer.found x) → answers {I = I} (find p) (with_pair R m k v) (Answer.found x)
+      → answers {I = I} R (find p) m (Answer.found x) → answers {I = I} R (find p) (with_pair R m k v) (Answer.found x)
   kept_found I p m None misses apart y =
       any_union R o p ((k, v) ∷ []) m (truth_of _ apart.left) apart.apart ∙ (λ i. (sym misses i || false) || list_any (passes p) m) ∙ y
   kept_found I p m (Some x) misses apart y = (in_right R o ((k, v) ∷ []) m x (truth_of _ apart.left) apart.apart y.0, y.1)
@@ -91,19 +92,19 @@ module _ {K V : Type 0} (R : K → K → Ordering) (o : IsTotalOrder R) (k : K) 
         ∙ assoc (p k v) unit rest
         ∙ ap (op (p k v)) (comm unit rest ∙ neutral rest item)
 
-module _ {K V C D M E P I : Type 0} {t : Ghosts C K V Bool} {f : Ghosts D K V V} {g : Ghosts E K V I} {h : ImageGhosts P K V} (combine : M → I → I → I) (unit_of : M → I) where
+module _ {K V C D M E P I : Type 0} {t : Ghosts C K V Bool} {f : Ghosts D K V V} {g : Ghosts E K V I} {h : ImageGhosts P K V} (combine : M → I → I → I) (unit_of : M → I) (R : K → K → Ordering) where
   abbrev Answered : Query K V C D M E P I t f g h → Map K V → Part K V I → Type 0
-  Answered q m part = PartAnswers combine unit_of q m part
+  Answered q m part = PartAnswers combine unit_of R q m part
 
   abbrev Asked : Query K V C D M E P I t f g h → Question K V I → Type 0
   Asked q z = Asks combine unit_of q z
 
-  module _ (R : K → K → Ordering) (o : IsTotalOrder R) (k : K) (v : V) where
+  module _ (o : IsTotalOrder R) (k : K) (v : V) where
     abbrev Added : Query K V C D M E P I t f g h → Part K V I → Part K V I → Type 0
-    Added q a c = IsAdded R (λ m part. PartAnswers combine unit_of q m part) a k v c
+    Added q a c = IsAdded R (λ m part. PartAnswers combine unit_of R q m part) a k v c
 
     count_with : (s : Stored K V Bool C t) (b : Bool) (j : ℕ) (m : Map K V) → Says k v s b → Answered (Count s) m (parts.Number j) → AreApart R ((k, v) ∷ []) m
-        → (z : Question K V I) → Asked (Count s) z → answers z (with_pair R m k v) (Answer.number (cond b 1 0 + j))
+        → (z : Question K V I) → Asked (Count s) z → answers R z (with_pair R m k v) (Answer.number (cond b 1 0 + j))
     count_with s b j m says y apart (count p) asks =
         (λ i. cond (says p asks i) 1 0 + y.answer (count p) asks i)
         ∙ (λ i. one_passes {A = K × V} (k, v) (p k v) i + length (passing p m))
@@ -115,10 +116,10 @@ module _ {K V C D M E P I : Type 0} {t : Ghosts C K V Bool} {f : Ghosts D K V V}
     count_added q s b a i j is says e second m y apart =
         let was : Answered (Count s) m (parts.Number j) = subst (λ a. Answered (Count s) m a) second (subst (λ q. Answered q m a) is y) in
         subst (λ q. Answered q (with_pair R m k v) (parts.Number (i + j))) (sym is)
-        (record { kind = tt; answer = λ z asks. subst (λ n. answers z (with_pair R m k v) (Answer.number (n + j))) (sym e) (count_with s b j m says was apart z asks) })
+        (record { kind = tt; answer = λ z asks. subst (λ n. answers R z (with_pair R m k v) (Answer.number (n + j))) (sym e) (count_with s b j m says was apart z asks) })
 
     exists_with : (s : Stored K V Bool C t) (i j : Bool) (m : Map K V) → Says k v s i → Answered (Exists s) m (parts.Truth j) → AreApart R ((k, v) ∷ []) m
-        → (z : Question K V I) → Asked (Exists s) z → answers z (with_pair R m k v) (Answer.truth (i || j))
+        → (z : Question K V I) → Asked (Exists s) z → answers R z (with_pair R m k v) (Answer.truth (i || j))
     exists_with s i j m says y apart (exists p) asks =
         (λ d. or_false (says p asks d) d || y.answer (exists p) asks d) ∙ sym (any_union R o p ((k, v) ∷ []) m (truth_of _ apart.left) apart.apart)
     exists_with s i j m says y apart z asks = absurd asks
@@ -128,10 +129,10 @@ module _ {K V C D M E P I : Type 0} {t : Ghosts C K V Bool} {f : Ghosts D K V V}
     exists_added q s i j r a is says second e m y apart =
         let was : Answered (Exists s) m (parts.Truth j) = subst (λ a. Answered (Exists s) m a) second (subst (λ q. Answered q m a) is y) in
         subst (λ q. Answered q (with_pair R m k v) (parts.Truth r)) (sym is)
-        (record { kind = tt; answer = λ z asks. subst (λ b. answers z (with_pair R m k v) (Answer.truth b)) (sym e) (exists_with s i j m says was apart z asks) })
+        (record { kind = tt; answer = λ z asks. subst (λ b. answers R z (with_pair R m k v) (Answer.truth b)) (sym e) (exists_with s i j m says was apart z asks) })
 
     for_all_with : (s : Stored K V Bool C t) (i j : Bool) (m : Map K V) → Says k v s i → Answered (ForAll s) m (parts.Truth j) → AreApart R ((k, v) ∷ []) m
-        → (z : Question K V I) → Asked (ForAll s) z → answers z (with_pair R m k v) (Answer.truth (i && j))
+        → (z : Question K V I) → Asked (ForAll s) z → answers R z (with_pair R m k v) (Answer.truth (i && j))
     for_all_with s i j m says y apart (for_all p) asks =
         (λ d. and_true (says p asks d) d && y.answer (for_all p) asks d) ∙ sym (all_union R o p ((k, v) ∷ []) m (truth_of _ apart.left) apart.apart)
     for_all_with s i j m says y apart z asks = absurd asks
@@ -141,10 +142,10 @@ module _ {K V C D M E P I : Type 0} {t : Ghosts C K V Bool} {f : Ghosts D K V V}
     for_all_added q s i j r a is says second e m y apart =
         let was : Answered (ForAll s) m (parts.Truth j) = subst (λ a. Answered (ForAll s) m a) second (subst (λ q. Answered q m a) is y) in
         subst (λ q. Answered q (with_pair R m k v) (parts.Truth r)) (sym is)
-        (record { kind = tt; answer = λ z asks. subst (λ b. answers z (with_pair R m k v) (Answer.truth b)) (sym e) (for_all_with s i j m says was apart z asks) })
+        (record { kind = tt; answer = λ z asks. subst (λ b. answers R z (with_pair R m k v) (Answer.truth b)) (sym e) (for_all_with s i j m says was apart z asks) })
 
     find_hit : (s : Stored K V Bool C t) (x : _) (a : Part K V I) (m : Map K V) → pair_of x ≡ (k, v) → Says k v s true → Answered (Find s) m a → AreApart R ((k, v) ∷ []) m
-        → (z : Question K V I) → Asked (Find s) z → answers z (with_pair R m k v) (Answer.found (Some (pair_of x)))
+        → (z : Question K V I) → Asked (Find s) z → answers R z (with_pair R m k v) (Answer.found (Some (pair_of x)))
     find_hit s x a m is says y apart (find p) asks =
         (in_left R o ((k, v) ∷ []) m (pair_of x) (truth_of _ apart.left) apart.apart (zero, omega arith, sym is), ap (passes p) is ∙ sym (says p asks))
     find_hit s x a m is says y apart z asks = absurd asks
@@ -157,7 +158,7 @@ module _ {K V C D M E P I : Type 0} {t : Ghosts C K V Bool} {f : Ghosts D K V V}
         (record { kind = tt; answer = find_hit s x a m same (λ p means. sym e ∙ says p means) (subst (λ q. Answered q m a) is y) apart })
 
     find_miss : (s : Stored K V Bool C t) (x : Option _) (m : Map K V) → Answered (Find s) m (parts.Found x) → Says k v s false → AreApart R ((k, v) ∷ []) m
-        → (z : Question K V I) → Asked (Find s) z → answers z (with_pair R m k v) (Answer.found (option_map pair_of x))
+        → (z : Question K V I) → Asked (Find s) z → answers R z (with_pair R m k v) (Answer.found (option_map pair_of x))
     find_miss s x m y says apart (find p) asks = kept_found R o k v I p m (option_map pair_of x) (says p asks) apart (y.answer (find p) asks)
     find_miss s x m y says apart z asks = absurd asks
 
@@ -171,7 +172,7 @@ module _ {K V C D M E P I : Type 0} {t : Ghosts C K V Bool} {f : Ghosts D K V V}
         subst (λ q. Answered q (with_pair R m k v) a) (sym is) (find_kept s a m (λ p means. sym e ∙ says p means) (subst (λ q. Answered q m a) is y) apart)
 
     filter_with : (s : Stored K V Bool C t) (to : ℕ) (b : Bool) (v' w : Contents K V) (m : Map K V) → Says k v s b → w.entries ≡ union R (cond b ((k, v) ∷ []) []) v'.entries
-        → Answered (Filter s to) m (parts.Made v') → AreApart R ((k, v) ∷ []) m → (z : Question K V I) → Asked (Filter s to) z → answers z (with_pair R m k v) (Answer.made w.entries)
+        → Answered (Filter s to) m (parts.Made v') → AreApart R ((k, v) ∷ []) m → (z : Question K V I) → Asked (Filter s to) z → answers R z (with_pair R m k v) (Answer.made w.entries)
     filter_with s to b v' w m says e y apart (filtered p h) asks =
         e ∙ (λ i. union R (cond b ((k, v) ∷ []) []) (y.answer (filtered p h) asks i)) ∙ sym (passing_with R o k v p b m (says p asks.0) apart)
     filter_with s to b v' w m says e y apart z asks = absurd asks
@@ -198,7 +199,7 @@ module _ {K V C D M E P I : Type 0} {t : Ghosts C K V Bool} {f : Ghosts D K V V}
         subst (λ q. Answered q (with_pair R m k v) a) (sym is) (filter_kept s to a m (λ p means. sym e ∙ says p means) (subst (λ q. Answered q m a) is y) apart)
 
     values_with : (s : Stored K V V D f) (to : ℕ) (r : V) (v' w : Contents K V) (m : Map K V) → Says k v s r → w.entries ≡ with_pair R v'.entries k r
-        → Answered (MapValues s to) m (parts.Made v') → AreApart R ((k, v) ∷ []) m → (z : Question K V I) → Asked (MapValues s to) z → answers z (with_pair R m k v) (Answer.made w.entries)
+        → Answered (MapValues s to) m (parts.Made v') → AreApart R ((k, v) ∷ []) m → (z : Question K V I) → Asked (MapValues s to) z → answers R z (with_pair R m k v) (Answer.made w.entries)
     values_with s to r v' w m says e y apart (mapped p h) asks =
         e ∙ (λ i. with_pair R (y.answer (mapped p h) asks i) k (says p asks.0 i)) ∙ sym (values_union R o p ((k, v) ∷ []) m (truth_of _ apart.left) apart.apart)
     values_with s to r v' w m says e y apart z asks = absurd asks
@@ -215,11 +216,11 @@ module _ {K V C D M E P I : Type 0} {t : Ghosts C K V Bool} {f : Ghosts D K V V}
         subst (λ q. Answered q (with_pair R m k v) c) (sym is) (values_made s to r a c m says put (subst (λ q. Answered q m a) is y) apart)
 
     pairs_with : (exact : IsAntisymmetric R) (s : StoredPairs K V P h) (to : ℕ) (r : K × V) (v' : Contents K V) (w' z' : Map K V) (m : Map K V) → IsImageOf k v s r → z' ≡ with_pair R v'.entries r.0 r.1 → IsMap R z'
-        → Answered (MapPairs s to) m (parts.Images v' w') → AreApart R ((k, v) ∷ []) m → (z : Question K V I) → Asked (MapPairs s to) z → answers z (with_pair R m k v) (Answer.images z')
+        → Answered (MapPairs s to) m (parts.Images v' w') → AreApart R ((k, v) ∷ []) m → (z : Question K V I) → Asked (MapPairs s to) z → answers R z (with_pair R m k v) (Answer.images z')
     pairs_with exact s to r v' w' z' m says e sorted y apart (paired p n) asks =
-        let was : IsImage p m v'.entries = subst (λ n. IsImage p m n) (sym y.kind.2) (y.answer (paired p n) asks) in
-        subst (λ es. answers {I = I} (paired p n) (with_pair R m k v) (Answer.images es)) (sym e)
-        (image_union R exact o p ((k, v) ∷ []) m (r ∷ []) v'.entries apart (truth_of _ (subst (IsMap R) e sorted)) (image_one p k v r (says p asks.0)) was)
+        let was : IsImage R p m v'.entries = subst (λ n. IsImage R p m n) (sym y.kind.2) (y.answer (paired p n) asks) in
+        subst (λ es. answers {I = I} R (paired p n) (with_pair R m k v) (Answer.images es)) (sym e)
+        (image_union R exact o p ((k, v) ∷ []) m (r ∷ []) v'.entries apart (subst (IsMap R) e sorted) (image_one R p k v r (says p asks.0)) was)
     pairs_with exact s to r v' w' z' m says e sorted y apart z asks = absurd asks
 
     pairs_made : (exact : IsAntisymmetric R) (s : StoredPairs K V P h) (to : ℕ) (r : K × V) (a c : Part K V I) (m : Map K V) → IsImageOf k v s r → IsImagePut R a r.0 r.1 c
@@ -237,7 +238,7 @@ module _ {K V C D M E P I : Type 0} {t : Ghosts C K V Bool} {f : Ghosts D K V V}
     module _ (is_item : M → I → Type 0) (assoc : (m : M) → IsAssociative (combine m)) (comm : (m : M) → IsCommutative (combine m))
         (neutral : (m : M) → IsNeutral (combine m) (is_item m) (unit_of m)) (closed : (m : M) → IsClosed (combine m) (is_item m)) (unit_is : (m : M) → is_item m (unit_of m)) where
       fold_one : (w : M) (s : Stored K V I E g) (i a : I) (m : Map K V) → Says k v s i → Answered (Fold w s) m (parts.Item a) → AreApart R ((k, v) ∷ []) m
-          → (z : Question K V I) → Asked (Fold w s) z → answers z (with_pair R m k v) (Answer.item (combine w i a))
+          → (z : Question K V I) → Asked (Fold w s) z → answers R z (with_pair R m k v) (Answer.item (combine w i a))
       fold_one w s i a m says y apart (fold op unit p) asks =
           let same : folded op unit ≡ folded (combine w) (unit_of w) = λ i. folded (asks.0 i) (asks.1 i) in
           let was = y.answer (fold op unit p) asks ∙ (λ i. same i (items_of p m)) in
@@ -249,4 +250,4 @@ module _ {K V C D M E P I : Type 0} {t : Ghosts C K V Bool} {f : Ghosts D K V V}
       fold_added q w s i j r a is says second e m y apart =
           let was : Answered (Fold w s) m (parts.Item j) = subst (λ a. Answered (Fold w s) m a) second (subst (λ q. Answered q m a) is y) in
           subst (λ q. Answered q (with_pair R m k v) (parts.Item r)) (sym is)
-          (record { kind = tt; answer = λ z asks. subst (λ r. answers z (with_pair R m k v) (Answer.item r)) (sym e) (fold_one w s i j m says was apart z asks) })
+          (record { kind = tt; answer = λ z asks. subst (λ r. answers R z (with_pair R m k v) (Answer.item r)) (sym e) (fold_one w s i j m says was apart z asks) })

@@ -10,11 +10,11 @@ use Rattle.std.specs.Ordering.{is_lt}
 use Rattle.std.specs.Cmp.{IsTotalOrder, tied_itself}
 use Rattle.std.specs.FinMap.{is_sorted}
 use Rattle.std.specs.FinMap.Entries.{by_order, below_all}
-use Rattle.versions.specs.Map.{Map, IsAntisymmetric, with_pair, union}
+use Rattle.versions.specs.Map.{Map, IsAntisymmetric, IsMap, with_pair, union}
 use Rattle.combiner.specs.Unions.{AreApart}
-use Rattle.bulk_ops.specs.Answers.{IsImage, image}
-use Rattle.bulk_ops.proofs.Unions.{left_of, right_of, less_of, truth_of}
-use Rattle.bulk_ops.proofs.Made.{in_left, in_right}
+use Rattle.bulk_work.specs.Answers.{IsImage, image}
+use Rattle.bulk_work.proofs.Unions.{left_of, right_of, less_of, truth_of}
+use Rattle.bulk_work.proofs.Made.{in_left, in_right}
 
 module _ {A : Type 0} where
   pub first : (x : A) (xs : List A) → Contains (x ∷ xs) x
@@ -43,11 +43,6 @@ module _ {A B C : Type 0} (key : A → C) (g : B → C) where
       in
       omega (arith, length-remove ys k w.1.1, few xs (remove ys k) (λ i j d lt l. once (suc i) (suc j) d (omega arith) (omega arith)) others)
 
--- a map has no more images than pairs
-pub images_le : {K V : Type 0} (f : K → V → K × V) (m n : Map K V) → IsImage f m n → length n ≤ length m
-images_le f m n x =
-    few (λ y. y.0) (λ y. (image f y).0) n m x.once (λ y c. let w = x.from y c in (w.0, w.1, ap (λ z. z.0) w.2))
-
 -- a map has a key
 abbrev pub HasKey : {K V : Type 0} → Map K V → K → Type 0
 HasKey {K} {V} m k = (v : V) × Contains m (k, v)
@@ -71,6 +66,11 @@ module _ {K V : Type 0} (R : K → K → Ordering) (o : IsTotalOrder R) where
   once_of_sorted (x ∷ m) h zero (suc j) d lt l =
       λ same. not_equal (sym (below_at x.0 m j d (left_of _ _ h) (omega arith)) ∙ ap (R x.0) (sym same) ∙ tied_itself o x.0)
   once_of_sorted (x ∷ m) h (suc i) (suc j) d lt l = once_of_sorted m (right_of _ _ h) i j d (omega arith) (omega arith)
+
+  -- a map has no more images than pairs
+  pub images_le : (f : K → V → K × V) (m n : Map K V) → IsImage R f m n → length n ≤ length m
+  images_le f m n x =
+      few (λ y. y.0) (λ y. (image f y).0) n m (once_of_sorted n (truth_of _ x.is_map)) (λ y c. let w = x.from y c in (w.0, w.1, ap (λ z. z.0) w.2))
 
 module _ {K V : Type 0} (R : K → K → Ordering) (exact : IsAntisymmetric R) where
   there_step : (c : Ordering) (k : K) (v : V) (x : K × V) (r : Map K V) → R k x.0 ≡ c → Contains (with_pair R r k v) (k, v)
@@ -146,9 +146,9 @@ module _ {K V : Type 0} (R : K → K → Ordering) (exact : IsAntisymmetric R) w
 
   module _ (o : IsTotalOrder R) (f : K → V → K × V) where
     -- the maps of the images of two maps that are apart, put together, are one of their union, whatever keys the images share
-    pub image_union : (m n a b : Map K V) → AreApart R m n → T (is_sorted R (union R a b)) → IsImage f m a → IsImage f n b → IsImage f (union R m n) (union R a b)
+    pub image_union : (m n a b : Map K V) → AreApart R m n → IsMap R (union R a b) → IsImage R f m a → IsImage R f n b → IsImage R f (union R m n) (union R a b)
     image_union m n a b apart sorted x y = record {
-      once = once_of_sorted R o (union R a b) sorted;
+      is_map = sorted;
       from = λ z c. elim (union_from a b z c) as (λ u. (w : K × V) × Contains (union R m n) w × (image f w ≡ z)) [
         | inl l ↦ let w = x.from z l in (w.0, in_left R o m n w.0 (truth_of _ apart.left) apart.apart w.1, w.2)
         | inr r ↦ let w = y.from z r in (w.0, in_right R o m n w.0 (truth_of _ apart.left) apart.apart w.1, w.2)
@@ -160,9 +160,9 @@ module _ {K V : Type 0} (R : K → K → Ordering) (exact : IsAntisymmetric R) w
     }
 
 -- no pairs have no images
-pub image_none : {K V : Type 0} (f : K → V → K × V) → IsImage f [] []
-image_none f = record {
-  once = λ i j d lt l. absurd (omega arith);
+pub image_none : {K V : Type 0} (R : K → K → Ordering) (f : K → V → K × V) → IsImage R f [] []
+image_none R f = record {
+  is_map = refl;
   from = λ z c. absurd (omega (arith, c.1));
   keys = λ z c. absurd (omega (arith, c.1));
 }
@@ -171,9 +171,9 @@ none_among : {A : Type 0} (y : A) → Contains [] y → ⊥
 none_among y c = omega (arith, c.1)
 
 -- one pair has one image
-pub image_one : {K V : Type 0} (f : K → V → K × V) (k : K) (v : V) (r : K × V) → r ≡ f k v → IsImage f ((k, v) ∷ []) (r ∷ [])
-image_one f k v r is = record {
-  once = λ i j d lt l. absurd (omega arith);
+pub image_one : {K V : Type 0} (R : K → K → Ordering) (f : K → V → K × V) (k : K) (v : V) (r : K × V) → r ≡ f k v → IsImage R f ((k, v) ∷ []) (r ∷ [])
+image_one R f k v r is = record {
+  is_map = refl;
   from = λ z c. ((k, v), first (k, v) [], elim (which r z [] c) as (λ u. f k v ≡ z) [ inl e ↦ sym is ∙ e | inr d ↦ absurd (none_among z d) ]);
   keys = λ z c. elim (which (k, v) z [] c) as (λ u. HasKey (r ∷ []) (image f z).0) [
     | inl e ↦ (r.1, (0, omega arith, λ i. (((is ∙ ap (image f) e) i).0, r.1)))

@@ -4,14 +4,15 @@ use Rattle.std.specs.Prelude.{option_map}
 use Rattle.std.specs.declared.sync.Arc.{Arc}
 use Rattle.std.specs.declared.alloc.Global.{Global}
 use Rattle.std.proofs.Math.Logic.{∥∥₁_elim}
+use Rattle.std.specs.declared.cmp.Ordering.{Ordering}
 use Rattle.versions.specs.Map.{Map}
 use Rattle.combiner.specs.Monoids.{IsAssociative, IsCommutative, IsNeutral, IsClosed}
-use Rattle.bulk_ops.specs.Answers as plain
-use Rattle.bulk_ops.specs.Answers.{fold, items_of, summary}
-use Rattle.bulk_ops.specs.Parts.{pair_of}
+use Rattle.bulk_work.specs.Answers as plain
+use Rattle.bulk_work.specs.Answers.{fold, items_of, summary}
+use Rattle.bulk_work.specs.Pairs.{pair_of}
 use Rattle.bulk_ops.specs.Queries.{PartAnswers, answer_of}
-use Rattle.bulk_ops.specs.Summaries.{summary_of}
-use Rattle.bulk_ops.specs.declared.asks.Answer.TheVariants as tells
+use Rattle.bulk_work.specs.Summaries.{summary_of}
+use Rattle.bulk_work.specs.declared.asks.Answer.TheVariants as tells
 use Rattle.bulk_ops.specs.declared.closure.PairFn.{Ghosts}
 use Rattle.bulk_ops.specs.declared.closure.ImageFn.{Ghosts as ImageGhosts}
 use Rattle.bulk_ops.specs.declared.stored.Stored.{Stored}
@@ -26,9 +27,9 @@ pub pair_told : {K V I : Type 0} (part : Part K V I) (x y : Option (Arc K Global
     → summary_of {I = I} (tells.Found x) ≡ summary (answer_of part)
 pair_told part x y is same = (λ i. plain.Summary.found (same i)) ∙ ap (λ p. summary (answer_of p)) (sym is)
 
-module _ {K V C D M E P I : Type 0} {t : Ghosts C K V Bool} {f : Ghosts D K V V} {g : Ghosts E K V I} {h : ImageGhosts P K V} (combine : M → I → I → I) (unit_of : M → I) where
+module _ {K V C D M E P I : Type 0} {t : Ghosts C K V Bool} {f : Ghosts D K V V} {g : Ghosts E K V I} {h : ImageGhosts P K V} (combine : M → I → I → I) (unit_of : M → I) (R : K → K → Ordering) where
   abbrev Known : Query K V C D M E P I t f g h → Part K V I → Type 0
-  Known q part = ∥ ((m : Map K V) × PartAnswers combine unit_of q m part) ∥₁
+  Known q part = ∥ ((m : Map K V) × PartAnswers combine unit_of R q m part) ∥₁
 
   module _ (is_item : M → I → Type 0) (assoc : (m : M) → IsAssociative (combine m)) (comm : (m : M) → IsCommutative (combine m))
       (neutral : (m : M) → IsNeutral (combine m) (is_item m) (unit_of m)) (closed : (m : M) → IsClosed (combine m) (is_item m)) (unit_is : (m : M) → is_item m (unit_of m)) (set : IsSet I) where

@@ -1,6 +1,4 @@
-pub mod Unions
 pub mod Totals
-pub mod Made
 pub mod Images
 pub mod Joins
 pub mod PartKinds
@@ -8,9 +6,6 @@ pub mod Additions
 pub mod Settled
 pub mod Concluded
 pub mod Lent
-pub mod Works
-pub mod Pieces
 pub mod Imaged
 pub mod Shaped
 pub mod Permutations
-pub mod Whole

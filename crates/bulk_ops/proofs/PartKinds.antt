@@ -1,16 +1,17 @@
 -- What is known of a part that answers some map.
-use Rattle.std.proofs.Common.{◌≡◌, ℕ, ◌+◌, ◌≤◌, ◌<◌, Bool, length, refl, ap, subst, arith, cond, true, false, [], ◌∷◌}
+use Rattle.std.proofs.Common.{◌≡◌, ℕ, ◌+◌, ◌≤◌, ◌<◌, Bool, length, refl, ap, subst, arith, [], ◌∷◌}
 use Rattle.std.proofs.lemmas.List.{length-map}
 use Rattle.std.proofs.Math.Nat.{ℕ_set}
 use Rattle.std.proofs.Math.Logic.{∥∥₁_elim, ∥∥₁_map}
 use Rattle.std.proofs.Math.Bridge.{le_prop}
 use Rattle.std.specs.declared.cmp.Ordering.{Ordering}
+use Rattle.std.specs.Cmp.{IsTotalOrder}
 use Rattle.versions.specs.Map.{Map}
 use Rattle.versions.specs.Contents.{Contents}
 use Rattle.versions.specs.declared.version.TheConstants.{MOST_PAIRS}
 use Rattle.combiner.specs.Unions.{AreApart}
 use Rattle.combiner.specs.Bulks.{Apart, CanAdd, CanJoin, CanJoinMap}
-use Rattle.bulk_ops.specs.Answers.{count, filtered, mapped, paired, passes, passing, with_values}
+use Rattle.bulk_work.specs.Answers.{count, filtered, mapped, paired, with_values}
 use Rattle.bulk_ops.specs.Parts.{HasNumber, HasTruth, HasPair, HasMap, HasImages, HasItem, HasRoom, HasImageRoom}
 use Rattle.bulk_ops.specs.Queries.{IsPartOf, PartAnswers}
 use Rattle.bulk_ops.specs.declared.closure.PairFn.{Ghosts}
@@ -19,6 +20,7 @@ use Rattle.bulk_ops.specs.declared.query.Query.{Query}
 use Rattle.bulk_ops.specs.declared.query.Query.TheVariants.{Count, Exists, ForAll, Find, Filter, MapValues, MapPairs, Fold}
 use Rattle.bulk_ops.specs.declared.part.Part.{Part}
 use Rattle.bulk_ops.specs.declared.part.Part.TheVariants as parts
+use Rattle.bulk_work.proofs.Unions.{passing_le}
 use Rattle.bulk_ops.proofs.Images.{images_le}
 
 unit_prop : (x y : Unit {0}) → x ≡ y
@@ -26,11 +28,6 @@ unit_prop x y = refl
 
 none_prop : (x y : ⊥) → x ≡ y
 none_prop x y = absurd x
-
--- as many pairs pass as there are, or fewer
-pub passing_le : {K V : Type 0} (p : K → V → Bool) (m : Map K V) → length (passing p m) ≤ length m
-passing_le p [] = omega arith
-passing_le p (x ∷ m) = elim (passes p x) as (λ b. length (cond b (x ∷ passing p m) (passing p m)) ≤ length (x ∷ m)) [ true ↦ omega (arith, passing_le p m) | false ↦ omega (arith, passing_le p m) ]
 
 pub values_len : {K V : Type 0} (p : K → V → V) (m : Map K V) → length (with_values p m) ≡ length m
 values_len p m = length-map m (λ x. (x.0, p x.0 x.1))
@@ -68,10 +65,10 @@ module _ {K V I : Type 0} where
   HasImageRoom-prop (parts.Images v w) = λ x y i. (le_prop x.0 y.0 i, ℕ_set _ _ x.1 y.1 i)
   HasImageRoom-prop _ = none_prop
 
-module _ {K V C D M E P I : Type 0} {t : Ghosts C K V Bool} {f : Ghosts D K V V} {g : Ghosts E K V I} {h : ImageGhosts P K V} (combine : M → I → I → I) (unit_of : M → I) where
+module _ {K V C D M E P I : Type 0} {t : Ghosts C K V Bool} {f : Ghosts D K V V} {g : Ghosts E K V I} {h : ImageGhosts P K V} (combine : M → I → I → I) (unit_of : M → I) (R : K → K → Ordering) where
   -- the part answers the map
   abbrev pub Answered : Query K V C D M E P I t f g h → Map K V → Part K V I → Type 0
-  Answered q m part = PartAnswers combine unit_of q m part
+  Answered q m part = PartAnswers combine unit_of R q m part
 
   -- it answers some map
   abbrev pub Known : Query K V C D M E P I t f g h → Part K V I → Type 0
@@ -140,9 +137,9 @@ module _ {K V C D M E P I : Type 0} {t : Ghosts C K V Bool} {f : Ghosts D K V V}
   pub item_of : (q : Query K V C D M E P I t f g h) (w : M) (s : _) (a : Part K V I) → q ≡ Fold w s → Known q a → HasItem a
   item_of q w s a is known = kind q a (HasItem-prop a) (fold_kind q w s a is) known
 
-  module _ (R : K → K → Ordering) where
+  module _ (o : IsTotalOrder R) where
     abbrev Can : Query K V C D M E P I t f g h → Part K V I → Part K V I → Type 0
-    Can q a b = CanJoin R (λ m part. PartAnswers combine unit_of q m part) a b
+    Can q a b = CanJoin R (λ m part. PartAnswers combine unit_of R q m part) a b
 
     -- parts that can be joined answer some maps
     pub first_known : (q : Query K V C D M E P I t f g h) (a b : Part K V I) → Can q a b → Known q a
@@ -178,7 +175,7 @@ module _ {K V C D M E P I : Type 0} {t : Ghosts C K V Bool} {f : Ghosts D K V V}
     pub pairs_few : (q : Query K V C D M E P I t f g h) (s : _) (to : ℕ) (a b : Part K V I) (i j : Contents K V) (y z : Map K V) → q ≡ MapPairs s to → a ≡ parts.Images i y → b ≡ parts.Images j z → Can q a b → length i.entries + length j.entries ≤ MOST_PAIRS
     pairs_few q s to a b i j y z is first second can =
         ∥∥₁_elim (at q (MapPairs s to) a b (parts.Images i y) (parts.Images j z) is first second can) le_prop (λ x. ∥∥₁_elim s.means le_prop (λ w.
-        omega (arith, ap length x.first_is.kind.2, ap length x.second_is.kind.2, images_le w.0 x.first y (x.first_is.answer (paired w.0 to) (w.1, refl)), images_le w.0 x.second z (x.second_is.answer (paired w.0 to) (w.1, refl)), x.apart.few)))
+        omega (arith, ap length x.first_is.kind.2, ap length x.second_is.kind.2, images_le R o w.0 x.first y (x.first_is.answer (paired w.0 to) (w.1, refl)), images_le R o w.0 x.second z (x.second_is.answer (paired w.0 to) (w.1, refl)), x.apart.few)))
 
     pub pairs_limits : (q : Query K V C D M E P I t f g h) (s : _) (to : ℕ) (a b : Part K V I) (i j : Contents K V) (y z : Map K V) → q ≡ MapPairs s to → a ≡ parts.Images i y → b ≡ parts.Images j z → Can q a b → (i.limit ≡ MOST_PAIRS) × (j.limit ≡ MOST_PAIRS)
     pairs_limits q s to a b i j y z is first second can =
@@ -211,7 +208,7 @@ module _ {K V C D M E P I : Type 0} {t : Ghosts C K V Bool} {f : Ghosts D K V V}
 
     module _ (n : Map K V) where
       abbrev CanTakeMap : Query K V C D M E P I t f g h → Part K V I → Type 0
-      CanTakeMap q a = CanJoinMap R (λ m part. PartAnswers combine unit_of q m part) a n
+      CanTakeMap q a = CanJoinMap R (λ m part. PartAnswers combine unit_of R q m part) a n
 
       -- a part that a map can be joined to answers some map
       pub map_known : (q : Query K V C D M E P I t f g h) (a : Part K V I) → CanTakeMap q a → Known q a
@@ -232,12 +229,12 @@ module _ {K V C D M E P I : Type 0} {t : Ghosts C K V Bool} {f : Ghosts D K V V}
           let there : CanTakeMap (MapPairs s to) (parts.Images i y) = subst (λ x. CanTakeMap (MapPairs s to) x) are (subst (λ x. CanTakeMap x a) is can) in (
             ∥∥₁_elim there (λ u v. ℕ_set _ _ u v) (λ x. x.1.kind.0),
             ∥∥₁_elim there (λ u v. ℕ_set _ _ u v) (λ x. x.1.kind.1),
-            ∥∥₁_elim there le_prop (λ x. ∥∥₁_elim s.means le_prop (λ p. omega (arith, ap length x.1.kind.2, images_le p.0 x.0 y (x.1.answer (paired p.0 to) (p.1, refl)), x.2.few))),
+            ∥∥₁_elim there le_prop (λ x. ∥∥₁_elim s.means le_prop (λ p. omega (arith, ap length x.1.kind.2, images_le R o p.0 x.0 y (x.1.answer (paired p.0 to) (p.1, refl)), x.2.few))),
           )
 
     module _ (k : K) (v : V) where
       abbrev CanTake : Query K V C D M E P I t f g h → Part K V I → Type 0
-      CanTake q a = CanAdd R (λ m part. PartAnswers combine unit_of q m part) a k v
+      CanTake q a = CanAdd R (λ m part. PartAnswers combine unit_of R q m part) a k v
 
       -- a part that a pair can be added to answers some map
       pub added_known : (q : Query K V C D M E P I t f g h) (a : Part K V I) → CanTake q a → Known q a
@@ -263,7 +260,7 @@ module _ {K V C D M E P I : Type 0} {t : Ghosts C K V Bool} {f : Ghosts D K V V}
 
       pairs_kind_room : (s : _) (to : ℕ) (a : Part K V I) (m : Map K V) → Answered (MapPairs s to) m a → AreApart R ((k, v) ∷ []) m → HasImageRoom a
       pairs_kind_room s to (parts.Images u w) m x apart =
-          (∥∥₁_elim s.means le_prop (λ p. omega (arith, ap length x.kind.2, images_le p.0 m w (x.answer (paired p.0 to) (p.1, refl)), apart.few)), x.kind.1)
+          (∥∥₁_elim s.means le_prop (λ p. omega (arith, ap length x.kind.2, images_le R o p.0 m w (x.answer (paired p.0 to) (p.1, refl)), apart.few)), x.kind.1)
       pairs_kind_room s to a m x apart = absurd x.kind
 
       -- its map has fewer pairs than it may have

@@ -7,8 +7,8 @@ use Rattle.std.specs.Cmp.{IsTotalOrder}
 use Rattle.std.specs.FinMap.{is_sorted}
 use Rattle.versions.specs.Map.{Map, ShareNoKey, union}
 use Rattle.combiner.specs.Monoids.{IsAssociative, IsCommutative, IsNeutral, IsClosed, folded}
-use Rattle.bulk_ops.specs.Answers.{passes, passing, items_of}
-use Rattle.bulk_ops.proofs.Unions.{union_value}
+use Rattle.bulk_work.specs.Answers.{passes, passing, items_of}
+use Rattle.bulk_work.proofs.Unions.{union_value}
 
 or_between : (a p b : Bool) → (a || (p || b)) ≡ (p || (a || b))
 or_between true true b = refl

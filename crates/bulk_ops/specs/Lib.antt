@@ -1,5 +1,3 @@
 pub mod Meanings
-pub mod Answers
 pub mod Parts
 pub mod Queries
-pub mod Summaries

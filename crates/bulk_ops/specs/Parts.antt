@@ -3,33 +3,31 @@ use Rattle.std.specs.Prelude.{◌≡◌, ◌<◌, length}
 use Rattle.std.specs.declared.cmp.Ordering.{Ordering}
 use Rattle.versions.specs.Map.{IsMap, with_pair}
 use Rattle.versions.specs.declared.version.TheConstants.{MOST_PAIRS}
-use Rattle.std.specs.Arc.{arc_value}
-use Rattle.std.specs.declared.sync.Arc.{Arc}
-use Rattle.std.specs.declared.alloc.Global.{Global}
 use Rattle.bulk_ops.specs.declared.part.Part.{Part}
 use Rattle.bulk_ops.specs.declared.part.Part.TheVariants.{Number, Truth, Found, Made, Images, Item}
 
--- the pair of two shared pointers, wherever they lie
-abbrev pub pair_of : {K V : Type 0} → Arc K Global × Arc V Global → K × V
-pair_of x = (arc_value x.0, arc_value x.1)
-
 module _ {K V I : Type 0} where
+  -- the part is a number
   abbrev pub HasNumber : Part K V I → Type 0
   HasNumber (Number n) = Unit {0}
   HasNumber part = ⊥
 
+  -- the part is a truth value
   abbrev pub HasTruth : Part K V I → Type 0
   HasTruth (Truth b) = Unit {0}
   HasTruth part = ⊥
 
+  -- the part is a pair, or that none was found
   abbrev pub HasPair : Part K V I → Type 0
   HasPair (Found x) = Unit {0}
   HasPair part = ⊥
 
+  -- the part is a map that was made
   abbrev pub HasMap : Part K V I → Type 0
   HasMap (Made v) = Unit {0}
   HasMap part = ⊥
 
+  -- the part is an item
   abbrev pub HasItem : Part K V I → Type 0
   HasItem (Item a) = Unit {0}
   HasItem part = ⊥
@@ -44,6 +42,7 @@ module _ {K V I : Type 0} where
   IsPut R (Made v) k x (Made w) = (w.entries ≡ with_pair R v.entries k x) × (w.limit ≡ v.limit) × (w.stamp ≡ v.stamp)
   IsPut R old k x new = ⊥
 
+  -- the part is a map of images
   abbrev pub HasImages : Part K V I → Type 0
   HasImages (Images v w) = Unit {0}
   HasImages part = ⊥

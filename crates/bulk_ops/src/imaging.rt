@@ -3,7 +3,7 @@
 //! Both can be given away where nothing may be refused any more. Such a map has the largest limit, and no generation's
 //! stamp.
 ghost use Rattle.std.specs.Prelude.{◌≡◌, ◌≤◌, ◌<◌, ◌+◌, [], IfOk, OnOk, length};
-ghost use Rattle.bulk_ops.specs.Answers.{IsImage};
+ghost use Rattle.bulk_work.specs.Answers.{IsImage};
 ghost use Rattle.bulk_ops.specs.Meanings.{MeansImages};
 ghost use Rattle.combiner.specs.Unions.{AreApart};
 ghost use Rattle.trie_shape.specs.Roots.{IsRoot, map_of};
@@ -46,7 +46,7 @@ pub(crate) fn images_of<K: PathKey + Drop, V: Drop, P: ImageFn<K, V>>(
     requires callable { P.can change.now.call }
     requires root { IsRoot K.cmp K.path_of (tree root.now) }
     requires few { length (map_of K.cmp (tree root.now)) ≤ MOST_PAIRS }
-    ensures images { IfOk result (λ seen. (p : K → V → K × V) → MeansImages (P.gives change.now.call) p → IsImage p (map_of K.cmp (tree root.now)) seen.1) }
+    ensures images { IfOk result (λ seen. (p : K → V → K × V) → MeansImages (P.gives change.now.call) p → IsImage K.cmp p (map_of K.cmp (tree root.now)) seen.1) }
     ensures entries { IfOk result (λ seen. seen.0.entries ≡ seen.1) }
     ensures limit { IfOk result (λ seen. seen.0.limit ≡ MOST_PAIRS) }
     ensures stamp { IfOk result (λ seen. seen.0.stamp ≡ 0) }
@@ -72,7 +72,7 @@ pub(crate) fn more_images<K: PathKey + Drop, V: Drop, P: ImageFn<K, V>>(
     requires room { length map.entries + length (map_of K.cmp (tree root.now)) ≤ MOST_PAIRS }
     requires limit { map.limit ≡ MOST_PAIRS }
     requires stamp { map.stamp ≡ 0 }
-    ensures images { IfOk result (λ seen. (p : K → V → K × V) (m : Map K V) → MeansImages (P.gives change.now.call) p → IsImage p m map.entries → AreApart K.cmp m (map_of K.cmp (tree root.now)) → IsImage p (union K.cmp m (map_of K.cmp (tree root.now))) seen.1) }
+    ensures images { IfOk result (λ seen. (p : K → V → K × V) (m : Map K V) → MeansImages (P.gives change.now.call) p → IsImage K.cmp p m map.entries → AreApart K.cmp m (map_of K.cmp (tree root.now)) → IsImage K.cmp p (union K.cmp m (map_of K.cmp (tree root.now))) seen.1) }
     ensures entries { IfOk result (λ seen. seen.0.entries ≡ seen.1) }
     ensures limit { IfOk result (λ seen. seen.0.limit ≡ MOST_PAIRS) }
     ensures stamp { IfOk result (λ seen. seen.0.stamp ≡ 0) }
@@ -83,10 +83,19 @@ pub(crate) fn more_images<K: PathKey + Drop, V: Drop, P: ImageFn<K, V>>(
     // Called for its contract: the keys of the map rise strictly.
     all.len();
     for (key, value) in bunches_of_root(alloc, root) {
-        let (image, made) = change.shared_at(alloc, key, value)?;
-        put(alloc, &mut all, image, made)?;
+        let Ok((image, made)) = change.shared_at(alloc, key, value) else {
+            drop(all);
+            return Err(NoMemory);
+        };
+        let Ok(()) = put(alloc, &mut all, image, made) else {
+            drop(all);
+            return Err(NoMemory);
+        };
     }
-    let view = all.view()?;
+    let Ok(view) = all.view() else {
+        drop(all);
+        return Err(NoMemory);
+    };
     Ok((all, view))
 }
 
@@ -106,8 +115,14 @@ pub(crate) fn with_image<K: PathKey + Drop, V: Drop>(
     ensures stamp { IfOk result (λ seen. seen.0.stamp ≡ 0) }
 {
     let mut more = again(map)?;
-    put(alloc, &mut more, key, value)?;
-    let view = more.view()?;
+    let Ok(()) = put(alloc, &mut more, key, value) else {
+        drop(more);
+        return Err(NoMemory);
+    };
+    let Ok(view) = more.view() else {
+        drop(more);
+        return Err(NoMemory);
+    };
     // Called for its contract: the keys of the view rise strictly.
     view.len();
     Ok((more, view))
@@ -129,7 +144,10 @@ pub(crate) fn joined_images<K: PathKey + Drop, V: Drop>(
     ensures stamp { IfOk result (λ seen. seen.0.stamp ≡ 0) }
 {
     let both = merge(alloc, left, right)?;
-    let view = both.view()?;
+    let Ok(view) = both.view() else {
+        drop(both);
+        return Err(NoMemory);
+    };
     // Called for its contract: the keys of the view rise strictly.
     view.len();
     Ok((both, view))

@@ -1,6 +1,6 @@
 //! Laws of answers. Their functions do nothing: each contract is the law.
 ghost use Rattle.std.specs.Prelude.{◌≡◌, List, IsPermutation};
-ghost use Rattle.bulk_ops.specs.Answers.{items_of};
+ghost use Rattle.bulk_work.specs.Answers.{items_of};
 ghost use Rattle.combiner.specs.Monoids.{folded};
 ghost use Rattle.versions.specs.Map.{Map};
 

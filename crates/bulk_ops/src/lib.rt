@@ -4,9 +4,7 @@
 //! those that pass, of new values or of images, the items of all pairs combined. It is worked in parts (`combiner::Bulk`).
 #![tactic(auto)]
 
-mod answering;
 mod asking;
-mod asks;
 mod closure;
 mod imaging;
 mod laws;
@@ -15,15 +13,12 @@ mod part;
 mod query;
 mod shaping;
 mod stored;
-mod walking;
 mod working;
 
-pub use answering::ask;
-pub use asks::{Answer, Asks};
+pub use bulk_work::{Answer, Asks, Pair, ask, work, work_into};
 pub use closure::{ImageFn, PairFn};
 pub use laws::law_of_folds;
 pub use no_images::NoImages;
-pub use part::{Pair, Part};
+pub use part::Part;
 pub use query::Query;
 pub use stored::{Stored, StoredItem, StoredMap, StoredPairs, StoredTest};
-pub use walking::{work, work_into};

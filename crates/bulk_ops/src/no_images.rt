@@ -4,6 +4,11 @@ use trie_node::NoMemory;
 
 /// What stands in a query's type for the closure of images where none is asked for.
 ///
+/// <!-- quoted from crates/example_expiry/src/queries.rt -->
+/// ```rust
+/// pub type Question = Query<ByteText, Lease, At, Renewed, Sum, SecondsLeft, NoImages>;
+/// ```
+///
 /// It never finds memory for an image. So a query for images by it is refused, but that of an empty map.
 #[derive(Drop)]
 pub struct NoImages;

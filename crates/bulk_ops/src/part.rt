@@ -4,16 +4,24 @@ ghost use Rattle.bulk_ops.specs.Parts.{HasImageRoom, HasImages, HasItem, HasMap,
 ghost use Rattle.versions.specs.declared.version.TheConstants.{MOST_PAIRS};
 
 use crate::imaging::with_image;
+use bulk_work::Pair;
 use hash_path::PathKey;
 use std::alloc::Global;
 use std::sync::Arc;
 use trie_node::{NoMemory, Stamp};
 use versions::{MOST_PAIRS, Refusal, Version, View};
 
-/// A pair of a map.
-pub type Pair<K, V> = (Arc<K>, Arc<V>);
-
-/// What a query is answered of some of the pairs.
+/// The answer of a query for some of the pairs.
+///
+/// <!-- quoted from crates/tests_task_pool/src/tests.rt -->
+/// ```rust
+/// fn number<I>(part: &Part<ChosenKey, u64, I>) -> Option<u64> {
+///     match part {
+///         Part::Number(number) => Some(*number),
+///         _ => None,
+///     }
+/// }
+/// ```
 #[derive(Drop)]
 pub enum Part<K: PathKey, V, I> {
     /// How many pass.
@@ -32,6 +40,8 @@ pub enum Part<K: PathKey, V, I> {
 
 impl<K: PathKey + Drop, V: Drop, I> Part<K, V, I> {
     /// The number of a part that has one.
+    ///
+    /// Cost: O(1), no lock. Refused: never.
     pub fn number(&self) -> u64
         requires { HasNumber self.now }
         ensures { self.now ≡ Part.Number result }
@@ -43,6 +53,8 @@ impl<K: PathKey + Drop, V: Drop, I> Part<K, V, I> {
     }
 
     /// The truth of a part that has one.
+    ///
+    /// Cost: O(1), no lock. Refused: never.
     pub fn truth(&self) -> bool
         requires { HasTruth self.now }
         ensures { self.now ≡ Part.Truth result }
@@ -54,6 +66,8 @@ impl<K: PathKey + Drop, V: Drop, I> Part<K, V, I> {
     }
 
     /// The pair of a part that may have found one.
+    ///
+    /// Cost: O(1), no lock. Refused: never.
     pub fn found(&self) -> &Option<Pair<K, V>>
         requires { HasPair self.now }
         ensures { self.now ≡ Part.Found result.now }
@@ -65,6 +79,8 @@ impl<K: PathKey + Drop, V: Drop, I> Part<K, V, I> {
     }
 
     /// The map of a part that made one.
+    ///
+    /// Cost: O(1), no lock. Refused: never.
     pub fn map(&self) -> &Version<K, V>
         requires { HasMap self.now }
         ensures { self.now ≡ Part.Made result.now }
@@ -76,6 +92,8 @@ impl<K: PathKey + Drop, V: Drop, I> Part<K, V, I> {
     }
 
     /// The map of a part of images, and the view of it.
+    ///
+    /// Cost: O(1), no lock. Refused: never.
     pub fn images(&self) -> (&Version<K, V>, &View<K, V>)
         requires { HasImages self.now }
         ensures { self.now ≡ Part.Images result.0.now result.1.now }
@@ -98,6 +116,8 @@ impl<K: PathKey + Drop, V: Drop, I> Part<K, V, I> {
     }
 
     /// The item of a part that has one.
+    ///
+    /// Cost: O(1), no lock. Refused: never.
     pub fn item(&self) -> &I
         requires { HasItem self.now }
         ensures { self.now ≡ Part.Item result.now }
@@ -124,6 +144,25 @@ impl<K: PathKey + Drop, V: Drop, I> Part<K, V, I> {
         }
     }
 
+    /// The same with another handle on the key, and a value that is shared first.
+    pub(crate) fn put_value(
+        &mut self,
+        alloc: Global,
+        key: &Arc<K>,
+        value: V,
+    ) -> Result<(), NoMemory>
+        requires { HasRoom self.old }
+        ensures put { OnOk result (IsPut K.cmp self.old key.now.value value self.new) }
+        ensures err { OnErr result (self.new ≡ self.old) }
+    {
+        let value = Arc::new(alloc, value)?;
+        let Ok(key) = Arc::try_clone(key) else {
+            drop(value);
+            return Err(NoMemory);
+        };
+        self.put(alloc, key, value)
+    }
+
     /// Puts an image into the map of a part of images. After `NoMemory` the part is as before.
     pub(crate) fn put_image(
         &mut self,
@@ -137,9 +176,9 @@ impl<K: PathKey + Drop, V: Drop, I> Part<K, V, I> {
     {
         match self {
             Part::Images(map, view) => {
-                let more = with_image(alloc, map, key, value)?;
-                *map = more.0;
-                *view = more.1;
+                let (next, seen) = with_image(alloc, map, key, value)?;
+                drop(std::mem::replace(map, next));
+                drop(std::mem::replace(view, seen));
                 Ok(())
             }
             _ => unreachable!(),
@@ -157,8 +196,23 @@ impl<K: PathKey + Drop, V: Drop, I> Part<K, V, I> {
         ensures put { OnOk result (IsPut K.cmp self.old key.now.value value.now.value self.new) }
         ensures err { OnErr result (self.new ≡ self.old) }
     {
-        self.put(alloc, Arc::try_clone(key)?, Arc::try_clone(value)?)
+        let key = Arc::try_clone(key)?;
+        let Ok(value) = Arc::try_clone(value) else {
+            drop(key);
+            return Err(NoMemory);
+        };
+        self.put(alloc, key, value)
     }
+}
+
+/// Puts another part in this one's place.
+pub(crate) fn replace<K: PathKey + Drop, V: Drop, I: Drop>(
+    part: &mut Part<K, V, I>,
+    next: Part<K, V, I>,
+)
+    ensures { part.new ≡ next }
+{
+    drop(std::mem::replace(part, next));
 }
 
 /// A map of a part, with no pairs: it has the largest limit, and no generation's stamp.

@@ -1,6 +1,6 @@
 //! Parts that are made by the shape of a trie.
 ghost use Rattle.std.specs.Prelude.{◌≡◌, ◌≤◌, Bool, IfOk, length};
-ghost use Rattle.bulk_ops.specs.Answers.{passing, with_values};
+ghost use Rattle.bulk_work.specs.Answers.{passing, with_values};
 ghost use Rattle.bulk_ops.specs.Meanings.{Means};
 ghost use Rattle.trie_shape.specs.Roots.{IsRoot, map_of};
 ghost use Rattle.trie_shape.specs.View.{tree};

@@ -1,19 +1,24 @@
 //! How queries are worked: a query is an operation on whole maps.
 ghost use Rattle.std.specs.Prelude.{◌≡◌, IfOk, option_map};
 ghost use Rattle.std.specs.Option.{option_or};
-ghost use Rattle.bulk_ops.specs.Parts.{pair_of};
-ghost use Rattle.bulk_ops.specs.Queries.{is_settled};
+ghost use Rattle.bulk_work.specs.Pairs.{pair_of};
+ghost use Rattle.bulk_ops.specs.Parts.{HasImages};
+ghost use Rattle.bulk_ops.specs.Queries.{PartAnswers, is_settled};
+ghost use Rattle.combiner.specs.Bulks.{CanJoin, IsJoined};
+ghost use Rattle.versions.specs.Map.{Map};
 
 use crate::closure::{ImageFn, PairFn};
 use crate::imaging::{images_of, joined_images, more_images, no_images};
-use crate::part::{Pair, Part, no_pairs};
+use crate::part::{Part, no_pairs, replace};
 use crate::query::Query;
 use crate::shaping::{changed, passed};
+use bulk_work::Pair;
 use combiner::{Bulk, Monoid, merge};
 use hash_path::PathKey;
 use std::alloc::Global;
 use std::sync::Arc;
 use trie_node::{NoMemory, Node};
+use versions::Version;
 
 impl<
     K: PathKey + Drop,
@@ -28,7 +33,7 @@ impl<
 
     ghost use Rattle.bulk_ops.specs.Queries.{DecidesQuery, IsReady, PartAnswers};
 
-    ghost answers = { λ q m part. PartAnswers M.combine M.unit_of q m part };
+    ghost answers = { λ q m part. PartAnswers M.combine M.unit_of K.cmp q m part };
 
     ghost decides = { λ q m. DecidesQuery M.combine M.unit_of q m };
 
@@ -57,7 +62,10 @@ impl<
         value: &Arc<V>,
     ) -> Result<Part<K, V, M::Item>, NoMemory> {
         let mut part = self.unit(alloc)?;
-        self.add(alloc, &mut part, key, value)?;
+        let Ok(()) = self.add(alloc, &mut part, key, value) else {
+            drop(part);
+            return Err(NoMemory);
+        };
         Ok(part)
     }
 
@@ -105,20 +113,23 @@ impl<
     ) -> Result<(), NoMemory> {
         match self {
             Query::Count(test) => {
-                *part = Part::Number(u64::from(test.at(key, value)) + part.number());
+                let next = Part::Number(u64::from(test.at(key, value)) + part.number());
+                replace(part, next);
                 Ok(())
             }
             Query::Exists(test) => {
-                *part = Part::Truth(test.at(key, value) | part.truth());
+                let next = Part::Truth(test.at(key, value) | part.truth());
+                replace(part, next);
                 Ok(())
             }
             Query::ForAll(test) => {
-                *part = Part::Truth(test.at(key, value) & part.truth());
+                let next = Part::Truth(test.at(key, value) & part.truth());
+                replace(part, next);
                 Ok(())
             }
             Query::Find(test) => {
                 if test.at(key, value) {
-                    *part = Part::Found(Some(copy_of(key, value)?));
+                    replace(part, Part::Found(Some(copy_of(key, value)?)));
                 }
                 Ok(())
             }
@@ -130,8 +141,7 @@ impl<
                 Ok(())
             }
             Query::MapValues(change, _) => {
-                let made = Arc::new(alloc, change.at(key, value))?;
-                part.put(alloc, Arc::try_clone(key)?, made)?;
+                part.put_value(alloc, key, change.at(key, value))?;
                 Ok(())
             }
             Query::MapPairs(change, _) => {
@@ -140,8 +150,10 @@ impl<
                 Ok(())
             }
             Query::Fold(monoid, item) => {
-                let folded = monoid.op(&item.at(key, value), part.item());
-                *part = Part::Item(folded);
+                let one = item.at(key, value);
+                let folded = monoid.op(&one, part.item());
+                drop(one);
+                replace(part, Part::Item(folded));
                 Ok(())
             }
         }
@@ -179,15 +191,16 @@ impl<
     ) -> Result<Result<Part<K, V, M::Item>, Part<K, V, M::Item>>, NoMemory> {
         match self {
             Query::MapPairs(change, _) => {
-                let (map, view) = part.into_images();
-                // Without its view the map alone holds its nodes, so that puts change them where they stand.
-                drop(view);
-                let (map, view) = more_images(alloc, map, root, change)?;
+                let (map, view) = more_images(alloc, lone_map(part), root, change)?;
                 Ok(Ok(Part::Images(map, view)))
             }
-            _ => match self.of_root(alloc, root)? {
-                Some(made) => Ok(Ok(self.join(alloc, &part, &made)?)),
-                None => Ok(Err(part)),
+            _ => match self.of_root(alloc, root) {
+                Ok(Some(made)) => Ok(Ok(joined(alloc, self, part, made)?)),
+                Ok(None) => Ok(Err(part)),
+                Err(NoMemory) => {
+                    drop(part);
+                    Err(NoMemory)
+                }
             },
         }
     }
@@ -235,4 +248,38 @@ fn first_of<K: Drop, V: Drop>(
         (None, Some((key, value))) => Ok(Some(copy_of(key, value)?)),
         (None, None) => Ok(None),
     }
+}
+
+// The map of a part of images. Without its view the map alone holds its nodes, so that puts change them where they stand.
+fn lone_map<K: PathKey + Drop, V: Drop, I: Drop>(part: Part<K, V, I>) -> Version<K, V>
+    requires { HasImages part }
+    ensures { (view : Map K V) × (part ≡ Part.Images result view) }
+{
+    let (map, view) = part.into_images();
+    drop(view);
+    map
+}
+
+// What both parts are joined to.
+fn joined<
+    K: PathKey + Drop,
+    V: Drop,
+    T: PairFn<K, V, bool>,
+    F: PairFn<K, V, V>,
+    M: Monoid,
+    G: PairFn<K, V, M::Item>,
+    P: ImageFn<K, V>,
+>(
+    alloc: Global,
+    query: &Query<K, V, T, F, M, G, P>,
+    part: Part<K, V, M::Item>,
+    made: Part<K, V, M::Item>,
+) -> Result<Part<K, V, M::Item>, NoMemory>
+    requires { CanJoin K.cmp (PartAnswers M.combine M.unit_of K.cmp query.now) part made }
+    ensures { IfOk result (λ both. IsJoined K.cmp (PartAnswers M.combine M.unit_of K.cmp query.now) part made both) }
+{
+    let both = query.join(alloc, &part, &made);
+    drop(part);
+    drop(made);
+    both
 }

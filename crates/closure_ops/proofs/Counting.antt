@@ -9,7 +9,7 @@ use Rattle.versions.specs.Map.{Map, union, with_pair}
 use Rattle.versions.specs.declared.version.TheConstants.{MOST_PAIRS}
 use Rattle.combiner.specs.Bulks.{CanAdd, CanJoin, IsAdded, IsJoined}
 use Rattle.bulk_ops.proofs.Totals.{count_union, length_union}
-use Rattle.bulk_ops.proofs.Unions.{truth_of}
+use Rattle.bulk_work.proofs.Unions.{truth_of}
 use Rattle.closure_ops.specs.Parts.{IsCount}
 
 -- a truth as a number is how many of one pair pass

@@ -6,8 +6,8 @@ use Rattle.versions.specs.Map.{Map}
 use Rattle.combiner.specs.Bulks.{IsAdded, IsJoined}
 use Rattle.combiner.specs.Monoids.{IsAssociative, IsCommutative, IsNeutral, IsClosed, folded}
 use Rattle.bulk_ops.proofs.Totals.{fold_union, folded_is_item}
-use Rattle.bulk_ops.proofs.Unions.{truth_of}
-use Rattle.bulk_ops.specs.Answers.{items_of}
+use Rattle.bulk_work.proofs.Unions.{truth_of}
+use Rattle.bulk_work.specs.Answers.{items_of}
 use Rattle.closure_ops.specs.Parts.{IsFold}
 
 module _ {K V I : Type 0} (op : I → I → I) (unit : I) (gives : K → V → I → Type 0) where

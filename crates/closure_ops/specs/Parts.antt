@@ -2,7 +2,7 @@
 use Rattle.std.specs.Prelude.{◌≡◌, ◌≤◌, ℕ, Bool, length}
 use Rattle.versions.specs.Map.{Map}
 use Rattle.combiner.specs.Monoids.{folded}
-use Rattle.bulk_ops.specs.Answers.{items_of, passing}
+use Rattle.bulk_work.specs.Answers.{items_of, passing}
 use Rattle.bulk_ops.specs.Meanings.{Means}
 
 module _ {K V : Type 0} where

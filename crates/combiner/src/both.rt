@@ -1,7 +1,15 @@
 //! Two operations at once.
 use crate::monoid::Monoid;
 
-/// Two operations side by side, each on its own part of a pair.
+/// Two operations side by side, each on its own part of a pair: two folds over one walk.
+///
+/// <!-- quoted from crates/map_sizes/src/asking.rt -->
+/// ```rust
+/// let (least, greatest) = map.fold(rt, &Both(Least, Greatest), |_, value| {
+///     let item = i64::try_from(*value).ok();
+///     (item, item)
+/// })?;
+/// ```
 #[derive(Clone, Copy, Debug)]
 pub struct Both<M, N>(pub M, pub N);
 

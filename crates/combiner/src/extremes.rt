@@ -2,6 +2,11 @@
 use crate::monoid::Monoid;
 
 /// The least of numbers, none for no number.
+///
+/// <!-- quoted from crates/tests_trie_map/src/tests/asked.rt -->
+/// ```rust
+/// view.fold(&Least, |key, _| Some(-i64::from(key.id))),
+/// ```
 #[derive(Clone, Copy, Debug)]
 pub struct Least;
 
@@ -42,6 +47,11 @@ impl Monoid for Least {
 }
 
 /// The greatest of numbers, none for no number.
+///
+/// <!-- quoted from crates/tests_trie_map/src/tests/asked.rt -->
+/// ```rust
+/// view.fold(&Greatest, |key, _| Some(-i64::from(key.id))),
+/// ```
 #[derive(Clone, Copy, Debug)]
 pub struct Greatest;
 

@@ -3,6 +3,16 @@ ghost use Rattle.std.specs.Prelude.{◌≡◌};
 ghost use Rattle.combiner.specs.Monoids.{IsAssociative, IsClosed, IsCommutative, IsNeutral};
 
 /// An operation on items that is associative and commutative, with a unit.
+///
+/// <!-- quoted from crates/tests_bulk_ops/src/tests/combining.rt -->
+/// ```rust
+/// assert_is(&rt, Least.op(&Some(4), &Some(-3)), Some(-3));
+/// let least = Least.op(&Some(i64::MIN), &Least.unit());
+/// assert_is(&rt, least, Some(i64::MIN));
+/// ```
+///
+/// A crew calls `unit` and `op` on its threads, several at once. At the finish of a job of a `SharedMap`, `op` runs
+/// under the lock of the table, so it must not call the map.
 pub trait Monoid {
     /// What is combined.
     type Item: Drop;
@@ -22,7 +32,8 @@ pub trait Monoid {
 
     /// Two items combined.
     fn op(&self, a: &Self::Item, b: &Self::Item) -> Self::Item
-        ensures { result ≡ combine self.now a.now b.now };
+        ensures combined { result ≡ combine self.now a.now b.now }
+        ensures neutral { b.now ≡ unit_of self.now → result ≡ a.now };
 
     ghost associative: { (m : Self) → IsAssociative (combine m) };
 

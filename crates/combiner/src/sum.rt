@@ -4,7 +4,13 @@ ghost use Rattle.combiner.specs.Numbers.{wrapped_sum};
 
 use crate::monoid::Monoid;
 
-/// The sum of numbers, wrapped to 128 bits.
+/// The sum of numbers, wrapped to 128 bits. Of numbers of 64 bits, as many as a map can have, it never wraps
+/// (`law_of_sums`).
+///
+/// <!-- quoted from crates/example_leases/src/main.rt -->
+/// ```rust
+/// let sum = view.fold(&Sum, |_, lease| i128::from(lease.port));
+/// ```
 #[derive(Clone, Copy, Debug)]
 pub struct Sum;
 

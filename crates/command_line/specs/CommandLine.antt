@@ -17,9 +17,11 @@ use Rattle.command_line.specs.declared.arguments.Options.{Options}
 abbrev pub number_rule : Text → ℕ → Text → Rule
 number_rule name most usual = record (new_rule name) { long = Some name; value_names = 1; parser = Some (Signed (pos 1) (pos most)); defaults = usual ∷ [] }
 
+-- the option for the number of workers, from 1 to 16
 abbrev pub workers_rule : Rule
 workers_rule = number_rule (codes "workers") 16 (codes "4")
 
+-- the option for the grain, from 1 to 65,536
 abbrev pub grain_rule : Rule
 grain_rule = number_rule (codes "grain") 65536 (codes "1024")
 

@@ -84,6 +84,6 @@ fn file<'a>(alloc: Global) -> Arg<'a>
     ensures local { result.global ≡ false }
 {
     Arg::new(alloc, "file").value_name("FILE").help(
-        "The script to run, or the journal to audit; without it, standard input is read",
+        "The script to run, or the journal to audit; without it, or for -, standard input is read",
     )
 }

@@ -12,7 +12,7 @@ use Rattle.std.proofs.lemmas.List.Elements.{All-get_or}
 use Rattle.std.proofs.lemmas.Option.{slice_get-map, slice_get_read, slice_get_within, get_or_from_slice_get}
 use Rattle.versions.specs.Map.{Map, value_at, with_pair}
 use Rattle.versions.specs.declared.refusal.Refusal.TheVariants.{NoWorker}
-use Rattle.bulk_ops.specs.Answers as plain
+use Rattle.bulk_work.specs.Answers as plain
 use Rattle.handles.specs.Machine.{Kind, State, Job, freeze, finish, frozen, Step, job_at, refusal}
 use Rattle.iter.specs.declared.interval.Interval.{Interval}
 use Rattle.iter.specs.Intervals.{whole, Tile, parts}

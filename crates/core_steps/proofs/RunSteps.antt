@@ -1,7 +1,7 @@
 -- Runs of a core with one step more.
 use Rattle.std.proofs.Common.{◌≡◌, ℕ, ◌+◌, ◌<◌, List, [], ◌∷◌, ◌++◌, length, map, take, get_or, refl, ap, ◌∙◌, sym, subst}
 use Rattle.std.proofs.lemmas.List.{take_more, map-append}
-use Rattle.bulk_ops.specs.Answers as plain
+use Rattle.bulk_work.specs.Answers as plain
 use Rattle.versions.specs.Map.{Map}
 use Rattle.handles.specs.Machine.{Kind}
 use Rattle.core_steps.specs.Cores.{CoreState, Asked, CoreOutcome, Division, CoreStep}

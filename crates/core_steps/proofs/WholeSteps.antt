@@ -9,9 +9,9 @@ use Rattle.std.specs.declared.cmp.Ordering.{Ordering}
 use Rattle.versions.specs.Map.{Map, value_at, with_pair, without, is_other}
 use Rattle.versions.specs.declared.refusal.Refusal.{Refusal}
 use Rattle.versions.specs.declared.refusal.Refusal.TheVariants.{NoHandle, Taken, Full, NoJob, Unfinished, NoWorker, TooManyJobs, JournalFull, NoMemory, BadNumber}
-use Rattle.bulk_ops.specs.Answers as plain
-use Rattle.bulk_ops.specs.Summaries.{summary_of}
-use Rattle.bulk_ops.specs.declared.asks.Answer.{Answer}
+use Rattle.bulk_work.specs.Answers as plain
+use Rattle.bulk_work.specs.Summaries.{summary_of}
+use Rattle.bulk_work.specs.declared.asks.Answer.{Answer}
 use Rattle.handles.specs.declared.call.Call.{Call}
 use Rattle.handles.specs.declared.call.Call.TheVariants.{Open, Snapshot, Drop, On}
 use Rattle.handles.specs.declared.call_reply.CallReply.{CallReply}

@@ -3,7 +3,7 @@ use Rattle.std.specs.Prelude.{ℕ, Bool, Option}
 use Rattle.std.specs.declared.cmp.Ordering.{Ordering}
 use Rattle.versions.specs.Map.{Map}
 use Rattle.handles.specs.Machine.{Kind}
-use Rattle.bulk_ops.specs.Answers.{Answer, Summary, map_of, summary}
+use Rattle.bulk_work.specs.Answers.{Answer, Summary, map_of, summary}
 use Rattle.core_steps.specs.Cores.{Division}
 
 -- the machine whose queries have these targets and these answers

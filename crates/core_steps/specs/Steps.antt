@@ -5,8 +5,8 @@ use Rattle.versions.specs.Map.{Map}
 use Rattle.versions.specs.declared.refusal.Refusal.{Refusal}
 use Rattle.versions.specs.declared.refusal.Refusal.TheVariants as refusals
 use Rattle.trie_shape.specs.declared.no_memory.NoMemory.{NoMemory}
-use Rattle.bulk_ops.specs.Answers as plain
-use Rattle.bulk_ops.specs.Summaries.{summary_of}
+use Rattle.bulk_work.specs.Answers as plain
+use Rattle.bulk_work.specs.Summaries.{summary_of}
 use Rattle.handles.specs.declared.call_reply.CallReply.{CallReply}
 use Rattle.handles.specs.Machine.{Kind, view, freeze, finish, abandon, made, viewed, frozen, finished, unfinished, Run}
 use Rattle.handles.specs.Machine as machine

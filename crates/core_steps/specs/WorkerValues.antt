@@ -33,6 +33,7 @@ module _ {K V P : Type 0} where
   abbrev pub result_of : WorkerValue K V P → P × List Interval
   result_of d = (d.part, d.worked)
 
+  -- the same of each worker
   abbrev pub results : List (WorkerValue K V P) → List (P × List Interval)
   results ds = map result_of ds
 
@@ -45,6 +46,7 @@ module _ {K V P : Type 0} where
   state_taken d None (Some p) = (took p.interval.lo p.interval.hi, record d { queue = without_newest d.queue; held = Some p })
   state_taken d held newest = (idle, d)
 
+  -- the same of the worker's own queue and piece
   abbrev pub state_take : WorkerValue K V P → MoveResult × WorkerValue K V P
   state_take d = state_taken d d.held (newest d.queue)
 
@@ -58,6 +60,7 @@ module _ {K V P : Type 0} where
   state_split_of path grain d (Some p) = state_cut d p (cut_point path p.map p.interval grain)
   state_split_of path grain d None = (idle, d)
 
+  -- the same of the piece that the worker holds
   abbrev pub state_split : (K → ℕ) → ℕ → WorkerValue K V P → MoveResult × WorkerValue K V P
   state_split path grain d = state_split_of path grain d d.held
 
@@ -77,12 +80,15 @@ module _ {K V P : Type 0} where
   abbrev pub taking_move : List (WorkerValue K V P) → ℕ → MoveResult × Board
   taking_move ds w = taken (board ds) w (worker (board ds) w).held (newest (worker (board ds) w).queue)
 
+  -- worker w steals the oldest interval of another's queue
   abbrev pub stealing_move : List (WorkerValue K V P) → ℕ → ℕ → MoveResult × Board
   stealing_move ds w from = stolen (board ds) w from (worker (board ds) w).held (oldest (worker (board ds) from).queue)
 
+  -- worker w splits what it holds
   abbrev pub splitting_move : (Interval → Option ℕ) → List (WorkerValue K V P) → ℕ → MoveResult × Board
   splitting_move point ds w = split point (board ds) w (worker (board ds) w).held
 
+  -- worker w works what it holds
   abbrev pub working_move : (Interval → ℕ) → Bool → List (WorkerValue K V P) → ℕ → MoveResult × Board
   working_move size settled ds w = work size settled (board ds) w (worker (board ds) w).held
 

@@ -18,6 +18,7 @@ use splitter::{Piece, whole};
 use std::alloc::Global;
 use std::collections::VecDeque;
 use std::marker::Model;
+use std::sync::Arc;
 use trie_node::NoMemory;
 use versions::View;
 
@@ -49,7 +50,7 @@ impl<K: PathKey + Drop, V: Drop, P> Board<K, V, P> {
         requires { 0 < length self.old }
         ensures { (d : WorkerValue K V P) → self.new ≡ slice_set self.old 0 (record (slice_index_or self.old 0 d) { queue = queue.items }) }
     {
-        self.worker_states[0].queue = queue;
+        drop(std::mem::replace(&mut self.worker_states[0].queue, queue));
     }
 
     /// How many workers there are.
@@ -115,8 +116,15 @@ pub fn first_board<K: PathKey + Drop, V: Drop, B: Bulk<K, V>>(
     ensures first { IfOk result (λ worker_states. board worker_states ≡ first_board workers) }
     ensures job { IfOk result (λ worker_states. IsJobOn K.cmp K.path_of (B.answers bulk.now) view worker_states) }
 {
-    let mut board = vacant(alloc, bulk, workers)?;
-    let queue = VecDeque::with_capacity(alloc, 1)?;
+    let Ok(mut board) = vacant(alloc, bulk, workers) else {
+        drop(view);
+        return Err(NoMemory);
+    };
+    let Ok(queue) = VecDeque::with_capacity(alloc, 1) else {
+        drop(view);
+        drop(board);
+        return Err(NoMemory);
+    };
     begin_whole(alloc, bulk, &mut board, queue, view);
     Ok(board)
 }
@@ -175,4 +183,32 @@ pub fn work_on<K: PathKey + Drop, V: Drop, B: Bulk<K, V>>(
     ensures err { OnErr result (board.new ≡ board.old) }
 {
     work_held(alloc, bulk, &mut board.worker_states[worker as usize])
+}
+
+/// What a job is given before it is opened: its query, a vacant board, and a queue with a place.
+pub(crate) type Places<K, V, Q, P> = (Arc<Q>, Board<K, V, P>, VecDeque<Piece<K, V>>);
+
+/// What a job of the query is given.
+pub(crate) fn places_for<K: PathKey + Drop, V: Drop, Q: Bulk<K, V> + Drop>(
+    alloc: Global,
+    query: &Arc<Q>,
+    workers: u32,
+) -> Result<Places<K, V, Q, Q::Part>, NoMemory>
+    ensures query { IfOk result (λ made. made.0.value ≡ query.now.value) }
+    ensures count { IfOk result (λ made. length made.1 ≡ workers) }
+    ensures vacant { IfOk result (λ made. All (IsVacant (Q.answers query.now.value)) made.1) }
+    ensures empty { IfOk result (λ made. made.2.items ≡ []) }
+    ensures place { IfOk result (λ made. deque_len made.2 < deque_capacity made.2) }
+{
+    let kept = Arc::try_clone(query)?;
+    let Ok(board) = vacant(alloc, &*kept, workers) else {
+        drop(kept);
+        return Err(NoMemory);
+    };
+    let Ok(queue) = VecDeque::with_capacity(alloc, 1) else {
+        drop(kept);
+        drop(board);
+        return Err(NoMemory);
+    };
+    Ok((kept, board, queue))
 }

@@ -10,20 +10,19 @@ ghost use Rattle.core_steps.specs.Queries.{asked, divided};
 ghost use Rattle.core_steps.specs.Steps.{CanAsk, IsAnswered, MayFinish, Ran, StepsTo, asked_by, refusal_due, takes_no_memory};
 ghost use Rattle.core_steps.specs.declared.outcome.Outcome.{Outcome};
 
-use crate::board::{begin_whole, vacant};
+use crate::board::{begin_whole, places_for};
 use crate::collecting::collected;
 use crate::job_state::{JobState, close, place_of};
 use crate::laws::law_of_coverings;
 use crate::moves::{Move, make_move};
 use crate::outcome::{Outcome, Trace, call_outcome, refused, view_outcome};
 use crate::step::Step;
-use bulk_ops::Asks;
+use bulk_work::Asks;
 use handles::{Call, Limits, MOST_ENTRIES, Table, law_of_freezes, law_of_open_jobs};
 use hash_path::PathKey;
 use iter::parts_follow_intervals;
 use splitter::{MOST_GRAIN, MOST_WORKERS, law_of_cuts};
 use std::alloc::Global;
-use std::collections::VecDeque;
 use std::marker::Model;
 use std::sync::Arc;
 use trie_node::NoMemory;
@@ -99,7 +98,7 @@ impl<K: PathKey + Drop, V: Eq + Drop, Q: Asks<K, V> + Drop> Core<K, V, Q> {
     /// A query that is frozen may be called on every pair. A refusal that is due is returned even if memory runs out,
     /// and so is `Unfinished`. After `NoMemory` all is as before, and each step leaves all parts as they were, but for
     /// that of a worker that works a piece, and those of a job that it opens or closes. A drop of a handle, an abandon,
-    /// a size, a take and a steal are never answered `NoMemory`.
+    /// a size, a take and a steal never return `NoMemory`.
     pub fn step(
         &mut self,
         alloc: Global,
@@ -237,13 +236,25 @@ impl<K: PathKey + Drop, V: Eq + Drop, Q: Asks<K, V> + Drop> Core<K, V, Q> {
         if refuses_freeze(&self.table, handle, &query) {
             return self.refused_freeze(handle, query);
         }
-        let kept = Arc::try_clone(&query)?;
-        let mut board = vacant(alloc, &*kept, self.workers)?;
-        let queue = VecDeque::with_capacity(alloc, 1)?;
-        self.job_states.reserve(1)?;
+        let Ok((kept, mut board, queue)) = places_for(alloc, &query, self.workers) else {
+            drop(query);
+            return Err(NoMemory);
+        };
+        let Ok(()) = self.job_states.reserve(1) else {
+            drop(query);
+            drop(kept);
+            drop(board);
+            drop(queue);
+            return Err(NoMemory);
+        };
         let opened = match self.table.freeze(handle, query) {
             Ok(opened) => opened,
-            Err(refusal) => return refused(refusal),
+            Err(refusal) => {
+                drop(kept);
+                drop(board);
+                drop(queue);
+                return refused(refusal);
+            }
         };
         let (number, view) = opened;
         begin_whole(alloc, &*kept, &mut board, queue, view);

@@ -7,7 +7,7 @@ ghost use Rattle.core_steps.specs.Invariants.{IsBoard, IsCore};
 ghost use Rattle.core_steps.specs.Laws.{MovesKeepBoards, MovesKeepJobs, NoneWorkedTwice, RunsAreMachineRuns, StepsKeepCores, TileWhereNoneWaits, TiledIsWhole};
 ghost use Rattle.core_steps.specs.Queries.{asked, divided};
 
-use bulk_ops::Asks;
+use bulk_work::Asks;
 use combiner::Bulk;
 use hash_path::PathKey;
 use iter::parts_follow_intervals;

@@ -40,7 +40,7 @@ impl Move {
     }
 }
 
-/// A worker's move on the board of a job. After `NoMemory`, which no take and no steal is answered, all is as before.
+/// A worker's move on the board of a job. After `NoMemory`, which no take and no steal returns, all is as before.
 pub fn make_move<K: PathKey + Drop, V: Drop, B: Bulk<K, V>>(
     alloc: Global,
     bulk: &B,

@@ -1,15 +1,15 @@
-//! What a core answers.
+//! What a core returns.
 ghost use Rattle.std.specs.Prelude.{◌≡◌};
 ghost use Rattle.core_steps.specs.Steps.{outcome_of_call, refused_outcome, outcome_of_view};
 
 use crate::progress::Progress;
-use bulk_ops::Answer;
+use bulk_work::Answer;
 use handles::CallReply;
 use hash_path::PathKey;
 use trie_node::NoMemory;
 use versions::{Refusal, View};
 
-/// What a step is answered.
+/// What a step returns.
 #[derive(Drop)]
 pub enum Outcome<K: PathKey, V, I> {
     /// The call was made, and this is its reply.
@@ -24,7 +24,7 @@ pub enum Outcome<K: PathKey, V, I> {
     Unfinished,
     /// The job was closed without an answer.
     Abandoned,
-    /// What the worker's move was answered.
+    /// What the worker's move returned.
     Moved(Progress),
     /// The step is refused.
     Refused(Refusal),
@@ -36,7 +36,7 @@ pub struct Trace<K: PathKey, V, I> {
     pub outcomes: Vec<Outcome<K, V, I>>,
 }
 
-/// What is answered where a step is refused: `NoMemory` is no outcome.
+/// What is returned where a step is refused: `NoMemory` is no outcome.
 pub(crate) fn refused<K: PathKey, V, I>(refusal: Refusal) -> Result<Outcome<K, V, I>, NoMemory>
     ensures { result ≡ refused_outcome refusal }
 {
@@ -46,7 +46,7 @@ pub(crate) fn refused<K: PathKey, V, I>(refusal: Refusal) -> Result<Outcome<K, V
     }
 }
 
-/// What a call is answered.
+/// What a call returns.
 pub(crate) fn call_outcome<K: PathKey, V, I>(
     answer: Result<CallReply<V>, Refusal>,
 ) -> Result<Outcome<K, V, I>, NoMemory>
@@ -58,7 +58,7 @@ pub(crate) fn call_outcome<K: PathKey, V, I>(
     }
 }
 
-/// What a view is answered.
+/// What a view returns.
 pub(crate) fn view_outcome<K: PathKey, V, I>(
     answer: Result<View<K, V>, Refusal>,
 ) -> Result<Outcome<K, V, I>, NoMemory>

@@ -1,8 +1,8 @@
-//! What workers are answered.
+//! What workers are returned.
 
 use hash_path::Bound;
 
-/// What a worker's move on an open job is answered. An interval is given by its first position and the one after
+/// What a worker's move on an open job returns. An interval is given by its first position and the one after
 /// its last.
 #[derive(Clone, Copy, Debug, PartialEq, Eq)]
 pub enum Progress {

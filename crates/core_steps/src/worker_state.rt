@@ -93,7 +93,7 @@ impl<K: PathKey + Drop, V: Drop, P> WorkerState<K, V, P> {
         ensures held { self.new ≡ record self.old { held = Some piece } }
     {
         let progress = Progress::Took(piece.lo(), piece.hi());
-        self.held = Some(piece);
+        drop(std::mem::replace(&mut self.held, Some(piece)));
         progress
     }
 
@@ -112,15 +112,15 @@ impl<K: PathKey + Drop, V: Drop, P> WorkerState<K, V, P> {
             Ok(Cut::Two(lower, upper)) => {
                 let progress = Progress::Cut(lower.lo(), lower.hi(), upper.hi());
                 self.queue.push_back_reserved(upper);
-                self.held = Some(lower);
+                self.hold(lower);
                 Ok(progress)
             }
             Ok(Cut::One(piece)) => {
-                self.held = Some(piece);
+                self.hold(piece);
                 Ok(Progress::Whole)
             }
             Err(piece) => {
-                self.held = Some(piece);
+                self.hold(piece);
                 Err(NoMemory)
             }
         }

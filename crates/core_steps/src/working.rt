@@ -7,7 +7,7 @@ ghost use Rattle.core_steps.specs.Views.{move_result};
 
 use crate::progress::Progress;
 use crate::worker_state::WorkerState;
-use bulk_ops::work;
+use bulk_work::work;
 use combiner::Bulk;
 use hash_path::PathKey;
 use iter::{Interval, parts_follow_intervals};

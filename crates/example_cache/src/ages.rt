@@ -61,7 +61,7 @@ pub fn made_since(second: u64) -> Question
     Query::Filter(stored(Since(second)), 0)
 }
 
-/// Removes each entry that was made before this second, unless another thread has replaced it meanwhile, and answers
+/// Removes each entry that was made before this second, unless another thread has replaced it meanwhile, and returns
 /// how many it removed.
 pub fn expire<R: Wait>(rt: &R, cache: &Cache, second: u64) -> Result<u64, NoMemory> {
     let mut removed = 0u64;

@@ -7,9 +7,9 @@ use Rattle.std.specs.declared.cmp.Ordering.{Ordering}
 use Rattle.versions.specs.Map.{Map, union}
 use Rattle.versions.specs.declared.version.TheConstants.{MOST_PAIRS}
 use Rattle.combiner.specs.Bulks.{CanJoin, IsJoined}
-use Rattle.bulk_ops.proofs.PartKinds.{passing_le}
+use Rattle.bulk_work.proofs.Unions.{passing_le}
 use Rattle.bulk_ops.proofs.Totals.{count_union}
-use Rattle.bulk_ops.proofs.Unions.{truth_of}
+use Rattle.bulk_work.proofs.Unions.{truth_of}
 use Rattle.example_expiry.specs.declared.lease.Lease.{Lease}
 use Rattle.example_expiry.specs.declared.outlook.Outlook.{Outlook}
 use Rattle.example_expiry.specs.declared.outlook.OutlookAt.{OutlookAt}

@@ -7,9 +7,9 @@ use Rattle.std.specs.declared.cmp.Ordering.{Ordering}
 use Rattle.versions.specs.Map.{Map}
 use Rattle.versions.specs.declared.version.TheConstants.{MOST_PAIRS}
 use Rattle.combiner.specs.Bulks.{CanAdd, CanJoin, IsAdded, IsJoined}
-use Rattle.bulk_ops.proofs.PartKinds.{passing_le}
+use Rattle.bulk_work.proofs.Unions.{passing_le}
 use Rattle.bulk_ops.proofs.Totals.{count_union}
-use Rattle.bulk_ops.proofs.Unions.{truth_of}
+use Rattle.bulk_work.proofs.Unions.{truth_of}
 use Rattle.example_expiry.specs.Initials.{AreInitials, Counts, begins_with, count_at, how_many_begin}
 
 -- c is a with a name counted

@@ -5,7 +5,7 @@ use Rattle.std.specs.Map.{lookup}
 use Rattle.std.specs.Option.{unwrap_or}
 use Rattle.std.specs.Ordering.{nat_cmp}
 use Rattle.versions.specs.Map.{Map}
-use Rattle.bulk_ops.specs.Answers.{passing}
+use Rattle.bulk_work.specs.Answers.{passing}
 
 -- bytes, each with its count
 abbrev pub Counts : Type 0

@@ -1,7 +1,7 @@
 -- How many leases have expired at a moment, will soon, and last longer.
 use Rattle.std.specs.Prelude.{◌≡◌, ℕ, Bool, ◌&&◌, length, nat_le, nat_lt}
 use Rattle.versions.specs.Map.{Map}
-use Rattle.bulk_ops.specs.Answers.{passing}
+use Rattle.bulk_work.specs.Answers.{passing}
 use Rattle.example_expiry.specs.declared.lease.Lease.{Lease}
 use Rattle.example_expiry.specs.declared.outlook.Outlook.{Outlook}
 use Rattle.example_expiry.specs.declared.outlook.OutlookAt.{OutlookAt}

@@ -3,7 +3,7 @@
 use crate::lease::{Lease, name, until};
 use crate::queries::{expired, live, seconds_left};
 use anyhow::Result;
-use bulk_ops::{Answer, ask};
+use bulk_work::{Answer, ask};
 use generation::Source;
 use keys::ByteText;
 use std::alloc::Global;

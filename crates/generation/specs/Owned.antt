@@ -9,6 +9,7 @@ module _ {K V : Type 0} where
     own_below own (branch stamp size bitmap ts) = cond (stamp == own) 1 0 + own_of_all own ts
     own_below own (bucket stamp es) = cond (stamp == own) 1 0
 
+    -- the same of several tries
     pub own_of_all : ℕ → Trees K V → ℕ
     own_of_all own no_trees = 0
     own_of_all own (more_trees t ts) = own_below own t + own_of_all own ts

@@ -12,14 +12,17 @@ use trie_node::{
     Look, Node, Stamp, bitmap_counts_children, child, look, root_has_few_nodes, stamp,
 };
 
-/// How many nodes of a root carry the stamp. It walks over all of them and takes no memory.
-pub fn own_nodes<K: PathKey, V>(root: &Node<K, V>, own: Stamp) -> u64
-    requires root { IsRoot K.cmp K.path_of (tree root.now) }
-    requires few { node_count (tree root.now) < 2 ^ 64 }
-    ensures { result ≡ own_count own.0 (nodes (word_of K.path_of) (tree root.now)) }
+/// How many nodes carry the stamp, from this node down. It walks over all of them and takes no memory.
+///
+/// Of a root these are all nodes of its map.
+pub fn own_nodes<K: PathKey, V>(node: &Node<K, V>, own: Stamp) -> u64
+    requires fits { Fits (tree node.now) }
+    requires few { node_count (tree node.now) < 2 ^ 64 }
+    ensures below { result ≡ own_below own.0 (tree node.now) }
+    ensures root { IsRoot K.cmp K.path_of (tree node.now) → result ≡ own_count own.0 (nodes (word_of K.path_of) (tree node.now)) }
 {
     root_has_few_nodes::<K, V>();
-    count_own(root, own)
+    count_own(node, own)
 }
 
 /// The nodes of a subtrie that carry the stamp.

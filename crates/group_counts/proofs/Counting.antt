@@ -14,7 +14,7 @@ use Rattle.combiner.specs.Bulks.{CanAdd, CanJoin, IsAdded, IsJoined}
 use Rattle.bulk_ops.proofs.Totals.{count_union, length_union}
 use Rattle.group_counts.specs.Counts.{IsSum, added, count_at, total, with_one}
 use Rattle.group_counts.specs.Groups.{IsGroups, count_of, if_any}
-use Rattle.bulk_ops.proofs.Unions.{truth_of}
+use Rattle.bulk_work.proofs.Unions.{truth_of}
 use Rattle.group_counts.proofs.Places.{put_rises}
 use Rattle.group_counts.proofs.Totals.{total_with_one}
 use Rattle.group_counts.proofs.Joins.{equal_of}

@@ -10,7 +10,7 @@ use Rattle.std.specs.FinMap.Entries.{below_all}
 use Rattle.versions.specs.Map.{Map, IsMap}
 use Rattle.group_counts.specs.Counts.{IsSum, added, total}
 use Rattle.group_counts.specs.Joining.{Joining, TakesRow}
-use Rattle.bulk_ops.proofs.Unions.{and_of, below_less, left_of, true_of, truth_of}
+use Rattle.bulk_work.proofs.Unions.{and_of, below_less, left_of, true_of, truth_of}
 use Rattle.group_counts.proofs.Lists.{absent_tied, end_rises, find-append, same_rises, woven}
 
 added_none : (a : Option ℕ) → added a None ≡ a

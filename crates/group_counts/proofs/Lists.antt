@@ -7,7 +7,7 @@ use Rattle.std.specs.Ordering.{is_eq, eq_by_cmp}
 use Rattle.std.specs.Cmp.{IsTotalOrder}
 use Rattle.std.specs.FinMap.{find, is_sorted}
 use Rattle.std.specs.FinMap.Entries.{below_all}
-use Rattle.bulk_ops.proofs.Unions.{and_of, left_of, less_of, right_of}
+use Rattle.bulk_work.proofs.Unions.{and_of, left_of, less_of, right_of}
 
 first_or : {X : Type 0} (t : Bool) (x : X) (a b : Option X) → cond t (Some x) (option_or a b) ≡ option_or (cond t (Some x) a) b
 first_or true x a b = refl

@@ -15,7 +15,7 @@ use Rattle.std.proofs.lemmas.Bool.{cases_eq}
 use Rattle.std.proofs.lemmas.List.{get_or-map, length-map, map-set}
 use Rattle.versions.specs.Map.{IsMap, Map}
 use Rattle.group_counts.specs.Counts.{GoesTo, StandsAt, count_at, row_pair, with_one}
-use Rattle.bulk_ops.proofs.Unions.{right_of, true_of, truth_of}
+use Rattle.bulk_work.proofs.Unions.{right_of, true_of, truth_of}
 use Rattle.trie_copy.proofs.Cases.{map_insert}
 use Rattle.group_counts.proofs.Lists.{rises}
 

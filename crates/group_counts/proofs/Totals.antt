@@ -9,7 +9,7 @@ use Rattle.std.specs.declared.cmp.Ordering.{Ordering}
 use Rattle.std.specs.declared.cmp.Ordering.TheVariants.{Less, Equal, Greater}
 use Rattle.versions.specs.Map.{Map, IsMap}
 use Rattle.group_counts.specs.Counts.{count_at, total, with_one}
-use Rattle.bulk_ops.proofs.Unions.{below_less, left_of, right_of, truth_of}
+use Rattle.bulk_work.proofs.Unions.{below_less, left_of, right_of, truth_of}
 use Rattle.group_counts.proofs.Lists.{absent_tied}
 
 module _ {G : Type 0} (R : G → G → Ordering) (o : IsTotalOrder R) where

@@ -3,7 +3,7 @@ use Rattle.std.specs.Prelude.{◌≡◌, ℕ, zero, suc, length, Option, Some, N
 use Rattle.std.specs.declared.cmp.Ordering.{Ordering}
 use Rattle.std.specs.Ordering.{eq_by_cmp}
 use Rattle.versions.specs.Map.{Map, IsMap, value_at}
-use Rattle.bulk_ops.specs.Answers.{passing}
+use Rattle.bulk_work.specs.Answers.{passing}
 use Rattle.bulk_ops.specs.Meanings.{Means}
 use Rattle.group_counts.specs.Counts.{total}
 

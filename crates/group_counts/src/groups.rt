@@ -12,6 +12,14 @@ use std::sync::Arc;
 use trie_node::NoMemory;
 
 /// The groups that pairs have, in order, and how many pairs each group has: at least one.
+///
+/// <!-- quoted from crates/tests_trie_map/src/tests/ranks.rt -->
+/// ```rust
+/// for (place, (group, count)) in groups.as_slice().iter().enumerate() {
+///     assert_is(&rt, **group, place as u64);
+///     assert_is(&rt, *count, if place < 6 { 43 } else { 42 });
+/// }
+/// ```
 #[derive(Drop)]
 pub struct Groups<G: PathKey> {
     rows: Vec<(Arc<G>, u64)>,
@@ -30,7 +38,9 @@ impl<G: PathKey> Model for Groups<G> {
 }
 
 impl<G: PathKey + Drop> Groups<G> {
-    /// How many pairs have the group: 0 where no pair has it. It takes no memory.
+    /// How many pairs have the group: 0 where no pair has it.
+    ///
+    /// Cost: O(log g) for g groups, no lock. Refused: never.
     pub fn get(&self, group: &G) -> u64
         ensures { result ≡ count_at G.cmp self.now group.now }
     {
@@ -40,21 +50,27 @@ impl<G: PathKey + Drop> Groups<G> {
         }
     }
 
-    /// How many groups there are. It takes no memory.
+    /// How many groups there are.
+    ///
+    /// Cost: O(1), no lock. Refused: never.
     pub fn len(&self) -> usize
         ensures { result ≡ length self.now }
     {
         self.rows.len()
     }
 
-    /// Whether there is no group. It takes no memory.
+    /// Whether there is no group.
+    ///
+    /// Cost: O(1), no lock. Refused: never.
     pub fn is_empty(&self) -> bool
         ensures { IsTrue result ↔ (self.now ≡ []) }
     {
         self.rows.is_empty()
     }
 
-    /// Each group and how many pairs it has, in order of the groups. It takes no memory.
+    /// Each group and how many pairs it has, in order of the groups.
+    ///
+    /// Cost: O(1), no lock. Refused: never.
     pub fn as_slice(&self) -> &[(Arc<G>, u64)]
         ensures counts { map row_pair result.now ≡ self.now }
         ensures rising { IsMap G.cmp self.now }

@@ -3,7 +3,7 @@ ghost use Rattle.std.specs.Prelude.{◌+◌, ◌≤◌, length};
 ghost use Rattle.group_counts.specs.Counts.{total};
 
 use super::{GroupCounts, Groups};
-use bulk_ops::work;
+use bulk_work::work;
 use combiner::Bulk;
 use splitter::whole;
 use std::alloc::Global;

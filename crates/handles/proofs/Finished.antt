@@ -3,7 +3,7 @@ use Rattle.std.proofs.Common.{◌≡◌, ℕ, true, refl, ap, sym, subst, Option
 use Rattle.std.specs.Prelude.{Result, Ok, Err, IfOk, OnErr, is_some}
 use Rattle.std.specs.Ordering.{nat_cmp}
 use Rattle.versions.specs.Map.{with_pair}
-use Rattle.bulk_ops.specs.Answers as plain
+use Rattle.bulk_work.specs.Answers as plain
 use Rattle.handles.specs.Machine.{Kind, State, live_after}
 use Rattle.handles.specs.Jobs.{live_with_answer}
 

@@ -6,8 +6,8 @@ use Rattle.std.specs.Ordering.{nat_cmp}
 use Rattle.versions.specs.Map.{Map, value_at, without}
 use Rattle.versions.specs.declared.refusal.Refusal.{Refusal}
 use Rattle.versions.specs.declared.refusal.Refusal.TheVariants.{NoHandle, Taken, Full, NoJob, Unfinished, NoWorker, TooManyJobs, JournalFull, NoMemory, BadNumber}
-use Rattle.bulk_ops.specs.Answers as plain
-use Rattle.bulk_ops.specs.declared.asks.Answer.{Answer}
+use Rattle.bulk_work.specs.Answers as plain
+use Rattle.bulk_work.specs.declared.asks.Answer.{Answer}
 use Rattle.handles.specs.Jobs.{Opened, Tells}
 use Rattle.handles.specs.Machine.{Kind, State, Request, Outcome, finish, job_at, live_after, refusal}
 use Rattle.handles.specs.Views.{Foresees, finished_outcome, machine}

@@ -3,8 +3,8 @@ use Rattle.std.proofs.Common.{◌≡◌, ℕ, ◌≤◌, length, refl, ap, arith
 use Rattle.std.specs.Ordering.{nat_cmp}
 use Rattle.versions.specs.Map.{Map, with_pair}
 use Rattle.versions.specs.Contents.{Contents}
-use Rattle.bulk_ops.specs.Answers as plain
-use Rattle.bulk_ops.specs.Summaries.{MakesFor}
+use Rattle.bulk_work.specs.Answers as plain
+use Rattle.bulk_work.specs.Summaries.{MakesFor}
 use Rattle.handles.specs.Jobs.{FitsIn, live_with_answer, live_with_made, stamps_with_made, stamps_with_target}
 
 module _ {K V I : Type 0} where

@@ -1,7 +1,7 @@
 -- What is asked of a table that is asked no query.
 use Rattle.std.specs.Prelude.{◌≡◌, ℕ, Option, None}
 use Rattle.versions.specs.Map.{Map}
-use Rattle.bulk_ops.specs.Answers.{Answer, number}
+use Rattle.bulk_work.specs.Answers.{Answer, number}
 use Rattle.handles.specs.declared.no_query.NoQuery.{NoQuery}
 
 -- no query reserves a number

@@ -4,9 +4,9 @@ use Rattle.std.specs.declared.cmp.Ordering.{Ordering}
 use Rattle.versions.specs.Map.{Map}
 use Rattle.versions.specs.declared.refusal.Refusal.{Refusal}
 use Rattle.versions.specs.declared.refusal.Refusal.TheVariants.{NoMemory}
-use Rattle.bulk_ops.specs.Answers as plain
-use Rattle.bulk_ops.specs.Summaries.{summary_of}
-use Rattle.bulk_ops.specs.declared.asks.Answer.{Answer}
+use Rattle.bulk_work.specs.Answers as plain
+use Rattle.bulk_work.specs.Summaries.{summary_of}
+use Rattle.bulk_work.specs.declared.asks.Answer.{Answer}
 pub use Rattle.held_maps.specs.Commands.{command_of, lacks_memory, leaves_map, reply_of}
 use Rattle.held_maps.specs.declared.reply.Reply.{Reply}
 use Rattle.handles.specs.declared.call.Call.{Call}

@@ -2,6 +2,12 @@
 use held_maps::Command;
 
 /// A call of a table.
+///
+/// <!-- quoted from crates/example_meeting/src/meeting.rt -->
+/// ```rust
+/// map.call(rt, first, Call::Open(SHARED))?;
+/// map.call(rt, first, Call::On(SHARED, Command::Put(key, value)))?;
+/// ```
 #[derive(Debug, Drop)]
 pub enum Call<K, V> {
     /// Opens the handle, with no pairs.

@@ -7,6 +7,8 @@ use versions::NoMemory;
 
 impl<K: Drop, V: Drop> Call<K, V> {
     /// The same call, with the same key and values. It is the same of a table with any type of queries, `Q`.
+    ///
+    /// Cost: O(1), no lock. Refused: `NoMemory`, where a handle cannot be cloned.
     pub fn try_clone<Q>(&self) -> Result<Call<K, V>, NoMemory>
         ensures { IfOk result (λ copy. request_of {Q = Q} copy ≡ request_of self.now) }
     {

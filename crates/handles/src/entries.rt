@@ -15,7 +15,7 @@ pub fn is_entry(refusal: Refusal) -> bool
     )
 }
 
-/// Whether a call that has this answer is an entry.
+/// Whether a call that returns this is an entry.
 pub(crate) fn is_counted<T>(answer: &Result<T, Refusal>) -> bool
     ensures { result ≡ is_counted answer.now }
 {

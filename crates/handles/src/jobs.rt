@@ -6,7 +6,7 @@ ghost use Rattle.handles.specs.Jobs.{Opened, job_of};
 ghost use Rattle.handles.specs.Machine.{is_number};
 ghost use Rattle.versions.specs.Map.{value_at, with_pair, without};
 
-use bulk_ops::Asks;
+use bulk_work::Asks;
 use hash_path::PathKey;
 use std::alloc::Global;
 use std::marker::Model;

@@ -2,7 +2,7 @@
 ghost use Rattle.handles.specs.Laws.{AnswersAreSteps, CommandsKeepOtherHandles, ForeseenIsStep, FreezesOpenJobs, OthersKeepJobs, RefusalsKeepAll};
 ghost use Rattle.handles.specs.Views.{machine};
 
-use bulk_ops::Asks;
+use bulk_work::Asks;
 use hash_path::PathKey;
 
 /// A command on one handle leaves the maps of all other handles, so a snapshot keeps its pairs.
@@ -15,7 +15,7 @@ pub fn law_of_refusals<K: PathKey, V: Eq, Q: Asks<K, V>>()
     ensures { RefusalsKeepAll (machine K.cmp V.eq Q.target_of Q.answered) }
 {}
 
-/// What a table answers a call is the outcome of a step, unless it ran out of memory.
+/// What a call of a table returns is the outcome of a step, unless it ran out of memory.
 pub fn law_of_answers<K: PathKey, V: Eq, Q: Asks<K, V>>()
     ensures { AnswersAreSteps (machine K.cmp V.eq Q.target_of Q.answered) }
 {}

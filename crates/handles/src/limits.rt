@@ -4,6 +4,15 @@
 pub const MOST_ENTRIES: u32 = 1_048_576;
 
 /// How much a table may hold.
+///
+/// <!-- quoted from crates/example_registry/src/tables.rt -->
+/// ```rust
+/// let limits = Limits {
+///     pairs: 1_000,
+///     entries: 1_000,
+/// };
+/// let mut table = Table::new(alloc, limits)?;
+/// ```
 #[derive(Clone, Copy, Debug, PartialEq, Eq)]
 pub struct Limits {
     /// The pairs of each map, from 1 to `versions::MOST_PAIRS`.

@@ -1,14 +1,19 @@
 //! The query of a table that is asked none.
 ghost use Rattle.std.specs.Prelude.{⊤};
 
-use bulk_ops::{Answer, Asks};
+use bulk_work::{Answer, Asks};
 use combiner::Bulk;
 use hash_path::PathKey;
 use std::alloc::Global;
 use std::sync::Arc;
 use versions::{NoMemory, Version};
 
-/// The query of a table that is asked none: it looks at no pair, every map decides it, and it is answered 0.
+/// The query of a table that is asked none: it looks at no pair, every map decides it, and its answer is 0.
+///
+/// <!-- quoted from crates/example_index/src/indexer.rt -->
+/// ```rust
+/// type Index<J> = SharedMap<ByteText, u64, NoQuery, J>;
+/// ```
 #[derive(Drop)]
 pub struct NoQuery;
 

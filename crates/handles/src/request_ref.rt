@@ -3,7 +3,7 @@ ghost use Rattle.std.specs.Prelude.{◌≡◌};
 ghost use Rattle.handles.specs.Machine.{is_freeze, job_of, needs_room, source, wanted};
 ghost use Rattle.handles.specs.Views.{machine, requested};
 
-use bulk_ops::Asks;
+use bulk_work::Asks;
 use hash_path::PathKey;
 use held_maps::Command;
 

@@ -1,7 +1,7 @@
 //! The table of handles.
 ghost use Rattle.std.specs.Prelude.{◌≡◌, ◌+◌, ◌<◌, ◌≤◌, ◌*◌, ◌^◌, IfOk, IfSome, OnErr, Some, option_map, if◌then◌else◌, false, true};
-ghost use Rattle.bulk_ops.specs.Answers as plain;
-ghost use Rattle.bulk_ops.specs.Summaries.{summary_of};
+ghost use Rattle.bulk_work.specs.Answers as plain;
+ghost use Rattle.bulk_work.specs.Summaries.{summary_of};
 ghost use Rattle.handles.specs.Handles.{IsKept, live_from, maps_in};
 ghost use Rattle.handles.specs.Machine.{IsRunOfSome, Job, Run, abandon, drop_handle, finish, freeze, job_at, let_go, nothing, on, open_handle, snapshot, view};
 ghost use Rattle.handles.specs.Views.{AnswersWithoutMemory, IsDue, IsStep, call_outcome, command_of, finished_outcome, frozen_outcome, is_counted, lacks_memory, machine, outcomes_of, reply_outcome, request_of, requests_of, unit_outcome, view_outcome};
@@ -13,7 +13,7 @@ use crate::jobs::Jobs;
 use crate::limits::{Limits, MOST_ENTRIES};
 use crate::no_query::NoQuery;
 use crate::request_ref::RequestRef;
-use bulk_ops::{Answer, Asks};
+use bulk_work::{Answer, Asks};
 use hash_path::PathKey;
 use held_maps::{Command, Places, Reply};
 use std::alloc::Global;
@@ -29,17 +29,27 @@ mod refusals;
 
 use ends::{close_job, open_job};
 
-/// Maps under handle numbers from 0 to 1023, and up to 64 open jobs.
+/// Maps under handle numbers from 0 to 1023, and up to 64 open jobs. It has one owner, and takes no lock.
+///
+/// <!-- quoted from crates/example_registry/src/tables.rt -->
+/// ```rust
+/// table.open(alloc, LIVE)?;
+/// let put = Command::Put(Arc::try_clone(billing)?, at(alloc, "10.0.0.9", 8443)?);
+/// table.call(alloc, LIVE, put)?;
+/// table.snapshot(LIVE, AUDIT)?;
+/// ```
 ///
 /// A job asks a query of a handle's map as it stood at its freeze: `freeze` opens the job and shows the map, the query
 /// is worked over that, and `finish` closes the job by the part that was worked. A query may reserve the number of a
 /// handle that is not live, its target: `finish` opens it with the map that the part made.
 ///
 /// Each call but `entries` and `places` is one step of the machine. Where several refusals are due, the first of this
-/// order is the answer: `JournalFull`, `BadNumber`, `NoHandle`, `NoJob`, `Taken`, `TooManyJobs`, `Full`. A refusal that
+/// order is returned: `JournalFull`, `BadNumber`, `NoHandle`, `NoJob`, `Taken`, `TooManyJobs`, `Full`. A refusal that
 /// is due is returned even if memory runs out. After any refusal all handles and jobs are as before. Each call is one
 /// entry of the journal, unless it is refused as `NoJob`, `JournalFull` or `NoMemory`. The journal keeps room for the
 /// ends of the open jobs.
+///
+/// n is the number of pairs of the handle's map, and O(log n) the way down its trie.
 #[derive(Drop)]
 pub struct Table<K: PathKey, V, Q: Asks<K, V> = NoQuery> {
     limits: Limits,
@@ -62,6 +72,8 @@ impl<K: PathKey, V, Q: Asks<K, V>> Model for Table<K, V, Q> {
 
 impl<K: PathKey + Drop, V: Eq + Drop, Q: Asks<K, V> + Drop> Table<K, V, Q> {
     /// A table with no handles and no entries.
+    ///
+    /// Cost: O(1), no lock. Refused: `NoMemory`, if memory runs out.
     pub fn new(alloc: Global, limits: Limits) -> Result<Table<K, V, Q>, NoMemory>
         requires least_pairs { 1 ≤ limits.pairs }
         requires most_pairs { limits.pairs ≤ MOST_PAIRS }
@@ -77,24 +89,30 @@ impl<K: PathKey + Drop, V: Eq + Drop, Q: Asks<K, V> + Drop> Table<K, V, Q> {
         })
     }
 
-    /// How much the table may hold. It takes no memory.
+    /// How much the table may hold.
+    ///
+    /// Cost: O(1), no lock. Refused: never.
     pub fn limits(&self) -> Limits
         ensures { result ≡ self.now.limits }
     {
         self.limits
     }
 
-    /// How many entries were made. It takes no memory.
+    /// How many entries were made.
+    ///
+    /// Cost: O(1), no lock. Refused: never.
     pub fn entries(&self) -> u32
         ensures { result ≡ self.now.entries }
     {
         self.entries
     }
 
-    /// The place of each handle number, with the version of its map where it is live. It makes no entry and takes no
-    /// memory.
+    /// The place of each handle number, with the version of its map where it is live. It makes no entry.
     ///
-    /// The versions have the table's limit on pairs. Each has a stamp that was issued, and no two have the same.
+    /// The versions have the table's limit on pairs. Each has a stamp of at most twice the number of entries, and no two
+    /// have the same.
+    ///
+    /// Cost: O(1), no lock. Refused: never.
     pub fn places(&self) -> &[Option<Version<K, V>>]
         ensures live { live_from 0 (maps_in result.now) ≡ self.now.live }
         ensures kept { IsKept self.now.limits.pairs (2 * self.now.entries) result.now }
@@ -103,9 +121,10 @@ impl<K: PathKey + Drop, V: Eq + Drop, Q: Asks<K, V> + Drop> Table<K, V, Q> {
     }
 
     /// The map that the call would release: that of a live handle which it drops or clears. Where the view is kept
-    /// until the call was made, the nodes of the map are freed with the view, and not by the call.
+    /// until the call was made, the nodes of the map are freed with the view, and not by the call. It is none too where
+    /// the clone of a handle is refused.
     ///
-    /// It makes no entry and no request for memory. It is none too where the clone of a handle is refused.
+    /// Cost: O(1), no lock; it makes no entry and no request for memory. Refused: never.
     pub fn discarded_map(&self, call: &Call<K, V>) -> Option<View<K, V>>
         ensures { IfSome result (λ map. let_go self.now (request_of call.now) ≡ Some map) }
     {
@@ -117,8 +136,9 @@ impl<K: PathKey + Drop, V: Eq + Drop, Q: Asks<K, V> + Drop> Table<K, V, Q> {
         }
     }
 
-    /// The query of the open job of the number, and the map that its freeze recorded. It makes no entry and takes no
-    /// memory.
+    /// The query of the open job of the number, and the map that its freeze recorded. It makes no entry.
+    ///
+    /// Cost: O(1), no lock: at most 64 jobs are looked at. Refused: never.
     pub fn open_job(&self, job: u64) -> Option<(&Q, &View<K, V>)>
         ensures { option_map (λ x. record { query = x.0.now; frozen = x.1.now }) result ≡ job_at self.now job }
     {
@@ -130,7 +150,7 @@ impl<K: PathKey + Drop, V: Eq + Drop, Q: Asks<K, V> + Drop> Table<K, V, Q> {
 
     /// Opens the handle, with no pairs.
     ///
-    /// It is refused as `JournalFull`, `BadNumber`, `Taken` or `NoMemory`.
+    /// Cost: O(1), no lock. Refused: `JournalFull`, `BadNumber`, `Taken`; `NoMemory`, if memory runs out.
     pub fn open(&mut self, alloc: Global, handle: u32) -> Result<(), Refusal>
         ensures step { IsStep (machine K.cmp V.eq Q.target_of Q.answered) self.old (open_handle handle) unit_outcome result self.new }
         ensures due { IsDue (machine K.cmp V.eq Q.target_of Q.answered) self.old (open_handle handle) result }
@@ -141,9 +161,10 @@ impl<K: PathKey + Drop, V: Eq + Drop, Q: Asks<K, V> + Drop> Table<K, V, Q> {
         }
     }
 
-    /// Opens the handle `to`, with the pairs of the other handle. It makes no request for memory.
+    /// Opens the handle `to`, with the pairs of the other handle.
     ///
-    /// It is refused as `JournalFull`, `BadNumber`, `NoHandle`, `Taken` or `NoMemory`.
+    /// Cost: O(1), no lock and no request for memory. Refused: `JournalFull`, `BadNumber`, `NoHandle`, `Taken`;
+    /// `NoMemory`, where a handle on the map cannot be cloned.
     pub fn snapshot(&mut self, handle: u32, to: u32) -> Result<(), Refusal>
         ensures step { IsStep (machine K.cmp V.eq Q.target_of Q.answered) self.old (snapshot handle to) unit_outcome result self.new }
         ensures due { IsDue (machine K.cmp V.eq Q.target_of Q.answered) self.old (snapshot handle to) result }
@@ -154,9 +175,10 @@ impl<K: PathKey + Drop, V: Eq + Drop, Q: Asks<K, V> + Drop> Table<K, V, Q> {
         }
     }
 
-    /// The map of the handle as it stands now, which no later call changes. It makes no request for memory.
+    /// The map of the handle as it stands now, which no later call changes.
     ///
-    /// It is refused as `JournalFull`, `BadNumber`, `NoHandle` or `NoMemory`.
+    /// Cost: O(1), no lock and no request for memory. Refused: `JournalFull`, `BadNumber`, `NoHandle`; `NoMemory`,
+    /// where a handle on the map cannot be cloned.
     pub fn view(&mut self, handle: u32) -> Result<View<K, V>, Refusal>
         ensures step { IsStep (machine K.cmp V.eq Q.target_of Q.answered) self.old (view handle) view_outcome result self.new }
         ensures due { IsDue (machine K.cmp V.eq Q.target_of Q.answered) self.old (view handle) result }
@@ -168,9 +190,11 @@ impl<K: PathKey + Drop, V: Eq + Drop, Q: Asks<K, V> + Drop> Table<K, V, Q> {
         counted(&mut self.entries, answer)
     }
 
-    /// Makes the command on the handle. `Get` makes no request for memory, and `Size` is never `NoMemory`.
+    /// Makes the command on the handle.
     ///
-    /// It is refused as `JournalFull`, `BadNumber`, `NoHandle`, `Full` or `NoMemory`.
+    /// Cost: O(log n), no lock; `Get` makes no request for memory, `Size` takes O(1), and `Clear` O(1) and what the
+    /// drops take. Refused: `JournalFull`, `BadNumber`, `NoHandle`, `Full`; `NoMemory`, if memory runs out, but never
+    /// of `Size`.
     pub fn call(
         &mut self,
         alloc: Global,
@@ -182,14 +206,18 @@ impl<K: PathKey + Drop, V: Eq + Drop, Q: Asks<K, V> + Drop> Table<K, V, Q> {
         ensures due { IsDue (machine K.cmp V.eq Q.target_of Q.answered) self.old (on handle (command_of command)) result }
     {
         match self.refusal_of(&RequestRef::On(handle, &command)) {
-            Some(refusal) => counted(&mut self.entries, Err(refusal)),
+            Some(refusal) => {
+                drop(command);
+                counted(&mut self.entries, Err(refusal))
+            }
             None => self.call_granted(alloc, handle, command),
         }
     }
 
-    /// Closes the handle: it is not live then. It takes no memory and is never `NoMemory`.
+    /// Closes the handle: it is not live then.
     ///
-    /// It is refused as `JournalFull`, `BadNumber` or `NoHandle`.
+    /// Cost: O(1), no lock; then what the drops take. Refused: `JournalFull`, `BadNumber` or `NoHandle`; never
+    /// `NoMemory`.
     pub fn drop_handle(&mut self, handle: u32) -> Result<(), Refusal>
         ensures step { IsStep (machine K.cmp V.eq Q.target_of Q.answered) self.old (drop_handle handle) unit_outcome result self.new }
         ensures memory { lacks_memory result ≡ false }
@@ -200,11 +228,11 @@ impl<K: PathKey + Drop, V: Eq + Drop, Q: Asks<K, V> + Drop> Table<K, V, Q> {
         }
     }
 
-    /// Opens a job with the query on the handle's map as it stands now, and gives the job's number and that map, which
-    /// no later call changes. Where the query has a target, the number is reserved until the job is closed. It makes no
-    /// request for memory.
+    /// Opens a job with the query on the handle's map as it stands now, and returns the job's number and that map,
+    /// which no later call changes. Where the query has a target, the number is reserved until the job is closed.
     ///
-    /// It is refused as `JournalFull`, `BadNumber`, `NoHandle`, `Taken`, `TooManyJobs` or `NoMemory`.
+    /// Cost: O(1), no lock and no request for memory. Refused: `JournalFull`, `BadNumber`, `NoHandle`, `Taken`,
+    /// `TooManyJobs`; `NoMemory`, where a handle on the map cannot be cloned.
     pub fn freeze(&mut self, handle: u32, query: Arc<Q>) -> Result<(u64, View<K, V>), Refusal>
         ensures step { IsStep (machine K.cmp V.eq Q.target_of Q.answered) self.old (freeze handle query.value) frozen_outcome result self.new }
         ensures due { IsDue (machine K.cmp V.eq Q.target_of Q.answered) self.old (freeze handle query.value) result }
@@ -217,10 +245,11 @@ impl<K: PathKey + Drop, V: Eq + Drop, Q: Asks<K, V> + Drop> Table<K, V, Q> {
     }
 
     /// Closes the job by the part's answer, and opens its target, if it has one, with the map that the part made. The
-    /// part has to answer the job's query for its frozen map; it is dropped where no such job is open. The
-    /// answer follows from the part alone. It takes no memory and is never `NoMemory`.
+    /// part has to answer the job's query for its frozen map; it is dropped where no such job is open. The answer
+    /// follows from the part alone.
     ///
-    /// It is refused as `NoJob`.
+    /// Cost: O(1), no lock, and what `conclude` of the query takes. Refused: `NoJob`, where no such job is open; never
+    /// `NoMemory`.
     pub fn finish(&mut self, job: u64, part: Q::Part) -> Result<Answer<K, V, Q::Item>, Refusal>
         requires { (j : Job K V Q) → job_at self.old job ≡ Some j → Q.answers j.query j.frozen part }
         ensures step { IsStep (machine K.cmp V.eq Q.target_of Q.answered) self.old (finish job) finished_outcome result self.new }
@@ -234,9 +263,9 @@ impl<K: PathKey + Drop, V: Eq + Drop, Q: Asks<K, V> + Drop> Table<K, V, Q> {
         counted(&mut self.entries, answer)
     }
 
-    /// Closes the job without an answer; its target stays not live. It takes no memory and is never `NoMemory`.
+    /// Closes the job without an answer; its target stays not live.
     ///
-    /// It is refused as `NoJob`.
+    /// Cost: O(1), no lock. Refused: `NoJob`, where no such job is open; never `NoMemory`.
     pub fn abandon(&mut self, job: u64) -> Result<(), Refusal>
         ensures step { IsStep (machine K.cmp V.eq Q.target_of Q.answered) self.old (abandon job) unit_outcome result self.new }
         ensures memory { lacks_memory result ≡ false }
@@ -252,6 +281,8 @@ impl<K: PathKey + Drop, V: Eq + Drop, Q: Asks<K, V> + Drop> Table<K, V, Q> {
     }
 
     /// Makes the call, as `open`, `snapshot`, `drop_handle` and `call` do.
+    ///
+    /// Cost: O(log n) at most, no lock. Refused: as these.
     pub fn serve(&mut self, alloc: Global, call: Call<K, V>) -> Result<CallReply<V>, Refusal>
         ensures step { IsStep (machine K.cmp V.eq Q.target_of Q.answered) self.old (request_of call) call_outcome result self.new }
         ensures memory { AnswersWithoutMemory (machine K.cmp V.eq Q.target_of Q.answered) (request_of call) result }
@@ -277,9 +308,10 @@ impl<K: PathKey + Drop, V: Eq + Drop, Q: Asks<K, V> + Drop> Table<K, V, Q> {
         }
     }
 
-    /// Makes the calls in order, and answers what each was answered. The answers are those of a run of the machine.
+    /// Makes the calls in order, and returns what each returned. These are the outcomes of a run of the machine.
     ///
-    /// Where memory is refused, a first part of the calls was made, as a run, and their answers are lost.
+    /// Cost: O(k log n) for k calls, no lock. Refused: `NoMemory`, if memory runs out: a first part of the calls was
+    /// then made, as a run, and what they returned is lost.
     pub fn run(
         &mut self,
         alloc: Global,
@@ -301,7 +333,7 @@ impl<K: PathKey + Drop, V: Eq + Drop, Q: Asks<K, V> + Drop> Table<K, V, Q> {
     }
 }
 
-// Counts the entry that a call makes which is answered so.
+// Counts the entry that a call makes which returns this.
 fn counted<T>(entries: &mut u32, answer: Result<T, Refusal>) -> Result<T, Refusal>
     requires { is_counted answer ≡ true → entries.old + 1 < 2 ^ 32 }
     ensures count { entries.new ≡ (if is_counted answer then entries.old + 1 else entries.old) }

@@ -6,7 +6,15 @@ use crate::word::Path;
 
 /// A key of a trie map: it has an order and a path word.
 ///
-/// Keys that compare equal are one value to contracts, and so have one path word.
+/// <!-- quoted from crates/example_keys/src/visit.rt -->
+/// ```rust
+/// fn path(&self) -> Path {
+///     Path::fnv1a([self.page.to_le_bytes(), self.hour.to_le_bytes()].as_flattened())
+/// }
+/// ```
+///
+/// Keys that compare equal are one value to contracts, and so have one path word. A map that threads share calls `path`
+/// and `cmp` under its locks, so they must not call the map.
 pub trait PathKey: Ord {
     /// The number of the key's path word.
     ghost path_of: { Self → ℕ };

@@ -9,8 +9,16 @@ use std::sync::Arc;
 
 /// What a key is looked up by: a reference to a key, or what a key type lets stand for one.
 ///
-/// As `Borrow` does for the maps of the standard library, it spares the caller making a key in order
-/// to look it up. What stands for a key has the key's path word and its order.
+/// <!-- quoted from crates/tests_trie_map/src/tests/texts.rt -->
+/// ```rust
+/// fn got<R: Wait>(rt: &R, map: &TrieMap<ByteText, u64>, text: &str) -> Result<Option<u64>, NoMemory> {
+///     Ok(map.get(rt, text)?.map(|value| *value))
+/// }
+/// ```
+///
+/// As `Borrow` does for the maps of the standard library, it spares the caller making a key in order to look it up.
+/// What stands for a key has the key's path word and its order. A map that threads share calls `compare_with` under its
+/// locks, so it must not call the map.
 pub trait Sought<K: PathKey>: Copy {
     /// The key that it stands for.
     ghost key_of: { Self → K };

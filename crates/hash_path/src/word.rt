@@ -26,14 +26,23 @@ const OFFSET_BASIS: Word = 0xcbf2_9ce4_8422_2325;
 const PRIME: Word = 0x0000_0100_0000_01b3;
 
 /// The path word of a key.
+///
+/// <!-- quoted from crates/hash_path/src/compound.rt -->
+/// ```rust
+/// let Path(first) = self.0.path();
+/// let Path(second) = self.1.path();
+/// Path::fnv1a([first.to_le_bytes(), second.to_le_bytes()].as_flattened())
+/// ```
 #[derive(Clone, Copy, Debug, PartialEq, Eq)]
 pub struct Path(pub Word);
 
 impl Path {
-    /// The digit by which a branch at `level` picks its child, below the fan-out; the last has fewer bits.
-    /// The levels are those of the word's digits, and the root is at level 0.
+    /// The digit by which a branch at `level` picks its child, below the fan-out; the last has fewer bits. The levels
+    /// are those of the word's digits, and the root is at level 0.
     ///
     /// After the hash trie of "Concurrent Tries with Efficient Non-Blocking Snapshots" (2012).
+    ///
+    /// Cost: O(1), no lock. Refused: never.
     pub fn digit(self, level: u32) -> u32
         requires { level ≤ last_level }
         ensures value { result ≡ digit self.0 level }
@@ -42,7 +51,10 @@ impl Path {
         ((self.0 >> (DIGIT_BITS * level)) & Word::from(FAN_OUT - 1)) as u32
     }
 
-    /// The word's place in the order of a walk: its digits, with digit 0 as the most significant.
+    /// The word's place in the order of a walk: its digits, with digit 0 as the most significant. It is another number
+    /// than the word.
+    ///
+    /// Cost: O(1), no lock. Refused: never.
     pub fn position(self) -> Word
         ensures { result ≡ position self.0 }
     {
@@ -50,6 +62,8 @@ impl Path {
     }
 
     /// The path word of a byte text: its FNV-1a hash, as Fowler, Noll and Vo publish it.
+    ///
+    /// Cost: O(k) for k bytes, no lock. Refused: never.
     pub fn fnv1a(bytes: &[u8]) -> Path
         ensures { result.0 ≡ fnv1a bytes.now }
     {

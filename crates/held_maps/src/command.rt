@@ -18,23 +18,29 @@ mod copying;
 mod foresight;
 
 /// A command on one map, with the meaning that Scala's `concurrent.Map` gives it.
+///
+/// <!-- quoted from crates/example_index/src/indexer.rt -->
+/// ```rust
+/// let put = Command::PutIfAbsent(word, Arc::new(alloc, document)?);
+/// let reply = map.call(rt, seat, Call::On(INDEX, put))?;
+/// ```
 #[derive(Debug, Drop)]
 pub enum Command<K, V> {
-    /// Answers the value of the key.
+    /// Returns the value of the key.
     Get(Arc<K>),
-    /// Maps the key to the value, and answers the value before.
+    /// Maps the key to the value, and returns the value before.
     Put(Arc<K>, Arc<V>),
-    /// Maps the key to the value where the key is absent, and answers the value before.
+    /// Maps the key to the value where the key is absent, and returns the value before.
     PutIfAbsent(Arc<K>, Arc<V>),
-    /// Maps the key to the value where the key is present, and answers the value before.
+    /// Maps the key to the value where the key is present, and returns the value before.
     Replace(Arc<K>, Arc<V>),
-    /// Maps the key to the second value where it is mapped to one equal to the first, and answers whether it was.
+    /// Maps the key to the second value where it is mapped to one equal to the first, and returns whether it was.
     ReplaceIf(Arc<K>, Arc<V>, Arc<V>),
-    /// Removes the key, and answers the value before.
+    /// Removes the key, and returns the value before.
     Remove(Arc<K>),
-    /// Removes the key where it is mapped to a value equal to this one, and answers whether it was.
+    /// Removes the key where it is mapped to a value equal to this one, and returns whether it was.
     RemoveIf(Arc<K>, Arc<V>),
-    /// Answers the number of pairs.
+    /// Returns the number of pairs.
     Size,
     /// Removes all pairs.
     Clear,
@@ -72,18 +78,40 @@ impl<K: PathKey + Drop, V: Eq + Drop> Command<K, V> {
         ensures err { OnErr result (version.new ≡ version.old) }
     {
         match self {
-            Command::Get(key) => get_from(version, &key),
+            Command::Get(key) => {
+                let reply = get_from(version, &key);
+                drop(key);
+                reply
+            }
             Command::Put(key, value) => Ok(Reply::Old(put(version, alloc, key, value)?)),
             Command::PutIfAbsent(key, value) => {
                 Ok(Reply::Old(put_if_absent(version, alloc, key, value)?))
             }
             Command::Replace(key, value) => Ok(Reply::Old(replace(version, alloc, key, value)?)),
             Command::ReplaceIf(key, old, value) => {
-                Ok(Reply::Done(replace_if(version, alloc, key, &old, value)?))
+                let done = replace_if(version, alloc, key, &old, value);
+                drop(old);
+                match done {
+                    Ok(done) => Ok(Reply::Done(done)),
+                    Err(refusal) => Err(refusal),
+                }
             }
-            Command::Remove(key) => Ok(Reply::Old(remove(version, alloc, &key)?)),
+            Command::Remove(key) => {
+                let old = remove(version, alloc, &key);
+                drop(key);
+                match old {
+                    Ok(old) => Ok(Reply::Old(old)),
+                    Err(refusal) => Err(refusal),
+                }
+            }
             Command::RemoveIf(key, value) => {
-                Ok(Reply::Done(remove_if(version, alloc, &key, &value)?))
+                let done = remove_if(version, alloc, &key, &value);
+                drop(key);
+                drop(value);
+                match done {
+                    Ok(done) => Ok(Reply::Done(done)),
+                    Err(refusal) => Err(refusal),
+                }
             }
             Command::Size => Ok(Reply::Size(version.len())),
             Command::Clear => {

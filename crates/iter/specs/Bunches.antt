@@ -28,6 +28,7 @@ module _ {K V : Type 0} where
   abbrev pub pairs_in : List (Node K V) → List (K × V)
   pairs_in row = flat_map (λ node. entries (tree node)) row
 
+  -- how many nodes the subtries of a row have
   abbrev pub nodes_in : List (Node K V) → ℕ
   nodes_in row = sum_by (λ node. node_count (tree node)) row
 

@@ -18,6 +18,8 @@ use trie_node::{
 use versions::{Version, View};
 
 /// A walk over all pairs of the view, in order of position and, within one position, of key.
+///
+/// Cost: O(1), no lock, and O(n) for the walk. Refused: `NoMemory`, by its contract; the code never is.
 pub fn pairs<K: PathKey, V>(alloc: Global, view: &View<K, V>) -> Result<Pairs<'_, K, V>, NoMemory>
     ensures rest { IfOk result (λ walk. walk.rest ≡ walked K.cmp K.path_of view.now) }
     ensures nodes { IfOk result (λ walk. (t : Tree K V) → IsRoot K.cmp K.path_of t → map_of K.cmp t ≡ view.now → walk.nodes ≡ node_count t) }
@@ -26,6 +28,8 @@ pub fn pairs<K: PathKey, V>(alloc: Global, view: &View<K, V>) -> Result<Pairs<'_
 }
 
 /// A walk over all pairs of a version that nobody writes meanwhile, in the same order.
+///
+/// Cost: O(1), no lock, and O(n) for the walk. Refused: `NoMemory`, by its contract; the code never is.
 pub fn pairs_of<K: PathKey + Drop, V: Drop>(
     alloc: Global,
     version: &Version<K, V>,

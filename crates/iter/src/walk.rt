@@ -1,13 +1,13 @@
 //! Walks over pairs.
 
-ghost use Rattle.std.specs.Prelude.{◌≡◌, ◌+◌, ◌<◌, ◌≤◌, ◌^◌, [], length};
-ghost use Rattle.std.specs.Iterator.{YieldsFirstBy, item_count};
+ghost use Rattle.std.specs.Prelude.{◌≡◌, ◌+◌, ◌≤◌, [], length};
+ghost use Rattle.std.specs.Iterator.{item_count};
 ghost use Rattle.hash_path.specs.Digits.{last_level};
 ghost use Rattle.trie_shape.specs.Outline.{children};
 ghost use Rattle.trie_shape.specs.Tree.{IsTrie};
 ghost use Rattle.trie_shape.specs.View.{tree};
 ghost use Rattle.iter.specs.Subtries.{children_between, nodes_of_all, pairs_of_all};
-ghost use Rattle.iter.specs.Walks.{item};
+ghost use Rattle.iter.specs.Walks.{IsStep};
 
 use crate::ahead::Ahead;
 use hash_path::PathKey;
@@ -16,8 +16,17 @@ use std::marker::Model;
 use std::sync::Arc;
 use trie_node::Node;
 
-/// The pairs that are still to come, in order of position and, within one position, of key. A step
-/// makes no request for memory.
+/// The pairs that are still to come, in order of position and, within one position, of key. A step takes amortized
+/// O(1), no lock and no memory.
+///
+/// <!-- quoted from crates/example_cache/src/ages.rt -->
+/// ```rust
+/// for (number, entry) in cache.view(rt)?.pairs() {
+///     if entry.second < second && cache.remove_if(rt, number, entry)? {
+///         removed = removed.wrapping_add(1);
+///     }
+/// }
+/// ```
 #[derive(Drop)]
 pub struct Pairs<'a, K: PathKey, V> {
     leaf: &'a [(Arc<K>, Arc<V>)],
@@ -40,8 +49,10 @@ impl<'a, K: PathKey, V> Model for Pairs<'a, K, V> {
 }
 
 impl<'a, K: PathKey, V> Pairs<'a, K, V> {
-    /// A walk over the pairs of some children of a branch that stands at a level, from one number on
-    /// and below another; `left` is how many pairs they have. It has entered the branch.
+    /// A walk over the pairs of some children of a branch that stands at a level, from one number on and below another;
+    /// `left` is how many pairs they have. It has entered the branch.
+    ///
+    /// Cost: O(1), no lock. Refused: never.
     pub fn below(
         alloc: Global,
         branch: &'a Node<K, V>,
@@ -66,14 +77,18 @@ impl<'a, K: PathKey, V> Pairs<'a, K, V> {
     }
 
     /// How many pairs are still to come.
+    ///
+    /// Cost: O(1), no lock. Refused: never.
     pub fn left(&self) -> u64
         ensures { result ≡ length self.now.rest }
     {
         self.left
     }
 
-    /// How many nodes the walk has looked into, the first branch among them from the start. At its
-    /// end it is the number of all nodes.
+    /// How many nodes the walk has looked into, the first branch among them from the start. At its end it is the number
+    /// of all nodes.
+    ///
+    /// Cost: O(1), no lock. Refused: never.
     pub fn entered(&self) -> u64
         ensures { self.now.rest ≡ [] → result ≡ self.now.nodes }
     {
@@ -81,9 +96,10 @@ impl<'a, K: PathKey, V> Pairs<'a, K, V> {
     }
 
     /// The next pair, as `next` gives it. The walk goes on to enter as many nodes in all as before.
+    ///
+    /// Cost: amortized O(1), no lock. Refused: never.
     pub fn step(&mut self) -> Option<(&'a Arc<K>, &'a Arc<V>)>
-        ensures steps { YieldsFirstBy item (λ s. s.rest) self.old result self.new }
-        ensures nodes { self.old.nodes < 2 ^ 64 → self.new.nodes ≡ self.old.nodes }
+        ensures { IsStep self.old result self.new }
     {
         if self.leaf.is_empty() {
             self.leaf = self.ahead.next_leaf()?;
@@ -98,7 +114,7 @@ impl<'a, K: PathKey, V> Pairs<'a, K, V> {
 impl<'a, K: PathKey, V> Iterator for Pairs<'a, K, V> {
     type Item = (&'a Arc<K>, &'a Arc<V>);
 
-    ghost next_gives = { YieldsFirstBy item (λ s. s.rest) };
+    ghost next_gives = { IsStep };
 
     ghost remaining = { item_count (λ s. s.rest) };
 

@@ -7,9 +7,9 @@ use Rattle.std.specs.FinMap.Entries.{find-put, find-where_key}
 use Rattle.std.specs.FinMap.{nat_cmp-IsAntisymmetric}
 use Rattle.std.proofs.lemmas.Bool.Decides.{nat_tests}
 use Rattle.boxcar.specs.Table.{Shelves, Shows}
-use Rattle.bulk_ops.specs.Answers as plain
-use Rattle.bulk_ops.specs.Summaries.{summary_of}
-use Rattle.bulk_ops.specs.declared.asks.Answer.{Answer}
+use Rattle.bulk_work.specs.Answers as plain
+use Rattle.bulk_work.specs.Summaries.{summary_of}
+use Rattle.bulk_work.specs.declared.asks.Answer.{Answer}
 use Rattle.versions.specs.Map.{Map, value_at, with_pair, without}
 use Rattle.versions.specs.Map as map
 use Rattle.versions.specs.declared.refusal.Refusal.{Refusal}

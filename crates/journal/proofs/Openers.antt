@@ -6,7 +6,7 @@ use Rattle.std.specs.Cmp.{nat_cmp_total, eq_by_cmp_equiv}
 use Rattle.std.specs.FinMap.Entries.{find-append}
 use Rattle.std.proofs.lemmas.List.{map-append}
 use Rattle.boxcar.specs.Table.{Where}
-use Rattle.bulk_ops.specs.Answers as plain
+use Rattle.bulk_work.specs.Answers as plain
 use Rattle.versions.specs.Map.{Map, value_at, without}
 use Rattle.versions.specs.Map as map
 use Rattle.versions.specs.declared.refusal.Refusal.{Refusal}

@@ -3,8 +3,8 @@ use Rattle.std.specs.Prelude.{◌≡◌, Result, Ok, Err, Some, true}
 use Rattle.std.specs.Arc.{arc_value}
 use Rattle.versions.specs.declared.refusal.Refusal.{Refusal}
 use Rattle.versions.specs.declared.refusal.Refusal.TheVariants.{NoJob, JournalFull, NoMemory}
-use Rattle.bulk_ops.specs.Answers as plain
-use Rattle.bulk_ops.specs.Summaries.{summary_of}
+use Rattle.bulk_work.specs.Answers as plain
+use Rattle.bulk_work.specs.Summaries.{summary_of}
 use Rattle.handles.specs.Machine.{Kind, State, Request, view, freeze, finish, abandon, Outcome, made, viewed, frozen, finished, refused, refusal, is_entry}
 use Rattle.handles.specs.Views.{request_of, call_outcome}
 use Rattle.journal.specs.declared.asked.Asked.{Asked}

@@ -18,9 +18,11 @@ is_filed worked = false
 is_filed _ = true
 
 module _ {K V Q B : Type 0} where
+  -- what was asked
   abbrev pub request_in : Entered K V Q B → Request K V Q
   request_in e = e.request
 
+  -- what was answered
   abbrev pub outcome_in : Entered K V Q B → Outcome K V B
   outcome_in e = e.outcome
 
@@ -32,6 +34,7 @@ module _ {K V Q B : Type 0} where
   abbrev pub outcomes_in : List (Entered K V Q B) → List (Outcome K V B)
   outcomes_in es = map outcome_in es
 
+  -- whether what was answered so is an entry
   abbrev pub is_filed_in : Entered K V Q B → Bool
   is_filed_in e = is_filed e.outcome
 

@@ -2,7 +2,7 @@
 use Rattle.std.specs.Prelude.{◌≡◌, ◌≢◌, ◌⊎◌, ◌==◌, Bool, true, not, ◌++◌, ◌∷◌, [], ℕ, List, length, map, Option, Some, None, is_some}
 use Rattle.std.specs.Ordering.{nat_cmp}
 use Rattle.boxcar.specs.Table.{Shelves, Where, Shows}
-use Rattle.bulk_ops.specs.Answers as plain
+use Rattle.bulk_work.specs.Answers as plain
 use Rattle.versions.specs.Map.{Map, value_at, without}
 use Rattle.handles.specs.Machine.{Kind, State, Job, Request, freeze, finish, abandon, Outcome, made, frozen, finished, job_at, Step}
 use Rattle.journal.specs.Journals.{Entered, IsLegal, is_filed}
@@ -52,6 +52,7 @@ module _ {K V Q I : Type 0} where
     pub shown : Shows t f.token
     pub opener : WasOpenedBy s f.number (entry_at f.token)
 
+  -- each of the tokens stands beside an open job
   abbrev pub AllOpen : Shelves → State K V Q → List (Frozen K V Q I) → Type 0
   AllOpen t s [] = Unit {0}
   AllOpen t s (f ∷ fs) = IsOpen t s f × AllOpen t s fs
@@ -64,6 +65,7 @@ module _ {K V Q I : Type 0} where
   abbrev pub opener_of : Frozen K V Q I → ℕ × ℕ
   opener_of f = (f.number, f.token.index)
 
+  -- the same of each
   abbrev pub openers_of : List (Frozen K V Q I) → Map ℕ ℕ
   openers_of fs = map opener_of fs
 

@@ -4,6 +4,12 @@ use handles::Call;
 use std::sync::Arc;
 
 /// What a seat asked of the table.
+///
+/// <!-- quoted from crates/example_meeting/src/report.rt -->
+/// ```rust
+/// match (entry.asked(), entry.response()) {
+///     (Asked::Call(Call::On(_, Command::Put(_, value))), _) => {
+/// ```
 #[derive(Drop)]
 pub enum Asked<K, V, Q> {
     /// That the call is made.

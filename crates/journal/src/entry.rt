@@ -8,6 +8,15 @@ use hash_path::PathKey;
 use std::marker::Model;
 
 /// An entry of a journal: the number of a seat, what it asked, and what was returned. It never changes.
+///
+/// <!-- quoted from crates/example_index/src/tour.rt -->
+/// ```rust
+/// let Some(entry) = closed.journal.entry(place) else {
+///     return added;
+/// };
+/// match (entry.asked(), entry.response()) {
+///     (Asked::View(_), _) if entry.seat() == seat => return added,
+/// ```
 #[derive(Drop)]
 pub struct Entry<K: PathKey, V, Q, I> {
     seat: u32,
@@ -16,7 +25,7 @@ pub struct Entry<K: PathKey, V, Q, I> {
 }
 
 impl<K: PathKey, V, Q, I> Model for Entry<K, V, Q, I> {
-    ghost use Rattle.bulk_ops.specs.Answers as plain;
+    ghost use Rattle.bulk_work.specs.Answers as plain;
     ghost use Rattle.journal.specs.Answers.{asked_of, response_outcome};
     ghost use Rattle.journal.specs.Journals.{Entered};
 
@@ -42,6 +51,8 @@ impl<K: PathKey, V, Q, I> Entry<K, V, Q, I> {
     }
 
     /// The number of the seat.
+    ///
+    /// Cost: O(1), no lock. Refused: never.
     pub fn seat(&self) -> u32
         ensures { result ≡ self.now.seat }
     {
@@ -49,6 +60,8 @@ impl<K: PathKey, V, Q, I> Entry<K, V, Q, I> {
     }
 
     /// What the seat asked.
+    ///
+    /// Cost: O(1), no lock. Refused: never.
     pub fn asked(&self) -> &Asked<K, V, Q>
         ensures { asked_of result.now ≡ self.now.request }
     {
@@ -56,6 +69,8 @@ impl<K: PathKey, V, Q, I> Entry<K, V, Q, I> {
     }
 
     /// What was returned to the seat.
+    ///
+    /// Cost: O(1), no lock. Refused: never.
     pub fn response(&self) -> &Response<K, V, I>
         ensures { response_outcome result.now ≡ self.now.outcome }
     {

@@ -1,24 +1,25 @@
 //! How an event is filed: what was foreseen, the entry's token, and what the event gives.
 ghost use Rattle.std.specs.Prelude.{◌≡◌, ◌<◌, Err, IfErr, IfOk, IsTrue, OnOk, Some, true, false, vec_capacity, vec_len};
 ghost use Rattle.boxcar.specs.Table.{Shows};
-ghost use Rattle.bulk_ops.specs.Answers as plain;
-ghost use Rattle.handles.specs.Machine.{Job, finish, finished, is_entry, job_at};
-ghost use Rattle.handles.specs.Views.{is_counted};
-ghost use Rattle.journal.specs.Answers.{asked_of, response_outcome};
+ghost use Rattle.bulk_work.specs.Answers as plain;
+ghost use Rattle.handles.specs.Machine.{Job, finish, finished, freeze, is_entry, job_at, view};
+ghost use Rattle.handles.specs.Views.{call_outcome, frozen_outcome, is_counted, request_of, view_outcome};
+ghost use Rattle.journal.specs.Answers.{answered, asked_of, response_outcome};
 ghost use Rattle.journal.specs.Tokens.{entry_at};
 
 use crate::asked::Asked;
 use crate::caller::Caller;
 use crate::entry::Entry;
+use crate::frozen::Frozen;
 use crate::journal_name::{Entries, Token};
-use crate::response::Response;
-use bulk_ops::Asks;
-use handles::{Table, is_entry};
+use crate::response::{Response, response_to_call, response_to_freeze, response_to_view};
+use bulk_work::Asks;
+use handles::{Call, CallReply, Table, is_entry};
 use hash_path::PathKey;
-use std::sync::Wait;
+use std::sync::{Arc, Wait};
 use versions::{NoMemory, Refusal, View};
 
-/// An event that was made and filed: the token of its entry, the entry's place in the journal, and what is answered.
+/// An event that was made and filed: the token of its entry, the entry's place in the journal, and what is returned.
 #[derive(Drop)]
 pub struct Event<K: PathKey, V, Q, I, A> {
     pub token: Token<K, V, Q, I>,
@@ -32,7 +33,7 @@ pub type Opened<K, V, Q, I> = (
     Token<K, V, Q, I>,
 );
 
-/// The answer that was foreseen, where it makes an entry.
+/// What was foreseen, where it makes an entry.
 pub(crate) fn to_be_filed<T: Drop>(
     foreseen: Result<T, Refusal>,
 ) -> Result<Result<T, Refusal>, Refusal>
@@ -54,8 +55,8 @@ pub(crate) fn to_be_filed<T: Drop>(
 /// The token of an entry, for the journal and for the seat.
 pub(crate) type Twice<K, V, Q, I> = (Token<K, V, Q, I>, Token<K, V, Q, I>);
 
-/// Places the entry of what the caller asked and was answered, and returns its token twice, with room for one in the
-/// journal.
+/// Places the entry of what the caller asked and what was returned, and returns its token twice, with room for one in
+/// the journal.
 pub(crate) fn entered<K: PathKey + Drop, V: Drop, Q: Drop, I: Drop, R: Wait>(
     rt: &R,
     entries: &Entries<K, V, Q, I>,
@@ -71,14 +72,108 @@ pub(crate) fn entered<K: PathKey + Drop, V: Drop, Q: Drop, I: Drop, R: Wait>(
     ensures entry { IfOk result (λ r. entry_at r.0 ≡ record { seat = caller.seat; request = asked_of asked; outcome = response_outcome told }) }
     ensures same { IfOk result (λ r. r.1 ≡ r.0) }
 {
-    caller.room()?;
-    journal.reserve(1)?;
-    let entry = Entry::new(caller.seat, asked, told);
-    let Ok(token) = entries.push_shown(rt, entry) else {
+    let Ok(()) = caller.room() else {
+        drop(asked);
+        drop(told);
         return Err(NoMemory);
     };
-    let again = token.again();
-    Ok((token, again))
+    let Ok(()) = journal.reserve(1) else {
+        drop(asked);
+        drop(told);
+        return Err(NoMemory);
+    };
+    let entry = Entry::new(caller.seat, asked, told);
+    match entries.push_shown(rt, entry) {
+        Ok(token) => {
+            let again = token.again();
+            Ok((token, again))
+        }
+        Err(entry) => {
+            drop(entry);
+            Err(NoMemory)
+        }
+    }
+}
+
+/// Places the entry of a call that returns this, and gives its token twice, with room for one in the journal.
+pub(crate) fn entered_call<K: PathKey + Drop, V: Drop, Q: Drop, I: Drop, R: Wait>(
+    rt: &R,
+    entries: &Entries<K, V, Q, I>,
+    journal: &mut Vec<Token<K, V, Q, I>>,
+    caller: Caller,
+    call: &Call<K, V>,
+    answer: &Result<CallReply<V>, Refusal>,
+) -> Result<Twice<K, V, Q, I>, NoMemory>
+    ensures room { OnOk result (IsTrue caller.has_room) }
+    ensures spare { OnOk result (vec_len journal.new < vec_capacity journal.new) }
+    ensures items { journal.new.items ≡ journal.old.items }
+    ensures shown { IfOk result (λ r. Shows entries.now r.0) }
+    ensures entry { IfOk result (λ r. entry_at r.0 ≡ record { seat = caller.seat; request = request_of call.now; outcome = answered call_outcome answer.now }) }
+    ensures same { IfOk result (λ r. r.1 ≡ r.0) }
+{
+    let told = response_to_call(answer)?;
+    let Ok(copy) = call.try_clone::<Q>() else {
+        drop(told);
+        return Err(NoMemory);
+    };
+    entered(rt, entries, journal, caller, Asked::Call(copy), told)
+}
+
+/// Places the entry of a view that returns this, and gives its token twice, with room for one in the journal.
+pub(crate) fn entered_view<K: PathKey + Drop, V: Drop, Q: Drop, I: Drop, R: Wait>(
+    rt: &R,
+    entries: &Entries<K, V, Q, I>,
+    journal: &mut Vec<Token<K, V, Q, I>>,
+    caller: Caller,
+    handle: u32,
+    answer: &Result<View<K, V>, Refusal>,
+) -> Result<Twice<K, V, Q, I>, NoMemory>
+    ensures room { OnOk result (IsTrue caller.has_room) }
+    ensures spare { OnOk result (vec_len journal.new < vec_capacity journal.new) }
+    ensures items { journal.new.items ≡ journal.old.items }
+    ensures shown { IfOk result (λ r. Shows entries.now r.0) }
+    ensures entry { IfOk result (λ r. entry_at r.0 ≡ record { seat = caller.seat; request = view handle; outcome = answered view_outcome answer.now }) }
+    ensures same { IfOk result (λ r. r.1 ≡ r.0) }
+{
+    let told = response_to_view(answer)?;
+    entered(rt, entries, journal, caller, Asked::View(handle), told)
+}
+
+/// Places the entry of a freeze that returns this, and gives its token twice, with room for one in the journal and
+/// beside the jobs.
+pub(crate) fn entered_freeze<K: PathKey + Drop, V: Drop, Q: Drop, I: Drop, R: Wait>(
+    rt: &R,
+    entries: &Entries<K, V, Q, I>,
+    journal: &mut Vec<Token<K, V, Q, I>>,
+    freezes: &mut Vec<Frozen<K, V, Q, I>>,
+    caller: Caller,
+    handle: u32,
+    query: &Arc<Q>,
+    answer: &Result<(u64, View<K, V>), Refusal>,
+) -> Result<Twice<K, V, Q, I>, NoMemory>
+    ensures room { OnOk result (IsTrue caller.has_room) }
+    ensures spare { OnOk result (vec_len journal.new < vec_capacity journal.new) }
+    ensures beside { OnOk result (vec_len freezes.new < vec_capacity freezes.new) }
+    ensures items { journal.new.items ≡ journal.old.items }
+    ensures freezes { freezes.new.items ≡ freezes.old.items }
+    ensures shown { IfOk result (λ r. Shows entries.now r.0) }
+    ensures entry { IfOk result (λ r. entry_at r.0 ≡ record { seat = caller.seat; request = freeze handle query.now.value; outcome = answered frozen_outcome answer.now }) }
+    ensures same { IfOk result (λ r. r.1 ≡ r.0) }
+{
+    freezes.reserve(1)?;
+    let query = Arc::try_clone(query)?;
+    let Ok(told) = response_to_freeze(answer) else {
+        drop(query);
+        return Err(NoMemory);
+    };
+    entered(
+        rt,
+        entries,
+        journal,
+        caller,
+        Asked::Freeze(handle, query),
+        told,
+    )
 }
 
 /// Places the entry of a finish by the part, and gives its token twice, with room for one in the journal.

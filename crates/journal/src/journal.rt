@@ -8,6 +8,12 @@ use hash_path::PathKey;
 use std::marker::Model;
 
 /// The journal that is left of a table: its entries, in order. It never changes.
+///
+/// <!-- quoted from crates/example_index/src/tour.rt -->
+/// ```rust
+/// for place in 0..closed.journal.len() {
+///     let Some(entry) = closed.journal.entry(place) else {
+/// ```
 #[derive(Drop)]
 pub struct Journal<K: PathKey, V, Q, I> {
     entries: Entries<K, V, Q, I>,
@@ -16,7 +22,7 @@ pub struct Journal<K: PathKey, V, Q, I> {
 
 impl<K: PathKey, V, Q, I> Model for Journal<K, V, Q, I> {
     ghost use Rattle.std.specs.Prelude.{List};
-    ghost use Rattle.bulk_ops.specs.Answers as plain;
+    ghost use Rattle.bulk_work.specs.Answers as plain;
     ghost use Rattle.journal.specs.Journals.{Entered};
     ghost use Rattle.journal.specs.Tokens.{AllShown, entries_of};
 
@@ -29,6 +35,8 @@ impl<K: PathKey, V, Q, I> Model for Journal<K, V, Q, I> {
 
 impl<K: PathKey, V, Q, I> Journal<K, V, Q, I> {
     /// The journal of the entries, in this vector, that the tokens show.
+    ///
+    /// Cost: O(1), no lock. Refused: never.
     pub fn new(entries: Entries<K, V, Q, I>, tokens: Vec<Token<K, V, Q, I>>) -> Journal<K, V, Q, I>
         requires { AllShown entries tokens.items }
         ensures { result ≡ entries_of tokens.items }
@@ -37,6 +45,8 @@ impl<K: PathKey, V, Q, I> Journal<K, V, Q, I> {
     }
 
     /// How many entries there are.
+    ///
+    /// Cost: O(1), no lock. Refused: never.
     pub fn len(&self) -> usize
         ensures { result ≡ length self.now }
     {
@@ -44,6 +54,8 @@ impl<K: PathKey, V, Q, I> Journal<K, V, Q, I> {
     }
 
     /// Whether there is no entry.
+    ///
+    /// Cost: O(1), no lock. Refused: never.
     pub fn is_empty(&self) -> bool
         ensures { IsTrue result ↔ (self.now ≡ []) }
     {
@@ -51,6 +63,8 @@ impl<K: PathKey, V, Q, I> Journal<K, V, Q, I> {
     }
 
     /// The entry at this place, counted from 0, if there is one.
+    ///
+    /// Cost: O(1), no lock. Refused: never.
     pub fn entry(&self, place: usize) -> Option<&Entry<K, V, Q, I>>
         ensures { option_map (λ entry. entry.now) result ≡ slice_get self.now place }
     {

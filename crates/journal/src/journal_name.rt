@@ -6,6 +6,15 @@ use std::marker::Brand;
 
 /// Names one vector of entries. Tokens that are kept apart, under the lock and with the seats, are of one vector where
 /// their types have one name.
+///
+/// <!-- quoted from crates/example_index/src/indexer.rt -->
+/// ```rust
+/// fn open<J: JournalName, R: Wait>(
+///     rt: &R,
+///     map: &Index<J>,
+///     seat: &mut ClientSeat<J>,
+/// ) -> Result<(), Refusal> {
+/// ```
 pub trait JournalName {
     ghost table: { Shelves };
 }

@@ -1,8 +1,8 @@
 //! The table that keeps its journal.
 ghost use Rattle.std.specs.Prelude.{◌≡◌, ◌↔◌, ◌≤◌, ◌<◌, ◌+◌, ◌^◌, ◌⊎◌, ◌++◌, ◌∷◌, [], IfErr, IfOk, IfSome, IsErrAnd, IsTrue, MatchResult, OnErr, OnOk, Some, false, filter, vec_capacity, vec_len};
 ghost use Rattle.boxcar.specs.Table.{Shows};
-ghost use Rattle.bulk_ops.specs.Answers as plain;
-ghost use Rattle.bulk_ops.specs.Summaries.{summary_of};
+ghost use Rattle.bulk_work.specs.Answers as plain;
+ghost use Rattle.bulk_work.specs.Summaries.{summary_of};
 ghost use Rattle.handles.specs.Machine.{Job, abandon, finish, freeze, let_go, made, nothing, view};
 ghost use Rattle.handles.specs.Views.{call_outcome, finished_outcome, frozen_outcome, machine, request_of, view_outcome};
 ghost use Rattle.journal.specs.Answers.{IsUnfiled, answered};
@@ -18,7 +18,7 @@ use crate::filing::{Event, Opened, entered, entered_finish, to_be_filed};
 use crate::frozen::{Frozen, beside, close};
 use crate::journal_name::{Entries, JournalName, Token};
 use crate::response::Response;
-use bulk_ops::{Answer, Asks};
+use bulk_work::{Answer, Asks};
 use handles::{Call, CallReply, Limits, MOST_ENTRIES, Table};
 use hash_path::PathKey;
 use std::alloc::Global;
@@ -41,7 +41,7 @@ pub struct JournaledTable<K: PathKey, V: Eq, Q: Asks<K, V>, J: JournalName> {
 }
 
 impl<K: PathKey, V: Eq, Q: Asks<K, V>, J: JournalName> Model for JournaledTable<K, V, Q, J> {
-    ghost use Rattle.bulk_ops.specs.Answers as plain;
+    ghost use Rattle.bulk_work.specs.Answers as plain;
     ghost use Rattle.handles.specs.Views.{machine};
     ghost use Rattle.journal.specs.Kept.{IsKept, Standing, openers_of};
     ghost use Rattle.journal.specs.Tokens.{entries_of};

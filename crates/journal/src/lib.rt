@@ -1,7 +1,7 @@
-//! A table of maps that keeps a journal of all that was asked of it and answered.
+//! A table of maps that keeps a journal of all that was asked of it and returned.
 //!
 //! Each call is one step of the machine of handles, and one entry of the journal: who asked, what, and what was
-//! answered. The journal is legal after each: a run of that machine, which leads to the table as it stands. An entry is
+//! returned. The journal is legal after each: a run of that machine, which leads to the table as it stands. An entry is
 //! placed once in a vector that any thread may read, and a token shows where. So the journal itself is a list of
 //! tokens, and whoever asked keeps a token of each of its entries.
 #![tactic(auto)]

@@ -4,13 +4,18 @@ ghost use Rattle.handles.specs.Machine.{made};
 ghost use Rattle.handles.specs.Views.{call_outcome, frozen_outcome, reply_of, view_outcome};
 ghost use Rattle.journal.specs.Answers.{answered, response_outcome};
 
-use bulk_ops::Answer;
+use bulk_work::Answer;
 use handles::{CallReply, Reply};
 use hash_path::PathKey;
 use std::sync::Arc;
 use versions::{NoMemory, Refusal, View};
 
 /// What was returned to a seat.
+///
+/// <!-- quoted from crates/example_meeting/src/report.rt -->
+/// ```rust
+/// (Asked::Call(_), Response::Reply(CallReply::Reply(Reply::Old(Some(value))))) => {
+/// ```
 #[derive(Drop)]
 pub enum Response<K: PathKey, V, I> {
     /// The call was made, and this is its reply.
@@ -27,7 +32,7 @@ pub enum Response<K: PathKey, V, I> {
     Refused(Refusal),
 }
 
-/// The response to a call that has this answer.
+/// The response to a call that returned this.
 pub(crate) fn response_to_call<K: PathKey + Drop, V: Drop, I>(
     answer: &Result<CallReply<V>, Refusal>,
 ) -> Result<Response<K, V, I>, NoMemory>
@@ -40,7 +45,7 @@ pub(crate) fn response_to_call<K: PathKey + Drop, V: Drop, I>(
     })
 }
 
-/// The response to a view that has this answer.
+/// The response to a view that returned this.
 pub(crate) fn response_to_view<K: PathKey + Drop, V: Drop, I>(
     answer: &Result<View<K, V>, Refusal>,
 ) -> Result<Response<K, V, I>, NoMemory>
@@ -52,7 +57,7 @@ pub(crate) fn response_to_view<K: PathKey + Drop, V: Drop, I>(
     })
 }
 
-/// The response to a freeze that has this answer.
+/// The response to a freeze that returned this.
 pub(crate) fn response_to_freeze<K: PathKey + Drop, V: Drop, I>(
     answer: &Result<(u64, View<K, V>), Refusal>,
 ) -> Result<Response<K, V, I>, NoMemory>

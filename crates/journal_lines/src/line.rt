@@ -13,7 +13,7 @@ use std::alloc::{AllocError, Global};
 pub struct Line {
     /// What was asked.
     pub call: String,
-    /// What was answered.
+    /// What was returned.
     pub reply: String,
     /// The number of the seat.
     pub seat: u64,

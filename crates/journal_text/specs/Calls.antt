@@ -3,7 +3,7 @@ use Rattle.std.specs.Prelude.{ℕ, ◌<◌, ◌^◌, ◌++◌, List, [], ◌∷�
 use Rattle.std.specs.List.{join_with_byte}
 use Rattle.std.specs.Fmt.{decimal}
 use Rattle.handles.specs.Machine.{open_handle, snapshot, drop_handle, on, view, freeze, finish, abandon, worker_step, finished, frozen}
-use Rattle.bulk_ops.specs.Answers as plain
+use Rattle.bulk_work.specs.Answers as plain
 use Rattle.script.specs.declared.reply.LineReply.{LineReply}
 use Rattle.script.specs.declared.reply.LineReply.TheVariants as replies
 use Rattle.script.specs.declared.statement.Statement.TheVariants.{Open, Snap, Drop}

@@ -1,14 +1,14 @@
-//! The text of what is answered.
+//! The text of what is returned.
 
 ghost use Rattle.std.specs.Prelude.{◌≡◌, ◌++◌, IfOk, OnOk};
-ghost use Rattle.bulk_ops.specs.Summaries.{summary_of};
+ghost use Rattle.bulk_work.specs.Summaries.{summary_of};
 ghost use Rattle.handles.specs.Machine.{finished};
 ghost use Rattle.script.specs.Replies.{text_of};
 ghost use Rattle.journal.specs.Answers.{response_outcome};
 ghost use Rattle.journal_text.specs.Calls.{outcome_text};
 
 use arguments::MapKey;
-use bulk_ops::Answer;
+use bulk_work::Answer;
 use journal::Response;
 use keys::ByteText;
 use questions::{listing_of, reply_shown};
@@ -18,10 +18,10 @@ use std::io::Write;
 use std::sync::Arc;
 use versions::NoMemory;
 
-/// What the table of a program answers.
+/// What the table of a program returns.
 pub type ProgramResponse = Response<ByteText, i64, Option<i128>>;
 
-/// Appends the text of what is answered.
+/// Appends the text of what is returned.
 pub fn push_response(
     alloc: Global,
     out: &mut Vec<u8>,

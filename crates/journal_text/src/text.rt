@@ -41,7 +41,7 @@ pub fn journal_text(alloc: Global, journal: &ProgramJournal) -> Result<Vec<u8>, 
     Ok(text)
 }
 
-/// Appends the line of the entry of this number. What it asked and was answered is written as text.
+/// Appends the line of the entry of this number. What it asked and what was returned is written as text.
 fn push_entry(
     alloc: Global,
     text: &mut Vec<u8>,

@@ -35,9 +35,28 @@ fn byte_text_is_shown_as_text(rt: HostRuntime) -> Result<(), Fail> {
     assert_eq!(rt; format!(in rt.alloc(); "{plain}")?.as_str(), "h\u{e9}llo");
     let odd = ByteText::from_slice(rt.alloc(), b"a\xffb")?;
     assert!(rt; odd.as_str().is_none());
-    assert_eq!(rt; format!(in rt.alloc(); "{odd}")?.as_str(), "a\u{fffd}b");
     assert!(rt; odd.try_clone(rt.alloc())? == odd);
     assert!(rt; odd != plain);
+    Ok(())
+}
+
+/// One U+FFFD stands for each sequence that is none, and for the longest that begins one: two texts of the Unicode
+/// Standard 15, its tables 3-8 and 3-11.
+#[test]
+fn bytes_that_are_no_text_are_shown_as_the_standard_has_it(rt: HostRuntime) -> Result<(), Fail> {
+    for (bytes, shown) in [
+        (
+            b"\xc0\xaf\xe0\x80\xbf\xf0\x81\x82A".as_slice(),
+            "\u{fffd}\u{fffd}\u{fffd}\u{fffd}\u{fffd}\u{fffd}\u{fffd}\u{fffd}A",
+        ),
+        (
+            b"\xe1\x80\xe2\xf0\x91\x92\xf1\xbfA".as_slice(),
+            "\u{fffd}\u{fffd}\u{fffd}\u{fffd}A",
+        ),
+    ] {
+        let text = ByteText::from_slice(rt.alloc(), bytes)?;
+        assert_eq!(rt; format!(in rt.alloc(); "{text}")?.as_str(), shown);
+    }
     Ok(())
 }
 

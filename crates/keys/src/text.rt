@@ -12,9 +12,14 @@ use std::{fmt, str};
 
 /// A key of any bytes, in the order of a dictionary. Its path word is the FNV-1a hash of the bytes.
 ///
-/// Up to `MOST_IN_PLACE` bytes lie in the key itself, and more in memory of their own.
+/// <!-- quoted from crates/keys/src/tests.rt -->
+/// ```rust
+/// let plain = ByteText::from_text(rt.alloc(), "h\u{e9}llo")?;
+/// assert_eq!(rt; plain.as_str(), Some("h\u{e9}llo"));
+/// ```
 ///
-/// Contracts see it as the list of its bytes.
+/// Up to `MOST_IN_PLACE` bytes lie in the key itself, and more in memory of their own. Contracts see it as the list of
+/// its bytes.
 #[derive(Drop)]
 pub struct ByteText {
     bytes: Bytes,
@@ -40,7 +45,9 @@ impl Model for ByteText {
 }
 
 impl ByteText {
-    /// The key that has these bytes: in place where there are so few, and else where they are. It requests no memory.
+    /// The key that has these bytes: in place where there are so few, and else where they are.
+    ///
+    /// Cost: O(1), no lock and no request for memory. Refused: never.
     pub fn new(bytes: Vec<u8>) -> ByteText
         ensures { result ≡ bytes.items }
     {
@@ -54,11 +61,9 @@ impl ByteText {
         }
     }
 
-    /// The key that has a copy of these bytes.
+    /// The key that has a copy of these bytes. No memory is requested where they lie in place.
     ///
-    /// # Errors
-    ///
-    /// Memory for the copy was refused. None is requested where the bytes lie in place.
+    /// Cost: O(k) for k bytes, no lock. Refused: by `AllocError`, if memory runs out.
     pub fn from_slice(alloc: Global, bytes: &[u8]) -> Result<ByteText, AllocError>
         ensures bytes { IfOk result (λ key. key ≡ bytes.now) }
         ensures in_place { length bytes.now ≤ MOST_IN_PLACE → IsOk result }
@@ -73,11 +78,9 @@ impl ByteText {
         })
     }
 
-    /// The key that has a copy of this text's bytes.
+    /// The key that has a copy of this text's bytes. No memory is requested where they lie in place.
     ///
-    /// # Errors
-    ///
-    /// Memory for the copy was refused. None is requested where the bytes lie in place.
+    /// Cost: O(k) for k bytes, no lock. Refused: by `AllocError`, if memory runs out.
     pub fn from_text(alloc: Global, text: &str) -> Result<ByteText, AllocError>
         ensures bytes { IfOk result (λ key. key ≡ text.now) }
         ensures in_place { length text.now ≤ MOST_IN_PLACE → IsOk result }
@@ -86,6 +89,8 @@ impl ByteText {
     }
 
     /// The key's bytes.
+    ///
+    /// Cost: O(1), no lock. Refused: never.
     pub fn as_bytes(&self) -> &[u8]
         ensures { result.now ≡ self.now }
     {
@@ -96,17 +101,17 @@ impl ByteText {
     }
 
     /// The key's bytes as a text, or none if they are not UTF-8.
+    ///
+    /// Cost: O(k) for k bytes, no lock. Refused: never.
     pub fn as_str(&self) -> Option<&str>
         ensures { MatchOption result (¬ (IsUtf8 self.now)) (λ text. (text.now ≡ self.now) × IsUtf8 self.now) }
     {
         str::from_utf8(self.as_bytes()).ok()
     }
 
-    /// The key that has a copy of this one's bytes.
+    /// The key that has a copy of this one's bytes. No memory is requested where they lie in place.
     ///
-    /// # Errors
-    ///
-    /// Memory for the copy was refused. None is requested where the bytes lie in place.
+    /// Cost: O(k) for k bytes, no lock. Refused: by `AllocError`, if memory runs out.
     pub fn try_clone(&self, alloc: Global) -> Result<ByteText, AllocError>
         ensures bytes { IfOk result (λ key. key ≡ self.now) }
         ensures in_place { length self.now ≤ MOST_IN_PLACE → IsOk result }

@@ -4,7 +4,7 @@ use Rattle.std.specs.Prelude.{Some, is_some}
 use Rattle.std.proofs.lemmas.List.{map-append}
 use Rattle.std.proofs.lemmas.List.Elements.{All-push}
 use Rattle.boxcar.specs.Table.{Shelves, Shows}
-use Rattle.bulk_ops.specs.Answers as plain
+use Rattle.bulk_work.specs.Answers as plain
 use Rattle.versions.specs.declared.refusal.Refusal.{Refusal}
 use Rattle.versions.specs.declared.refusal.Refusal.TheVariants.{NoHandle, Taken, Full, NoJob, Unfinished, NoWorker, TooManyJobs, JournalFull, NoMemory, BadNumber}
 use Rattle.handles.specs.Machine.{Kind, State, Request, job_of, Outcome, made, replied, viewed, frozen, finished, unfinished, refused, worked}

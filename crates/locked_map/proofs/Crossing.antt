@@ -8,7 +8,7 @@ use Rattle.std.specs.declared.cmp.Ord as Ord
 use Rattle.std.specs.declared.cmp.PartialEq as PartialEq
 use Rattle.std.specs.declared.cmp.PartialOrd as PartialOrd
 use Rattle.hash_path.specs.declared.key.PathKey as PathKey
-use Rattle.bulk_ops.specs.declared.asks.Asks as Asks
+use Rattle.bulk_work.specs.declared.asks.Asks as Asks
 use Rattle.combiner.specs.declared.bulk.Bulk as Bulk
 use Rattle.journal.specs.declared.journal_name.JournalName as JournalName
 use Rattle.journal.proofs.Crossing.{entry_send, entry_sync, journaled_send}

@@ -4,7 +4,7 @@ use Rattle.std.proofs.lemmas.List.{map-append, append-nil, length-map, length-ta
 use Rattle.std.proofs.Math.Seq.{take-suc}
 use Rattle.std.proofs.lemmas.Bool.Decides.{nat_tests}
 use Rattle.boxcar.specs.Table.{Shelves, Where, Shows}
-use Rattle.bulk_ops.specs.Answers as plain
+use Rattle.bulk_work.specs.Answers as plain
 use Rattle.journal.specs.Journals.{Entered, own}
 use Rattle.locked_map.specs.declared.filed.Filed.{Filed}
 use Rattle.journal.specs.Tokens.{entry_at, entries_of}

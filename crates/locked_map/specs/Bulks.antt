@@ -1,8 +1,8 @@
 -- What a bulk call adds to its seat, and what it answers.
 use Rattle.std.specs.Prelude.{◌≡◌, ◌⊎◌, ℕ, Option, Some, None, Result, Ok, Err, IfOk}
-use Rattle.bulk_ops.specs.Answers as plain
-use Rattle.bulk_ops.specs.Summaries.{summary_of}
-use Rattle.bulk_ops.specs.declared.asks.Answer.{Answer}
+use Rattle.bulk_work.specs.Answers as plain
+use Rattle.bulk_work.specs.Summaries.{summary_of}
+use Rattle.bulk_work.specs.declared.asks.Answer.{Answer}
 use Rattle.versions.specs.Map.{Map}
 use Rattle.versions.specs.declared.refusal.Refusal.{Refusal}
 use Rattle.versions.specs.declared.refusal.Refusal.TheVariants.{NoJob, NoMemory}

@@ -1,7 +1,7 @@
 -- Seats: what one has filed, and what a call adds to it.
 use Rattle.std.specs.Prelude.{◌≡◌, ℕ, ◌+◌, ◌≤◌, ◌<◌, Bool, true, false, List, [], ◌∷◌, ◌++◌, map, All, max, length, slice_index_or, Option, Some, None, IsSome}
 use Rattle.boxcar.specs.Table.{Shelves, Shows}
-use Rattle.bulk_ops.specs.Answers as plain
+use Rattle.bulk_work.specs.Answers as plain
 use Rattle.versions.specs.declared.refusal.Refusal.{Refusal}
 use Rattle.versions.specs.declared.refusal.Refusal.TheVariants.{NoJob, Unfinished, NoWorker, JournalFull, NoMemory}
 use Rattle.handles.specs.Machine.{Request, job_of, needs_room, Outcome, unfinished, refused, worked}
@@ -28,6 +28,7 @@ module _ {K V Q I : Type 0} where
   abbrev pub placed : Filed K V Q I → Placed K V Q (plain.Summary K V I)
   placed f = record { place = f.place; floor = f.floor; entry = entry_at f.token }
 
+  -- the same of all that is filed
   abbrev pub placed_all : List (Filed K V Q I) → List (Placed K V Q (plain.Summary K V I))
   placed_all fs = map placed fs
 
@@ -57,6 +58,7 @@ module _ {K V Q B : Type 0} where
   abbrev pub pair : Placed K V Q B → ℕ × Entered K V Q B
   pair p = (p.place, p.entry)
 
+  -- the same of each
   abbrev pub pairs : List (Placed K V Q B) → List (ℕ × Entered K V Q B)
   pairs ps = map pair ps
 

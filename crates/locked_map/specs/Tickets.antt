@@ -1,7 +1,7 @@
 -- Tickets of open jobs.
 use Rattle.std.specs.Prelude.{◌≡◌, ℕ, Some}
 use Rattle.boxcar.specs.Table.{Shelves, Where, Shows}
-use Rattle.bulk_ops.specs.Answers as plain
+use Rattle.bulk_work.specs.Answers as plain
 use Rattle.versions.specs.Map.{Map}
 use Rattle.handles.specs.Machine.{Outcome, frozen}
 use Rattle.journal.specs.Journals.{Entered}

@@ -5,7 +5,7 @@ ghost use Rattle.locked_map.specs.Bulks.{AddsBulk};
 use crate::seat::Seat;
 use crate::shared_map::SharedMap;
 use crate::ticket::Ticket;
-use bulk_ops::{Answer, Asks};
+use bulk_work::{Answer, Asks};
 use hash_path::PathKey;
 use journal::JournalName;
 use std::alloc::Global;
@@ -22,19 +22,20 @@ where
     Q::Part: Send,
     J: JournalName,
 {
-    /// What the query is answered for the handle's map as it stands now.
+    /// The answer of the query for the handle's map as it stands now.
     ///
     /// It is a freeze and a finish of its job, each an entry of its own. Between the two a crew works the map that was
     /// frozen, and asks the gate before each piece. No lock is held meanwhile: other seats go on, and what they write
     /// does not change the answer.
     ///
-    /// It is refused with no ticket where the freeze is, and adds then what that adds. Where it is refused later, the
-    /// ticket of the job comes back, and the freeze alone stands in the journal: as `NoMemory`, where the crew or the
-    /// finish finds no memory, and as `NoJob`, where the job is closed already. The job is open after `NoMemory`:
-    /// `finish` closes it by a part of the ticket's view, which `bulk_ops::work` makes, and `abandon` closes it without
-    /// an answer.
+    /// Cost: O(n), shared out, under the lock of the table for the freeze and the finish alone. Refused: as `freeze`,
+    /// with no ticket; later `NoMemory`, where the crew or the finish finds no memory, or `NoJob`, where the job is
+    /// closed already.
     ///
-    /// The contract allows `NoMemory` whatever memory there is. Tests show that it is answered only if memory runs out.
+    /// Where it is refused later, the ticket of the job comes back, and the freeze alone stands in the journal. The job
+    /// is open after `NoMemory`: `finish` closes it by a part of the ticket's view, which `bulk_work::work` makes, and
+    /// `abandon` closes it without an answer. The contract allows `NoMemory` whatever memory there is. Tests show that
+    /// it is returned only if memory runs out.
     pub fn bulk<G: Gate + Sync, R: Threads + Wait + Sync>(
         &self,
         rt: &R,

@@ -10,7 +10,7 @@ use crate::closed::Closed;
 use crate::lending::{MOST_SEATS, closed_under};
 use crate::seat::Seat;
 use crate::shared_map::SharedMap;
-use bulk_ops::Asks;
+use bulk_work::Asks;
 use handles::{Limits, MOST_ENTRIES};
 use hash_path::PathKey;
 use journal::{Entries, JournalName};
@@ -28,19 +28,25 @@ use versions::{MOST_PAIRS, NoMemory};
 /// client does.
 pub const CLIENT_STACK: usize = 512 * 1024;
 
-/// What one client does with a map, whichever map it is.
+/// What one client does with a map, whichever map it is. Clients of several kinds are the variants of one enum.
 ///
-/// Clients of several kinds are the variants of one enum.
+/// <!-- quoted from crates/example_index/src/indexer.rt -->
+/// ```rust
+/// match self {
+///     Indexer::Writes { document, words } => write(rt, alloc, map, seat, document, words),
+///     Indexer::Counts => count(rt, map, seat),
+/// }
+/// ```
 pub trait Client<K: PathKey, V: Eq, Q: Asks<K, V>> {
-    ghost use Rattle.bulk_ops.specs.Answers as plain;
+    ghost use Rattle.bulk_work.specs.Answers as plain;
 
-    /// What it comes to.
+    /// What it returns.
     type Out;
 
     /// What it asks of its caller.
     ghost needs: { Self → Type 0 };
 
-    /// What it guarantees of the seat that it leaves, with its entries, floors and marks, and of what it comes to.
+    /// What it guarantees of the seat that it leaves, with its entries, floors and marks, and of what it returns.
     ghost gives: { Self → Seated K V Q (plain.Summary K V Q.Item) → Self.Out → Type 0 };
 
     /// Makes its calls on its seat, which has filed nothing yet.
@@ -58,6 +64,15 @@ pub trait Client<K: PathKey, V: Eq, Q: Asks<K, V>> {
 }
 
 /// Why there is no journal of the clients' calls.
+///
+/// <!-- quoted from crates/example_index/src/fault.rt -->
+/// ```rust
+/// impl From<NoJournal> for Fault {
+///     fn from(reason: NoJournal) -> Fault {
+///         Fault::NoJournal(reason)
+///     }
+/// }
+/// ```
 #[derive(Clone, Copy, Debug, PartialEq, Eq)]
 pub enum NoJournal {
     /// A request for memory, or the clone of an `Arc`, was refused.
@@ -83,13 +98,17 @@ impl From<AllocError> for NoJournal {
 }
 
 /// Runs the clients over a new map, each on a thread of its own and with the seat of its number, and closes the map
-/// once all have ended. It gives what each came to, in their order, and the journal with the table that it leads to.
+/// once all have ended. It returns what each returned, in their order, and the journal with the table that it leads to.
 /// What a client guarantees of the seat that it leaves holds, and the journal and the table bear that seat out.
 ///
 /// A client whose thread cannot be started is run by the caller's thread when those before it have ended.
 ///
-/// A client's thread has a stack of `CLIENT_STACK` bytes. It is not started where there is not the address space for the
-/// stack and for 128 MiB, by which the C library places a thread's heap.
+/// A client's thread has a stack of `CLIENT_STACK` bytes. It is not started where there is not the address space for
+/// the stack and for 128 MiB, by which the C library places a thread's heap.
+///
+/// Cost: O(s e) for s clients and e entries of the journal, beside the clients' own calls; no lock but those of these
+/// calls. Refused: `NoJournal::NoMemory`, if memory runs out; `NoJournal::Torn`, as `SharedMap::close`, or where the
+/// table has other limits.
 pub fn with_clients<K, V, Q, C, R>(
     rt: &R,
     alloc: Global,

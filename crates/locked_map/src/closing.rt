@@ -7,7 +7,7 @@ ghost use Rattle.journal.specs.Tokens.{AllShown, entries_of};
 
 use crate::filed::Filed;
 use crate::seat::Seat;
-use bulk_ops::Asks;
+use bulk_work::Asks;
 use handles::Table;
 use hash_path::PathKey;
 use journal::{Entries, JournalName, Token};
@@ -99,7 +99,7 @@ pub(crate) fn are_of_seats<K: PathKey + Drop, V: Drop, Q: Drop, I: Drop>(
     true
 }
 
-/// Whether the vector holds no entry but those of the tokens and, for each time that a seat was answered `NoMemory`, at
+/// Whether the vector holds no entry but those of the tokens and, for each time that a seat had `NoMemory`, at
 /// most one that such a call had placed.
 pub(crate) fn are_all<K: PathKey, V, Q: Asks<K, V>, J: JournalName>(
     entries: &Entries<K, V, Q, Q::Item>,
@@ -113,8 +113,8 @@ pub(crate) fn are_all<K: PathKey, V, Q: Asks<K, V>, J: JournalName>(
     entries.count() as u64 <= most
 }
 
-// Whether the marks of the seat hold: where it was answered `JournalFull` the journal is full, and where it was
-// answered `NoJob` the job is not open.
+// Whether the marks of the seat hold: where it was refused as `JournalFull` the journal is full, and where it
+// was refused as `NoJob` the job is not open.
 fn marks_hold<K: PathKey + Drop, V: Eq + Drop, Q: Asks<K, V> + Drop, J: JournalName>(
     table: &Table<K, V, Q>,
     seat: &Seat<K, V, Q, J>,

@@ -12,7 +12,7 @@ pub struct Filed<K: PathKey, V, Q, I> {
     pub(crate) floor: u64,
 }
 
-/// Adds the event's entry to a seat's list, sets the seat's floor behind it, and gives what is answered.
+/// Adds the event's entry to a seat's list, sets the seat's floor behind it, and returns what the call returns.
 pub(crate) fn file<K: PathKey + Drop, V: Drop, Q: Drop, I: Drop, A>(
     list: &mut Vec<Filed<K, V, Q, I>>,
     floor: &mut u64,

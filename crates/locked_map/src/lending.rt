@@ -8,7 +8,7 @@ ghost use Rattle.locked_map.specs.Seats.{AllFresh, Seated};
 use crate::closed::{Closed, Torn};
 use crate::seat::Seat;
 use crate::shared_map::SharedMap;
-use bulk_ops::Asks;
+use bulk_work::Asks;
 use handles::{Limits, MOST_ENTRIES};
 use hash_path::PathKey;
 use journal::{Entries, JournalName};
@@ -22,16 +22,22 @@ use versions::{MOST_PAIRS, NoMemory};
 pub const MOST_SEATS: u32 = 64;
 
 /// What is done with a map, whichever map it is.
+///
+/// <!-- quoted from crates/example_meeting/src/meeting.rt -->
+/// ```rust
+/// let (one, two) = seats.split_at_mut(1);
+/// put_then_get(rt, map, &mut one[0], &mut two[0], self.key, self.value)
+/// ```
 pub trait Use<K: PathKey, V: Eq, Q: Asks<K, V>> {
-    ghost use Rattle.bulk_ops.specs.Answers as plain;
+    ghost use Rattle.bulk_work.specs.Answers as plain;
 
-    /// What it comes to.
+    /// What it returns.
     type Out;
 
     /// What it asks of its caller, with this number of seats.
     ghost needs: { Self → ℕ → Type 0 };
 
-    /// What it guarantees of the seats that it leaves, and of what it comes to.
+    /// What it guarantees of the seats that it leaves, and of what it returns.
     ghost gives: { Self → List (Seated K V Q (plain.Summary K V Q.Item)) → Self.Out → Type 0 };
 
     /// Does it, with the map and all its seats, which have filed nothing yet. The map is closed with the seats that it
@@ -49,11 +55,12 @@ pub trait Use<K: PathKey, V: Eq, Q: Asks<K, V>> {
         ensures gives { gives self seats.new.items result };
 }
 
-/// Makes a map with this number of seats, lends it to the user, and closes it with the seats that the user leaves. It
-/// gives what the user came to, and the journal with the table that it leads to; that is `Torn` where
-/// `SharedMap::close` is.
+/// Makes a map with this number of seats, lends it to the user on the caller's thread, and closes it with the seats
+/// that the user leaves. It returns what the user returned, and the journal with the table that it leads to; that is
+/// `Torn` where `SharedMap::close` is.
 ///
-/// If memory runs out, the user comes back, and has done nothing.
+/// Cost: O(s e) for s seats and e entries of the journal, beside the user's own calls; no lock but those of these
+/// calls. Refused: `NoMemory`, if memory runs out: the user comes back, and has done nothing.
 pub fn with<K, V, Q, U, R>(
     rt: &R,
     alloc: Global,

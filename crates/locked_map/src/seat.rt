@@ -3,7 +3,7 @@ ghost use Rattle.std.specs.Prelude.{◌≡◌};
 ghost use Rattle.locked_map.specs.Seats.{fresh, marked_by, met};
 
 use crate::filed::Filed;
-use bulk_ops::Asks;
+use bulk_work::Asks;
 use hash_path::PathKey;
 use journal::JournalName;
 use std::alloc::Global;
@@ -12,10 +12,16 @@ use versions::Refusal;
 
 /// A seat: by it one client makes its calls, one after another.
 ///
+/// <!-- quoted from crates/example_index/src/indexer.rt -->
+/// ```rust
+/// let view = map.view(rt, seat, INDEX)?;
+/// Ok(view.len())
+/// ```
+///
 /// It keeps a list of its entries, each with its token and its place in the journal, and a floor: its next entry stands
-/// at the floor or behind it. It is marked where it was answered `JournalFull`, and with the first job for which it was
-/// answered `NoJob`, so that `close` can see whether that was true. It counts how often it was answered `NoMemory`, since
-/// such a call may have placed an entry that no list has.
+/// at the floor or behind it. It is marked where a call was refused as `JournalFull`, and with the first job for which
+/// one was refused as `NoJob`, so that `close` can see whether that was true. It counts how often a call was refused as
+/// `NoMemory`, since such a call may have placed an entry that no list has.
 #[derive(Drop)]
 pub struct Seat<K: PathKey, V, Q: Asks<K, V>, J: JournalName> {
     pub(crate) number: u32,
@@ -28,7 +34,7 @@ pub struct Seat<K: PathKey, V, Q: Asks<K, V>, J: JournalName> {
 }
 
 impl<K: PathKey, V, Q: Asks<K, V>, J: JournalName> Model for Seat<K, V, Q, J> {
-    ghost use Rattle.bulk_ops.specs.Answers as plain;
+    ghost use Rattle.bulk_work.specs.Answers as plain;
     ghost use Rattle.locked_map.specs.Seats.{AllOf, Seated, placed_all};
 
     ghost Value = { Seated K V Q (plain.Summary K V Q.Item) };
@@ -55,6 +61,8 @@ impl<K: PathKey + Drop, V: Drop, Q: Asks<K, V> + Drop, J: JournalName> Seat<K, V
     }
 
     /// The seat's number.
+    ///
+    /// Cost: O(1), no lock. Refused: never.
     pub fn number(&self) -> u32
         ensures { result ≡ self.now.number }
     {
@@ -78,7 +86,9 @@ impl<K: PathKey + Drop, V: Drop, Q: Asks<K, V> + Drop, J: JournalName> Seat<K, V
     }
 
     /// Two seats meet: both get the greater floor, so what either does afterwards stands in the journal behind all that
-    /// both had done. It makes no entry and takes no memory.
+    /// both had done. It makes no entry.
+    ///
+    /// Cost: O(1), no lock. Refused: never.
     pub fn meet(&mut self, other: &mut Seat<K, V, Q, J>)
         ensures mine { self.new ≡ met self.old other.old }
         ensures theirs { other.new ≡ met other.old self.old }

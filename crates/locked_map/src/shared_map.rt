@@ -1,7 +1,7 @@
 //! The map that seats share.
 ghost use Rattle.std.specs.Prelude.{◌≡◌, ◌<◌, ◌≤◌, ◌⊎◌, ℕ, All, IfErr, IfOk, None, Some, slice_index_or, true, vec_len};
-ghost use Rattle.bulk_ops.specs.Answers as plain;
-ghost use Rattle.bulk_ops.specs.Summaries.{summary_of};
+ghost use Rattle.bulk_work.specs.Answers as plain;
+ghost use Rattle.bulk_work.specs.Summaries.{summary_of};
 ghost use Rattle.handles.specs.Machine.{abandon, finish, freeze, job_at, room, view};
 ghost use Rattle.handles.specs.Views.{call_outcome, finished_outcome, machine, request_of, unit_outcome, view_outcome};
 ghost use Rattle.journal.specs.Answers.{answered, answered_or};
@@ -17,7 +17,7 @@ use crate::closing::{are_all, are_borne_out, are_of_seats};
 use crate::filed::file;
 use crate::seat::Seat;
 use crate::ticket::Ticket;
-use bulk_ops::{Answer, Asks};
+use bulk_work::{Answer, Asks};
 use handles::{Call, CallReply, Limits, MOST_ENTRIES};
 use hash_path::PathKey;
 use journal::{Caller, Entries, Journal, JournalName, JournaledTable};
@@ -28,9 +28,21 @@ use versions::{MOST_PAIRS, NoMemory, Refusal, View};
 
 /// A table of maps under one lock, with its journal, that seats share by reference.
 ///
+/// <!-- quoted from crates/example_index/src/indexer.rt -->
+/// ```rust
+/// let put = Command::PutIfAbsent(word, Arc::new(alloc, document)?);
+/// let reply = map.call(rt, seat, Call::On(INDEX, put))?;
+/// ```
+///
 /// Each call takes a seat. It waits for the lock, makes one step of the machine and one entry of the journal, and adds
 /// that entry to the seat's list. A call that is refused as `JournalFull`, `NoJob` or `NoMemory` makes no entry. Only
 /// `finish`, `abandon` and `bulk` are refused as `NoJob`; `finish` and `abandon` are never refused as `JournalFull`.
+///
+/// # What runs under the lock
+///
+/// `K::cmp`, `K::path`, `V::eq`, the drops of keys and values that a call replaces, removes or does not write, and at a
+/// finish the operation of a fold. They must not call the map: the thread would wait for itself. A whole map that a
+/// call drops or clears is freed once the lock is released.
 #[derive(Drop)]
 pub struct SharedMap<K: PathKey, V: Eq, Q: Asks<K, V>, J: JournalName> {
     pub(crate) alloc: Global,
@@ -60,6 +72,8 @@ impl<K: PathKey + Drop, V: Eq + Drop, Q: Asks<K, V> + Drop, J: JournalName> Shar
     }
 
     /// Makes the call. The map that it drops or clears is freed once the lock is released.
+    ///
+    /// Cost: O(log n) for n pairs of the handle's map, under the lock of the table. Refused: as `Table::serve`.
     pub fn call<R: Wait>(
         &self,
         rt: &R,
@@ -86,6 +100,8 @@ impl<K: PathKey + Drop, V: Eq + Drop, Q: Asks<K, V> + Drop, J: JournalName> Shar
     }
 
     /// Shows the map of the handle, which no later call changes. The view is read with no lock.
+    ///
+    /// Cost: O(1), under the lock of the table. Refused: as `Table::view`.
     pub fn view<R: Wait>(
         &self,
         rt: &R,
@@ -106,6 +122,8 @@ impl<K: PathKey + Drop, V: Eq + Drop, Q: Asks<K, V> + Drop, J: JournalName> Shar
     }
 
     /// Opens a job with the query on the handle's map as it stands now. The ticket has that map.
+    ///
+    /// Cost: O(1), under the lock of the table. Refused: as `Table::freeze`.
     pub fn freeze<R: Wait>(
         &self,
         rt: &R,
@@ -145,7 +163,8 @@ impl<K: PathKey + Drop, V: Eq + Drop, Q: Asks<K, V> + Drop, J: JournalName> Shar
 
     /// Closes the ticket's job without an answer. Its target, if it has one, stays not live.
     ///
-    /// It is refused as `NoJob`, where the job is closed already, and as `NoMemory`. The ticket is handed back then.
+    /// Cost: O(1), under the lock of the table. Refused: `NoJob`, where the job is closed already; `NoMemory`, if
+    /// memory runs out. The ticket is handed back then.
     pub fn abandon<R: Wait>(
         &self,
         rt: &R,
@@ -176,8 +195,8 @@ impl<K: PathKey + Drop, V: Eq + Drop, Q: Asks<K, V> + Drop, J: JournalName> Shar
     /// Closes the ticket's job by the part's answer, and opens its target, if it has one, with the map that the part
     /// made. The part has to answer the ticket's query for its view.
     ///
-    /// It is refused as `NoJob`, where the job is closed already, and as `NoMemory`. The ticket and the part are handed
-    /// back then.
+    /// Cost: O(1), under the lock of the table, where `conclude` and `tell` of the query run. Refused: `NoJob`, where
+    /// the job is closed already; `NoMemory`, if memory runs out. The ticket and the part are handed back then.
     pub fn finish<R: Wait>(
         &self,
         rt: &R,
@@ -206,20 +225,20 @@ impl<K: PathKey + Drop, V: Eq + Drop, Q: Asks<K, V> + Drop, J: JournalName> Shar
         }
     }
 
-    /// Ends the map, where each seat's list is what the journal has of the seat, and its marks hold. It takes no
-    /// memory.
+    /// Ends the map, where each seat's list is what the journal has of the seat, and its marks hold.
     ///
-    /// # Errors
+    /// The contract says what holds where the map was closed. That it is closed where all of the following hold, and
+    /// that a run in which every seat is handed back comes to that, tests show.
     ///
-    /// `Torn`, where one of these does not hold:
+    /// Cost: O(s e) for s seats and e entries of the journal, no lock. Refused: `Torn`, where one of these does not
+    /// hold:
     ///
     /// - the seats are all those of the map, in the order of their numbers;
     /// - each entry of a seat is the journal's at its place, and does not stand below the floor beside it;
-    /// - each entry that was placed is a seat's;
-    /// - a seat that was answered `JournalFull` finds the journal full, and one that was answered `NoJob` the job closed.
-    ///
-    /// The contract says what holds where the map was closed. That it is closed where all of these hold, and that a run in
-    /// which every seat is handed back comes to that, tests show.
+    /// - each entry that was placed is a seat's, but for as many as calls that were refused as `NoMemory` can have
+    ///   left;
+    /// - a seat that was refused as `JournalFull` finds the journal full, and one that was refused as `NoJob` the job
+    ///   closed.
     pub fn close(self, seats: Vec<Seat<K, V, Q, J>>) -> Result<Closed<K, V, Q>, Torn>
         ensures legal { IfOk result (λ c. IsLegal (machine K.cmp V.eq Q.target_of Q.answered) c.table.limits c.journal c.table) }
         ensures seats { IfOk result (λ c. All (λ e. e.seat < vec_len seats) c.journal) }

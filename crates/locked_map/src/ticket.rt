@@ -2,7 +2,7 @@
 ghost use Rattle.std.specs.Prelude.{◌≡◌};
 ghost use Rattle.locked_map.specs.Tickets.{Ticketed};
 
-use bulk_ops::Asks;
+use bulk_work::Asks;
 use hash_path::PathKey;
 use journal::{JournalName, Token};
 use std::marker::{Model, PhantomData};
@@ -10,6 +10,14 @@ use std::sync::Arc;
 use versions::View;
 
 /// A ticket of a job that a freeze opened: by it the job is finished or abandoned.
+///
+/// <!-- quoted from crates/locked_map/src/bulk.rt -->
+/// ```rust
+/// match self.finish(rt, seat, ticket, part) {
+///     Ok(answer) => Ok(answer),
+///     Err((refusal, ticket, _)) => Err((refusal, Some(ticket))),
+/// }
+/// ```
 ///
 /// Its view, its query and its number are those of the freeze's entry, whose token it has. A ticket that is dropped
 /// leaves its job open.
@@ -35,6 +43,8 @@ impl<K: PathKey, V, Q: Asks<K, V>, J: JournalName> Model for Ticket<K, V, Q, J> 
 
 impl<K: PathKey, V, Q: Asks<K, V>, J: JournalName> Ticket<K, V, Q, J> {
     /// The number of the job.
+    ///
+    /// Cost: O(1), no lock. Refused: never.
     pub fn job(&self) -> u64
         ensures { result ≡ self.now.job }
     {
@@ -42,6 +52,8 @@ impl<K: PathKey, V, Q: Asks<K, V>, J: JournalName> Ticket<K, V, Q, J> {
     }
 
     /// The query of the job.
+    ///
+    /// Cost: O(1), no lock. Refused: never.
     pub fn query(&self) -> &Arc<Q>
         ensures { result.now.value ≡ self.now.query }
     {
@@ -49,6 +61,8 @@ impl<K: PathKey, V, Q: Asks<K, V>, J: JournalName> Ticket<K, V, Q, J> {
     }
 
     /// The map that the freeze recorded. It is read with no lock.
+    ///
+    /// Cost: O(1), no lock. Refused: never.
     pub fn view(&self) -> &View<K, V>
         ensures { result.now ≡ self.now.frozen }
     {

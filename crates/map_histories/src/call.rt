@@ -35,7 +35,9 @@ pub enum KeyCall {
     RemoveIf(u64),
     RemoveWhereOdd,
     Update(u64),
+    UpdateWith(u64),
     GetOrElseUpdate(u64),
+    TryGetOrElseUpdate(u64),
 }
 
 /// A read of one key by a reader.
@@ -82,7 +84,9 @@ impl KeyCall {
             KeyCall::RemoveIf(_) => "remove_if",
             KeyCall::RemoveWhereOdd => "remove_where_odd",
             KeyCall::Update(_) => "update",
+            KeyCall::UpdateWith(_) => "update_with",
             KeyCall::GetOrElseUpdate(_) => "get_or_else_update",
+            KeyCall::TryGetOrElseUpdate(_) => "try_get_or_else_update",
         }
     }
 
@@ -94,7 +98,10 @@ impl KeyCall {
             KeyCall::ReplaceIf(old, value) => write!(f, " {old} {value}"),
             KeyCall::Put(value) | KeyCall::PutIfAbsent(value) => write!(f, " {value}"),
             KeyCall::Replace(value) | KeyCall::RemoveIf(value) => write!(f, " {value}"),
-            KeyCall::Update(value) | KeyCall::GetOrElseUpdate(value) => write!(f, " {value}"),
+            KeyCall::Update(value) | KeyCall::UpdateWith(value) => write!(f, " {value}"),
+            KeyCall::GetOrElseUpdate(value) | KeyCall::TryGetOrElseUpdate(value) => {
+                write!(f, " {value}")
+            }
         }
     }
 }

@@ -1,4 +1,4 @@
-//! One history: what each of its threads called, and what they were answered.
+//! One history: what each of its threads called, and what was returned.
 
 use crate::call::{ALL_KEYS, ReaderCall};
 use crate::fault::Fault;

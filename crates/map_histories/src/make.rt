@@ -88,9 +88,17 @@ fn on_key<R: Wait>(rt: &R, map: &Map, key: u64, call: KeyCall) -> Result<Answer,
         KeyCall::RemoveIf(old) => Ok(Answer::Done(map.remove_if(rt, &key, &old)?)),
         KeyCall::RemoveWhereOdd => Ok(value(map.remove_where(rt, &key, |value| *value % 2 == 1)?)),
         KeyCall::Update(by) => Ok(value(map.update(rt, key, |old| Some(raised(old, by)))?)),
+        KeyCall::UpdateWith(by) => {
+            let made = map.update_with(rt, key, |old| (Some(raised(old, by)), raised(old, by)))?;
+            Ok(Answer::Value(Some(made)))
+        }
         KeyCall::GetOrElseUpdate(new) => {
             let found = map.get_or_else_update(rt, key, || new)?;
             Ok(Answer::Value(Some(*found)))
+        }
+        KeyCall::TryGetOrElseUpdate(new) => {
+            let found = map.try_get_or_else_update(rt, key, || even(new))?;
+            Ok(value(found.ok()))
         }
     }
 }
@@ -101,6 +109,11 @@ fn raised(old: Option<&u64>, by: u64) -> u64 {
         Some(old) => old.wrapping_add(by),
         None => by,
     }
+}
+
+// What `try_get_or_else_update` makes: the value, unless it is odd.
+fn even(value: u64) -> Result<u64, ()> {
+    if value % 2 == 0 { Ok(value) } else { Err(()) }
 }
 
 // A value, or none, as an answer.

@@ -45,7 +45,7 @@ pub struct Plan {
 const OF_A_THREAD: u64 = 1_000;
 
 // The calls on one key, and those of them that write.
-const KEY_CALLS: u64 = 12;
+const KEY_CALLS: u64 = 14;
 
 const WRITES: u64 = 5;
 
@@ -162,6 +162,8 @@ impl Plan {
             7 => Call::Key(seen.key, KeyCall::RemoveIf(seen.value)),
             8 => Call::Key(key, KeyCall::GetOrElseUpdate(value)),
             9 => Call::Key(key, KeyCall::RemoveWhereOdd),
+            10 => Call::Key(key, KeyCall::UpdateWith(value)),
+            11 => Call::Key(key, KeyCall::TryGetOrElseUpdate(value)),
             _ => self.reads(key),
         }
     }

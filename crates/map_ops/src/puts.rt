@@ -14,7 +14,7 @@ use std::sync::Arc;
 use trie_node::{IfAbsent, IfEqual, IfPresent};
 use versions::{Refusal, Version};
 
-/// Maps the key to the value, and answers the value before, or none.
+/// Maps the key to the value, and returns the value before, or none.
 ///
 /// The error is `Full` where the key is new and there are as many pairs as there may be, and `NoMemory` if memory runs
 /// out. The map is then as before.
@@ -35,7 +35,7 @@ pub fn put<K: PathKey + Drop, V: Eq + Drop>(
     version.put(alloc, key, value)
 }
 
-/// Maps the key to the value where the key is absent, and answers the value before, or none.
+/// Maps the key to the value where the key is absent, and returns the value before, or none.
 ///
 /// The error is `Full` where the key is new and there are as many pairs as there may be, and `NoMemory` if memory runs
 /// out. The map is then as before.
@@ -56,7 +56,7 @@ pub fn put_if_absent<K: PathKey + Drop, V: Eq + Drop>(
     Ok(version.put_where(alloc, key, value, &IfAbsent)?.previous)
 }
 
-/// Maps the key to the value where the key is present, and answers the value before, or none.
+/// Maps the key to the value where the key is present, and returns the value before, or none.
 ///
 /// The only error is `NoMemory`, if memory runs out. The map is then as before.
 pub fn replace<K: PathKey + Drop, V: Eq + Drop>(
@@ -76,7 +76,7 @@ pub fn replace<K: PathKey + Drop, V: Eq + Drop>(
     Ok(version.put_where(alloc, key, value, &IfPresent)?.previous)
 }
 
-/// Maps the key to the value where it is mapped to a value equal to `old`, and answers whether it was.
+/// Maps the key to the value where it is mapped to a value equal to `old`, and returns whether it was.
 ///
 /// The only error is `NoMemory`, if memory runs out. The map is then as before.
 pub fn replace_if<K: PathKey + Drop, V: Eq + Drop>(

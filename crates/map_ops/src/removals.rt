@@ -13,7 +13,7 @@ use std::sync::Arc;
 use trie_node::IfEqual;
 use versions::{Refusal, Version};
 
-/// Removes the key, and answers the value before, or none.
+/// Removes the key, and returns the value before, or none.
 ///
 /// The only error is `NoMemory`, if memory runs out. The map is then as before.
 pub fn remove<K: PathKey + Drop, V: Eq + Drop>(
@@ -32,7 +32,7 @@ pub fn remove<K: PathKey + Drop, V: Eq + Drop>(
     Ok(version.remove(alloc, key)?)
 }
 
-/// Removes the key where it is mapped to a value equal to `value`, and answers whether it was.
+/// Removes the key where it is mapped to a value equal to `value`, and returns whether it was.
 ///
 /// The only error is `NoMemory`, if memory runs out. The map is then as before.
 pub fn remove_if<K: PathKey + Drop, V: Eq + Drop>(

@@ -1,4 +1,6 @@
 //! When a reader tries a new base.
+ghost use Rattle.std.specs.Prelude.{◌≡◌, ◌+◌, ◌*◌, if◌then◌else◌};
+ghost use Rattle.map_reader.specs.Counting.{capped, is_due, least_for, was_worth_it as worth_it};
 
 /// The fewest misses after which a new base is tried.
 const LEAST_MISSES: u64 = 64;
@@ -29,7 +31,9 @@ pub struct Counts {
 
 impl Counts {
     /// No reads yet, and no base.
-    pub fn new() -> Counts {
+    pub fn new() -> Counts
+        ensures { result ≡ record { hits = 0; misses = 0; least = least_for 0; patience = 1 } }
+    {
         Counts {
             hits: 0,
             misses: 0,
@@ -39,29 +43,40 @@ impl Counts {
     }
 
     /// Counts a hit.
-    pub fn hit(&mut self) {
+    pub fn hit(&mut self)
+        ensures { self.new ≡ record self.old { hits = capped (self.old.hits + 1) } }
+    {
         self.hits = self.hits.saturating_add(1);
     }
 
     /// Counts a miss.
-    pub fn miss(&mut self) {
+    pub fn miss(&mut self)
+        ensures { self.new ≡ record self.old { misses = capped (self.old.misses + 1) } }
+    {
         self.misses = self.misses.saturating_add(1);
     }
 
     /// Whether it is time to try a new base, as far as it is known how many pairs the map has.
-    pub fn are_due(&self) -> bool {
+    pub fn are_due(&self) -> bool
+        ensures { result ≡ is_due self.now }
+    {
         self.misses >= self.least
             && (self.was_worth_it() || self.misses >= self.least.saturating_mul(self.patience))
     }
 
     /// The same where the map has `pairs` pairs.
-    pub fn are_due_for(&mut self, pairs: u64) -> bool {
+    pub fn are_due_for(&mut self, pairs: u64) -> bool
+        ensures due { result ≡ is_due self.new }
+        ensures least { self.new ≡ record self.old { least = least_for pairs } }
+    {
         self.least = (pairs / PAIRS_A_MISS).saturating_add(LEAST_MISSES);
         self.are_due()
     }
 
     /// Begins again after a try.
-    pub fn tried(&mut self) {
+    pub fn tried(&mut self)
+        ensures { self.new ≡ record self.old { hits = 0; misses = 0; patience = if worth_it self.old then 2 else capped (self.old.patience * 2) } }
+    {
         self.patience = if self.was_worth_it() {
             2
         } else {
@@ -71,13 +86,17 @@ impl Counts {
     }
 
     /// Begins again with a base that another reader made.
-    pub fn begin(&mut self) {
+    pub fn begin(&mut self)
+        ensures { self.new ≡ record self.old { hits = 0; misses = 0 } }
+    {
         self.hits = 0;
         self.misses = 0;
     }
 
     // Whether the base had hits enough.
-    fn was_worth_it(&self) -> bool {
+    fn was_worth_it(&self) -> bool
+        ensures { result ≡ worth_it self.now }
+    {
         self.hits / HITS_A_MISS >= self.misses
     }
 }

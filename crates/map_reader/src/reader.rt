@@ -10,13 +10,22 @@ use stripes::{Anything, Keeps};
 
 /// What one thread reads a map by, mostly without its locks.
 ///
+/// <!-- quoted from crates/shared_bench/src/one_key.rt -->
+/// ```rust
+/// let mut reader = readers.reader();
+/// let mut sum = 0i64;
+/// for _ in 0..calls {
+///     sum = sum.wrapping_add(reader.get_copied(rt, key).unwrap_or(0));
+/// }
+/// ```
+///
 /// It has a base: a view of the map, and marks of what was written since it was taken. A key that was not written since
 /// has its value there, and is read with no lock and with no write to memory that other threads read. Any other key is
 /// read under the lock of its stripe.
 ///
 /// # Each read is one step
 ///
-/// A read takes place at one moment between its call and its answer, as each call of the map does: by the base, when it
+/// A read takes place at one moment between its call and its return, as each call of the map does: by the base, when it
 /// looks at the mark of its key; else when it has the lock. So it sees each write that had ended before it began, by
 /// whichever thread. Two reads are two steps, and the map may be written between them.
 ///
@@ -54,11 +63,14 @@ impl<'m, K: PathKey + Drop, V: Drop, P: Keeps<K, V>> Reader<'m, K, V, P> {
         }
     }
 
-    /// What `look` answers of the value of the key, or of none: a value is read where it is, and no handle on it is
-    /// cloned. It is never refused.
+    /// What `look` returns of the value of the key, or of none: a value is read where it is, and no handle on it is
+    /// cloned.
     ///
     /// `look` runs once, with no lock held or while the stripe of the key is locked. So it must not call the map, since
     /// the thread could wait for itself. It may rest on the rule for the value that it is given.
+    ///
+    /// Cost: O(log n), no lock where the key was not written since the base, and else under that of its stripe; now and
+    /// then a new base, under all locks. Refused: never.
     pub fn read<R: Wait, T, Q: Sought<K>, F: FnOnce(Option<&V>) -> T>(
         &mut self,
         rt: &R,
@@ -115,7 +127,7 @@ impl<'m, K: PathKey + Drop, V: Drop, P: Keeps<K, V>> Reader<'m, K, V, P> {
         }
     }
 
-    // Has the latest base from now on, if there is one, and answers whether. The base before is dropped, with no lock
+    // Has the latest base from now on, if there is one, and returns whether. The base before is dropped, with no lock
     // held.
     fn take(&mut self, latest: Latest<K, V, P>) -> bool {
         let (base, made) = latest;
@@ -126,7 +138,9 @@ impl<'m, K: PathKey + Drop, V: Drop, P: Keeps<K, V>> Reader<'m, K, V, P> {
 }
 
 impl<'m, K: PathKey + Drop, V: Copy + Drop, P: Keeps<K, V>> Reader<'m, K, V, P> {
-    /// A copy of the value of the key, or none. No handle on it is cloned, and it is never refused.
+    /// A copy of the value of the key, or none. No handle on it is cloned.
+    ///
+    /// Cost: O(log n), no lock or one, as `read`. Refused: never.
     pub fn get_copied<R: Wait, Q: Sought<K>>(&mut self, rt: &R, key: Q) -> Option<V>
         ensures kept { IfSome result (λ value. P.holds (Q.key_of key) value) }
     {

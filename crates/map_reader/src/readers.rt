@@ -17,6 +17,12 @@ pub type Latest<K, V, P> = (Option<Arc<Base<K, V, P>>>, u64);
 
 /// What the readers of one map share: the latest base.
 ///
+/// <!-- quoted from crates/tests_trie_map/src/tests/hot_keys.rt -->
+/// ```rust
+/// let readers = map.readers();
+/// let mut reader = readers.reader();
+/// ```
+///
 /// It borrows the map, so its readers read no other. Threads share it by reference, and each makes a `Reader` of its
 /// own by `reader`. One is enough for a map: of two, each ends the bases of the other.
 ///
@@ -37,6 +43,8 @@ pub struct Readers<'m, K: PathKey, V, P: Keeps<K, V> = Anything> {
 
 impl<'m, K: PathKey + Drop, V: Drop, P: Keeps<K, V>> Readers<'m, K, V, P> {
     /// Readers of the map that has these stripes, with no base yet.
+    ///
+    /// Cost: O(1), no lock. Refused: never.
     pub fn new(alloc: Global, row: &'m Stripes<K, V, P>) -> Readers<'m, K, V, P> {
         Readers {
             alloc,
@@ -46,7 +54,9 @@ impl<'m, K: PathKey + Drop, V: Drop, P: Keeps<K, V>> Readers<'m, K, V, P> {
         }
     }
 
-    /// A reader for one thread. It takes no memory.
+    /// A reader for one thread.
+    ///
+    /// Cost: O(1), no lock. Refused: never.
     pub fn reader(&self) -> Reader<'_, K, V, P> {
         Reader::new(self)
     }
@@ -56,12 +66,14 @@ impl<'m, K: PathKey + Drop, V: Drop, P: Keeps<K, V>> Readers<'m, K, V, P> {
         self.row
     }
 
-    /// How many bases its readers have made until now: each is a view of the map. It takes no memory and no lock.
+    /// How many bases its readers have made until now: each is a view of the map.
+    ///
+    /// Cost: O(1), no lock. Refused: never.
     pub fn made(&self) -> u64 {
         self.made.load(Ordering::SeqCst)
     }
 
-    /// The latest base, unless it has ended: then it is dropped. None is answered where another thread is at it, and
+    /// The latest base, unless it has ended: then it is dropped. None is returned where another thread is at it, and
     /// nobody waits.
     pub(crate) fn latest(&self) -> Option<Latest<K, V, P>> {
         let mut latest = self.latest.as_lock().try_lock()?;
@@ -74,7 +86,7 @@ impl<'m, K: PathKey + Drop, V: Drop, P: Keeps<K, V>> Readers<'m, K, V, P> {
         Some((base, made))
     }
 
-    /// A new base for about `pairs` pairs, or the latest one where others than `seen` were made. None is answered where
+    /// A new base for about `pairs` pairs, or the latest one where others than `seen` were made. None is returned where
     /// another thread is at it, and if memory runs out.
     pub(crate) fn next<R: Wait>(&self, rt: &R, pairs: u64, seen: u64) -> Option<Latest<K, V, P>> {
         let mut latest = self.latest.as_lock().try_lock()?;

@@ -1,6 +1,7 @@
 //! What readers answer beside writers, and how often they have a new base.
 mod answers;
 mod bases;
+mod marks;
 mod threads;
 
 use crate::{Reader, Readers};

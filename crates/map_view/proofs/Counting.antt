@@ -2,14 +2,12 @@
 use mir.Val.{bool_byte}
 use Rattle.std.proofs.Common.{◌≡◌, ℕ, ◌+◌, ◌≤◌, Bool, true, false, cond, not, ◌&&◌, ◌||◌, List, [], ◌∷◌, length, refl, sym, ap, ◌∙◌, arith, true≢false}
 use Rattle.std.specs.List.{list_any, list_all}
-use Rattle.std.specs.Prelude.{All}
-use Rattle.std.proofs.lemmas.List.Elements.{All-cons}
 use Rattle.std.specs.List.Sorted.{IsPermutation}
 use Rattle.std.proofs.lemmas.List.Sorted.{list_any-IsPermutation, sum_by-IsPermutation}
 use Rattle.std.proofs.lemmas.List.Sums.{length-filter}
 use Rattle.versions.specs.Map.{Map}
 use Rattle.combiner.specs.Monoids.{IsAssociative, IsCommutative, folded}
-use Rattle.bulk_ops.specs.Answers.{passes, passing}
+use Rattle.bulk_work.specs.Answers.{passes, passing}
 
 one_of : (t : Bool) → bool_byte t ≡ cond t 1 0
 one_of true = refl
@@ -19,13 +17,6 @@ one_of false = refl
 pub at_most_one : (t : Bool) (n : ℕ) → n ≡ bool_byte t → n ≤ 1
 at_most_one true n e = omega arith
 at_most_one false n e = omega arith
-
--- the pairs that are gone, and one more of this key, or not
-pub one_more_gone : {K V : Type 0} (G H : K → V → Type 0) (k : K) (gone : Bool) (n one : ℕ) → one ≡ bool_byte gone → (gone ≡ true → (v : V) × G k v × H k v) → (xs : Map K V) × (length xs ≡ n) × All (λ (x : K × V). G x.0 x.1 × H x.0 x.1) xs → (xs : Map K V) × (length xs ≡ n + one) × All (λ (x : K × V). G x.0 x.1 × H x.0 x.1) xs
-one_more_gone {K} {V} G H k true n one is now (xs, many, all) =
-    let more = now refl in
-    ((k, more.0) ∷ xs, omega (arith, many, is), All-cons (λ (x : K × V). G x.0 x.1 × H x.0 x.1) (k, more.0) xs (more.1, more.2) all)
-one_more_gone G H k false n one is now (xs, many, all) = (xs, omega (arith, many, is), all)
 
 -- an item combined with those before it
 pub fold_step : {A : Type 0} (op : A → A → A) → IsAssociative op → IsCommutative op → (a all : A) (rest : List A) → folded op (op a all) rest ≡ op a (folded op all rest)

@@ -2,9 +2,9 @@
 use Rattle.std.specs.Prelude.{◌≡◌, ◌&&◌, ℕ, Bool, true, false, not, Option, Some, None, Contains, map}
 use Rattle.std.specs.List.{list_any}
 use Rattle.std.specs.declared.cmp.Ordering.{Ordering}
-use Rattle.bulk_ops.specs.Answers as plain
-use Rattle.bulk_ops.specs.Summaries.{IsAnswered}
-use Rattle.bulk_ops.specs.declared.asks.Answer.{Answer}
+use Rattle.bulk_work.specs.Answers as plain
+use Rattle.bulk_work.specs.Summaries.{IsAnswered}
+use Rattle.bulk_work.specs.declared.asks.Answer.{Answer}
 use Rattle.stripes.specs.Rules.{AllKeep}
 use Rattle.versions.specs.Contents.{Contents}
 use Rattle.versions.specs.Map.{Map}

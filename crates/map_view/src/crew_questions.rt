@@ -1,6 +1,6 @@
-//! Questions about all pairs, by plain closures, that a crew answers.
+//! Questions about all pairs, by plain closures, that a crew works.
 ghost use Rattle.std.specs.Prelude.{◌≡◌, ◌≤◌, Bool, IfOk, length};
-ghost use Rattle.bulk_ops.specs.Answers.{items_of, passing};
+ghost use Rattle.bulk_work.specs.Answers.{items_of, passing};
 ghost use Rattle.bulk_ops.specs.Meanings.{MayAnswer, Means};
 ghost use Rattle.combiner.specs.Monoids.{folded};
 ghost use Rattle.group_counts.specs.Groups.{IsGroups};
@@ -22,6 +22,8 @@ use trie_node::NoMemory;
 /// `par_count` and `par_fold` promise what their like of one thread does (`count`, `fold`).
 impl<K: PathKey + Drop + Send + Sync, V: Drop + Send + Sync, P: Keeps<K, V>> View<K, V, P> {
     /// How many pairs pass the test, counted by a crew.
+    ///
+    /// Cost: O(n), shared out, no lock. Refused: `NoMemory`, if memory runs out.
     pub fn par_count<R, F>(&self, rt: &R, test: F, crew: Crew) -> Result<u64, NoMemory>
     where
         R: Threads + Wait + Sync,
@@ -34,6 +36,8 @@ impl<K: PathKey + Drop + Send + Sync, V: Drop + Send + Sync, P: Keeps<K, V>> Vie
     }
 
     /// The items of all pairs combined by the monoid, as by `Sum`, `Least` or `Greatest`, worked by a crew.
+    ///
+    /// Cost: O(n), shared out, no lock. Refused: `NoMemory`, if memory runs out.
     pub fn par_fold<R, M, G>(
         &self,
         rt: &R,
@@ -54,6 +58,9 @@ impl<K: PathKey + Drop + Send + Sync, V: Drop + Send + Sync, P: Keeps<K, V>> Vie
 
     /// How many pairs each group has, where the closure names the group of a pair, counted by a crew. A group that no
     /// pair has is not listed.
+    ///
+    /// Cost: O(n log g + g²) for g groups, shared out, no lock, and memory for the groups in the part of each worker.
+    /// Refused: `NoMemory`, if memory runs out.
     pub fn par_group_count<R, G, F>(
         &self,
         rt: &R,
@@ -72,6 +79,9 @@ impl<K: PathKey + Drop + Send + Sync, V: Drop + Send + Sync, P: Keeps<K, V>> Vie
 
     /// The `most` pairs with the highest scores, or all pairs where there are fewer, found by a crew. Which of several
     /// pairs with one score are listed is free.
+    ///
+    /// Cost: O(n log m) for m pairs that are listed, and O(m) for each that gets in, shared out, no lock. Refused:
+    /// `NoMemory`, if memory runs out.
     pub fn par_top<R, S, F>(
         &self,
         rt: &R,

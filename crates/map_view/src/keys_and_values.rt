@@ -7,7 +7,14 @@ use iter::Pairs;
 use std::marker::Model;
 use std::sync::Arc;
 
-/// The keys that are still to come, in the order of `View::pairs`. A step makes no request for memory.
+/// The keys that are still to come, in the order of `View::pairs`. A step takes amortized O(1), no lock and no memory.
+///
+/// <!-- quoted from crates/tests_trie_map/src/tests/asked.rt -->
+/// ```rust
+/// for key in view.keys() {
+///     digits = digits.wrapping_mul(10).wrapping_add(key.id);
+/// }
+/// ```
 #[derive(Drop)]
 pub struct Keys<'a, K: PathKey, V> {
     pairs: Pairs<'a, K, V>,
@@ -45,7 +52,15 @@ impl<'a, K: PathKey, V> Iterator for Keys<'a, K, V> {
     }
 }
 
-/// The values that are still to come, in the order of `View::pairs`. A step makes no request for memory.
+/// The values that are still to come, in the order of `View::pairs`. A step takes amortized O(1), no lock and no
+/// memory.
+///
+/// <!-- quoted from crates/tests_trie_map/src/tests/asked.rt -->
+/// ```rust
+/// for value in view.values() {
+///     digits = digits.wrapping_mul(10).wrapping_add(**value);
+/// }
+/// ```
 #[derive(Drop)]
 pub struct Values<'a, K: PathKey, V> {
     pairs: Pairs<'a, K, V>,

@@ -1,14 +1,15 @@
 //! Questions about all pairs of a view.
 ghost use Rattle.std.specs.Prelude.{◌≡◌, ◌≤◌, Bool, IfOk, IfSome, length, option_map, true};
 ghost use Rattle.std.specs.List.{list_all, list_any};
-ghost use Rattle.bulk_ops.specs.Answers.{items_of, passes, passing};
+ghost use Rattle.bulk_work.specs.Answers.{items_of, passes, passing};
 ghost use Rattle.bulk_ops.specs.Meanings.{MayAnswer, Means};
-ghost use Rattle.bulk_ops.specs.Parts.{pair_of};
+ghost use Rattle.bulk_work.specs.Pairs.{pair_of};
 ghost use Rattle.combiner.specs.Monoids.{folded};
 ghost use Rattle.map_view.specs.Questions.{IsFound};
 
 use crate::view::View;
-use bulk_ops::{Pair, law_of_folds};
+use bulk_ops::law_of_folds;
+use bulk_work::Pair;
 use closure_ops::answer_at;
 use combiner::Monoid;
 use hash_path::PathKey;
@@ -21,6 +22,8 @@ use trie_node::NoMemory;
 /// it has one answer for each pair, which it promises itself. No request is made for memory.
 impl<K: PathKey + Drop, V: Drop, P: Keeps<K, V>> View<K, V, P> {
     /// How many pairs pass the test.
+    ///
+    /// Cost: O(n), no lock. Refused: never.
     pub fn count<F: Fn(&K, &V) -> bool>(&self, test: F) -> u64
         requires callable { F.IsAlwaysCallable test }
         ensures count { (p : K → V → Bool) → Means (MayAnswer F.Fn test) p → result ≡ length (passing p self.now) }
@@ -35,6 +38,8 @@ impl<K: PathKey + Drop, V: Drop, P: Keeps<K, V>> View<K, V, P> {
     }
 
     /// Whether some pair passes the test. The walk ends at the first that does.
+    ///
+    /// Cost: O(n) at most, no lock. Refused: never.
     pub fn exists<F: Fn(&K, &V) -> bool>(&self, test: F) -> bool
         requires callable { F.IsAlwaysCallable test }
         ensures { (p : K → V → Bool) → Means (MayAnswer F.Fn test) p → result ≡ list_any (passes p) self.now }
@@ -48,6 +53,8 @@ impl<K: PathKey + Drop, V: Drop, P: Keeps<K, V>> View<K, V, P> {
     }
 
     /// Whether every pair passes the test. The walk ends at the first that does not.
+    ///
+    /// Cost: O(n) at most, no lock. Refused: never.
     pub fn for_all<F: Fn(&K, &V) -> bool>(&self, test: F) -> bool
         requires callable { F.IsAlwaysCallable test }
         ensures { (p : K → V → Bool) → Means (MayAnswer F.Fn test) p → result ≡ list_all (passes p) self.now }
@@ -61,6 +68,8 @@ impl<K: PathKey + Drop, V: Drop, P: Keeps<K, V>> View<K, V, P> {
     }
 
     /// A pair that passes the test, if there is one: the first on a walk. It keeps the rule.
+    ///
+    /// Cost: O(n) at most, no lock. Refused: `NoMemory`, where a handle on the pair cannot be cloned.
     pub fn find<F: Fn(&K, &V) -> bool>(&self, test: F) -> Result<Option<Pair<K, V>>, NoMemory>
         requires callable { F.IsAlwaysCallable test }
         ensures found { IfOk result (λ found. (p : K → V → Bool) → Means (MayAnswer F.Fn test) p → IsFound p self.now (option_map pair_of found)) }
@@ -75,6 +84,8 @@ impl<K: PathKey + Drop, V: Drop, P: Keeps<K, V>> View<K, V, P> {
     }
 
     /// The items of all pairs combined by the monoid, as by `Sum`, `Least` or `Greatest`.
+    ///
+    /// Cost: O(n), no lock. Refused: never.
     pub fn fold<M: Monoid, G: Fn(&K, &V) -> M::Item>(&self, monoid: &M, item: G) -> M::Item
         requires callable { G.IsAlwaysCallable item }
         ensures { (i : K → V → M.Item) → Means (MayAnswer G.Fn item) i → result ≡ folded (M.combine monoid.now) (M.unit_of monoid.now) (items_of i self.now) }

@@ -1,6 +1,6 @@
 //! A map as it stood at one moment.
 ghost use Rattle.std.specs.Prelude.{◌≡◌, ◌↔◌, ◌≤◌, [], All, IfOk, IfSome, IsPermutation, IsTrue, is_some, length, map, option_map};
-ghost use Rattle.bulk_ops.specs.Summaries.{IsAnswered};
+ghost use Rattle.bulk_work.specs.Summaries.{IsAnswered};
 ghost use Rattle.stripes.specs.Rules.{AllKeep};
 ghost use Rattle.trie_shape.specs.Order.{walked};
 ghost use Rattle.versions.specs.Map.{IsMap, value_at};
@@ -13,7 +13,7 @@ mod walking;
 
 use crate::crew::within_limits;
 use crate::keys_and_values::{Keys, Values};
-use bulk_ops::{Answer, Asks, ask};
+use bulk_work::{Answer, Asks, ask};
 use combiner::Bulk;
 use hash_path::{PathKey, Sought};
 use iter::Pairs;
@@ -28,6 +28,16 @@ use versions::Version;
 
 /// A map that never changes, as it stood at one moment when nobody wrote it. It is read with no lock, by any number of
 /// threads.
+///
+/// <!-- quoted from crates/example_leases/src/main.rt -->
+/// ```rust
+/// let view = leases.view(rt)?;
+/// let secure = view.par_count(rt, |_, lease| lease.port == 443, Crew::of(4))?;
+/// let sum = view.fold(&Sum, |_, lease| i128::from(lease.port));
+/// ```
+///
+/// n is the number of pairs, and O(log n) the way down the trie. No call takes a lock of the map that the view was
+/// taken of. It keeps the nodes of its moment until it and all its handles are dropped.
 #[derive(Drop)]
 pub struct View<K: PathKey, V, P: Keeps<K, V> = Anything> {
     alloc: Global,
@@ -48,6 +58,8 @@ impl<K: PathKey, V, P: Keeps<K, V>> Model for View<K, V, P> {
 
 impl<K: PathKey + Drop, V: Drop, P: Keeps<K, V>> View<K, V, P> {
     /// The view of a map whose pairs keep the rule.
+    ///
+    /// Cost: O(1), no lock. Refused: never.
     pub fn new(alloc: Global, plain: versions::View<K, V>) -> View<K, V, P>
         requires { AllKeep K.cmp P.holds plain }
         ensures { result ≡ plain }
@@ -59,7 +71,9 @@ impl<K: PathKey + Drop, V: Drop, P: Keeps<K, V>> View<K, V, P> {
         }
     }
 
-    /// The value of the key, or none. It takes no memory.
+    /// The value of the key, or none.
+    ///
+    /// Cost: O(log n), no lock. Refused: never.
     pub fn get<Q: Sought<K>>(&self, key: Q) -> Option<&Arc<V>>
         ensures value { option_map (λ value. value.now.value) result ≡ value_at K.cmp self.now (Q.key_of key) }
         ensures kept { IfSome result (λ value. P.holds (Q.key_of key) value.now.value) }
@@ -67,14 +81,18 @@ impl<K: PathKey + Drop, V: Drop, P: Keeps<K, V>> View<K, V, P> {
         self.plain.get(key)
     }
 
-    /// Whether the key has a value. It takes no memory.
+    /// Whether the key has a value.
+    ///
+    /// Cost: O(log n), no lock. Refused: never.
     pub fn contains_key<Q: Sought<K>>(&self, key: Q) -> bool
         ensures { result ≡ is_some (value_at K.cmp self.now (Q.key_of key)) }
     {
         self.plain.contains_key(key)
     }
 
-    /// How many pairs there are. It takes no memory.
+    /// How many pairs there are.
+    ///
+    /// Cost: O(1), no lock. Refused: never.
     pub fn len(&self) -> u64
         ensures count { result ≡ length self.now }
         ensures few { length self.now ≤ MOST_PAIRS }
@@ -83,7 +101,9 @@ impl<K: PathKey + Drop, V: Drop, P: Keeps<K, V>> View<K, V, P> {
         self.plain.len()
     }
 
-    /// Whether there is no pair. It takes no memory.
+    /// Whether there is no pair.
+    ///
+    /// Cost: O(1), no lock. Refused: never.
     pub fn is_empty(&self) -> bool
         ensures { IsTrue result ↔ (self.now ≡ []) }
     {
@@ -92,6 +112,8 @@ impl<K: PathKey + Drop, V: Drop, P: Keeps<K, V>> View<K, V, P> {
 
     /// A walk over all pairs, each once, in order of position and, within one position, of key. Each of them keeps the
     /// rule.
+    ///
+    /// Cost: O(1), no lock, and O(n) for the walk. Refused: never.
     pub fn pairs(&self) -> Pairs<'_, K, V>
         ensures rest { result.rest ≡ walked K.cmp K.path_of self.now }
         ensures once { IsPermutation self.now result.rest }
@@ -101,6 +123,8 @@ impl<K: PathKey + Drop, V: Drop, P: Keeps<K, V>> View<K, V, P> {
     }
 
     /// A walk over all keys, each once, in the order of `pairs`.
+    ///
+    /// Cost: O(1), no lock, and O(n) for the walk. Refused: never.
     pub fn keys(&self) -> Keys<'_, K, V>
         ensures rest { result ≡ map (λ pair. pair.0) (walked K.cmp K.path_of self.now) }
         ensures once { IsPermutation (map (λ pair. pair.0) self.now) result }
@@ -109,6 +133,8 @@ impl<K: PathKey + Drop, V: Drop, P: Keeps<K, V>> View<K, V, P> {
     }
 
     /// A walk over the values of all keys, in the order of `pairs`.
+    ///
+    /// Cost: O(1), no lock, and O(n) for the walk. Refused: never.
     pub fn values(&self) -> Values<'_, K, V>
         ensures rest { result ≡ map (λ pair. pair.1) (walked K.cmp K.path_of self.now) }
         ensures once { IsPermutation (map (λ pair. pair.1) self.now) result }
@@ -126,7 +152,10 @@ impl<K: PathKey + Drop, V: Drop, P: Keeps<K, V>> View<K, V, P> {
         self.plain.len();
     }
 
-    /// What the query is answered for the whole view, and the map that it makes where it has a target.
+    /// The answer of the query for the whole view, and the map that it makes where it has a target. It is worked on the
+    /// caller's thread.
+    ///
+    /// Cost: O(n), or up to where its answer is settled, no lock. Refused: `NoMemory`, if memory runs out.
     pub fn query<Q: Asks<K, V>>(
         &self,
         query: &Q,
@@ -138,13 +167,17 @@ impl<K: PathKey + Drop, V: Drop, P: Keeps<K, V>> View<K, V, P> {
     }
 
     /// The same view with no word of the rule, for calls that take one, as those of walks and pieces.
+    ///
+    /// Cost: O(1), no lock. Refused: never.
     pub fn plain(&self) -> &versions::View<K, V>
         ensures map { result.now ≡ self.now }
     {
         &self.plain
     }
 
-    /// Another handle on the same view. It makes no request for memory, but the clone may be refused.
+    /// Another handle on the same view.
+    ///
+    /// Cost: O(1), no lock and no request for memory. Refused: `NoMemory`, where the handle cannot be cloned.
     pub fn try_clone(&self) -> Result<View<K, V, P>, NoMemory>
         ensures { IfOk result (λ view. view ≡ self.now) }
     {
@@ -157,16 +190,15 @@ impl<K: PathKey + Drop, V: Drop, P: Keeps<K, V>> View<K, V, P> {
 }
 
 impl<K: PathKey + Drop + Send + Sync, V: Drop + Send + Sync, P: Keeps<K, V>> View<K, V, P> {
-    /// What `query` answers, worked by a crew: the view is cut into pieces, which the threads of the crew take from one
+    /// What `query` returns, worked by a crew: the view is cut into pieces, which the threads of the crew take from one
     /// another, and the caller works what they leave.
     ///
-    /// The closures of the query run on these threads, several at once. No lock is held while they work: who writes the
-    /// map that the view was taken of goes on. The threads have ended when the call returns. A view with no more pairs
-    /// than the crew's grain is worked by the caller alone. Where a number of the crew is beyond its limits, the nearest
-    /// within them is taken.
+    /// The closures of the query run on these threads, several at once: who writes the map that the view was taken of
+    /// goes on. The threads have ended when the call returns. A view with no more pairs than the crew's grain is worked
+    /// by the caller alone. Where a number of the crew is beyond its limits, the nearest within them is taken.
     ///
-    /// It fails if memory runs out. A thread that cannot be started is no error: the others, or the caller, work its
-    /// pieces.
+    /// Cost: O(n), shared out, no lock. Refused: `NoMemory`, if memory runs out. A thread that cannot be started is no
+    /// error: the others, or the caller, work its pieces.
     pub fn par_query<R, Q>(
         &self,
         rt: &R,
@@ -196,5 +228,20 @@ impl<K: PathKey + Drop + Send + Sync, V: Drop + Send + Sync, P: Keeps<K, V>> Vie
         let crew = within_limits(crew);
         let report = run_crew(rt, self.alloc, &self.plain, bulk, crew, &Free)?;
         Ok(report.part)
+    }
+}
+
+impl<K: PathKey + Drop, V: Copy + Drop, P: Keeps<K, V>> View<K, V, P> {
+    /// A copy of the value of the key, or none.
+    ///
+    /// Cost: O(log n), no lock. Refused: never.
+    pub fn get_copied<Q: Sought<K>>(&self, key: Q) -> Option<V>
+        ensures value { result ≡ value_at K.cmp self.now (Q.key_of key) }
+        ensures kept { IfSome result (λ value. P.holds (Q.key_of key) value) }
+    {
+        match self.get(key) {
+            Some(value) => Some(**value),
+            None => None,
+        }
     }
 }

@@ -5,6 +5,7 @@ ghost use Rattle.program_io.specs.Faults.{IsShownBy};
 
 use command_line::ArgFault;
 use std::fmt::Display;
+use std::io;
 use std::io::Write;
 use thiserror::Error;
 
@@ -53,6 +54,14 @@ pub fn failed<E: Write, D: Display>(err: &mut E, reason: &D) -> u8
     ensures { result ≡ 1 }
 {
     let _ = writeln!(err, "trierun: {reason}");
+    FAILED
+}
+
+/// Writes why the program failed, and on a line of its own what the system says of it; and gives the status.
+pub(crate) fn failed_by<E: Write, D: Display>(err: &mut E, reason: &D, error: &io::Error) -> u8
+    ensures { result ≡ 1 }
+{
+    let _ = writeln!(err, "trierun: {reason}\ntrierun: {error}");
     FAILED
 }
 

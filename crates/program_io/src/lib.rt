@@ -9,7 +9,7 @@ mod standard_error;
 mod words;
 
 pub use faults::{DONE, FAILED, REFUSED, RunFault, failed, shown};
-pub use journal_file::{keep, write_journal};
+pub use journal_file::{JournalFile, keep, opened_journal, write_journal};
 pub use reading::{input, read_journal, read_script};
 pub use standard_error::StandardError;
 pub use words::given_options;

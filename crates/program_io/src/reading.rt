@@ -2,8 +2,8 @@
 
 ghost use Rattle.std.specs.Prelude.{◌≡◌, ◌≤◌, IfErr, IfOk, IfSome, take};
 
-use crate::faults::{RunFault, failed, refused};
-use crate::journal_file::is_journal_the_script;
+use crate::faults::{RunFault, failed, failed_by, refused};
+use crate::journal_file::{fault_of_names, file_of};
 use command_line::Options;
 use std::alloc::Global;
 use std::fs::{File, Files};
@@ -14,9 +14,9 @@ use std::io::{Input, Read, Write};
 /// A text that has this many bytes has a fault among them, and further bytes change neither that fault nor its line.
 const MOST_BYTES: u64 = 16_842_753;
 
-/// The bytes of the file that the options name, or of standard input where they name none; or the status of the program
-/// where they could not be read, or where the journal would be written over the script. Why goes to `err` then, as one
-/// line, if that takes it.
+/// The bytes of the file that the options name, or of standard input where they name none or `-`; or the status of the
+/// program where they could not be read, where the journal would be written over the script, or where its file is `-`.
+/// Why goes to `err` then, if that takes it: what failed, and on a further line what the system says of it.
 pub fn input<R: Files + Input + AllocGlobal, E: Write>(
     rt: &R,
     options: &Options,
@@ -25,8 +25,8 @@ pub fn input<R: Files + Input + AllocGlobal, E: Write>(
     ensures least { IfErr result (λ status. 1 ≤ status) }
     ensures most { IfErr result (λ status. status ≤ 2) }
 {
-    if is_journal_the_script(rt, options) {
-        return Err(refused(err, &"the journal is the script"));
+    if let Some(fault) = fault_of_names(rt, options) {
+        return Err(refused(err, &fault));
     }
     match bytes(rt, options) {
         Ok(bytes) => Ok(bytes),
@@ -34,10 +34,10 @@ pub fn input<R: Files + Input + AllocGlobal, E: Write>(
     }
 }
 
-/// The bytes of the file, or of standard input where none is named.
+/// The bytes of the script's file, or of standard input.
 fn bytes<R: Files + Input + AllocGlobal>(rt: &R, options: &Options) -> io::Result<Vec<u8>> {
-    match &options.file {
-        Some(name) => bytes_of(rt.alloc(), options, File::open(rt, name.as_str())?),
+    match file_of(options) {
+        Some(name) => bytes_of(rt.alloc(), options, File::open(rt, name)?),
         None => bytes_of(rt.alloc(), options, rt.reader()),
     }
 }
@@ -84,8 +84,8 @@ fn unread<E: Write>(options: &Options, error: &io::Error, err: &mut E) -> u8
     if error.kind() == io::ErrorKind::OutOfMemory {
         return failed(err, &RunFault::Memory);
     }
-    match &options.file {
-        Some(name) => failed(err, &format_args!("cannot read {name}")),
-        None => failed(err, &"cannot read standard input"),
+    match file_of(options) {
+        Some(name) => failed_by(err, &format_args!("cannot read {name}"), error),
+        None => failed_by(err, &"cannot read standard input", error),
     }
 }

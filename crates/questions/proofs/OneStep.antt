@@ -7,7 +7,7 @@ use Rattle.std.specs.List.{list_any, list_all}
 use Rattle.versions.specs.Map.{Map, with_pair, without}
 use Rattle.versions.specs.Commands as commands
 use Rattle.handles.specs.Machine.{Step, Granted, Finishes, Job, job_at, live_after, refusal, is_entry, live_with, held_by, open_handle, snapshot, drop_handle, on, view, freeze, finish, abandon, made, replied, viewed, frozen, finished, unfinished, refused, worked}
-use Rattle.bulk_ops.specs.Answers as plain
+use Rattle.bulk_work.specs.Answers as plain
 use Rattle.combiner.specs.Monoids.{folded}
 use Rattle.arguments.specs.Questions.{new_value, passes}
 use Rattle.arguments.specs.declared.pair_mapping.PairMapping.{PairMapping}
@@ -195,8 +195,8 @@ one_finished s t u j job b c is_open never f k =
     let second_named : Some k.job ≡ Some job = sym k.named ∙ is_open in
     let first : f.job ≡ job = cc in
     let second : k.job ≡ job = cc in
-    let one : f.answer ≡ the_answer job.query job.frozen = is_the_answer job.query job.frozen f.answer never (subst (λ (x : ScriptJob). answers x.query x.frozen f.answer) first f.is_answer.0) in
-    let other : k.answer ≡ the_answer job.query job.frozen = is_the_answer job.query job.frozen k.answer never (subst (λ (x : ScriptJob). answers x.query x.frozen k.answer) second k.is_answer.0) in
+    let one : f.answer ≡ the_answer job.query job.frozen = is_the_answer job.query job.frozen f.answer never (subst (λ (x : ScriptJob). answers x.query x.frozen f.answer) first f.is_answer) in
+    let other : k.answer ≡ the_answer job.query job.frozen = is_the_answer job.query job.frozen k.answer never (subst (λ (x : ScriptJob). answers x.query x.frozen k.answer) second k.is_answer) in
     let same : f.answer ≡ k.answer = one ∙ sym other in
     let jobs : f.job ≡ k.job = first ∙ sym second in
     (f.told ∙ ap (λ (a : ProgramAnswer). plain.summary a) same ∙ sym k.told, f.left ∙ (λ i. finished_in s j (jobs i) (same i)) ∙ sym k.left)
@@ -219,8 +219,8 @@ pub finishes_leave_one : (s t u : ProgramState) (j : ℕ) (b : ProgramSummary) �
 finishes_leave_one s t u j b f k =
     let named : Some f.job ≡ Some k.job = sym f.named ∙ k.named in
     let same : f.job ≡ k.job = cc in
-    let answered : answers f.job.query f.job.frozen k.answer = subst (λ (x : ScriptJob). answers x.query x.frozen k.answer) (sym same) k.is_answer.0 in
-    f.left ∙ leaves_one s j f.job.query f.job.frozen f.answer k.answer f.is_answer.0 answered (sym f.told ∙ k.told) ∙ ap (λ (x : ScriptJob). finished_in s j x k.answer) same ∙ sym k.left
+    let answered : answers f.job.query f.job.frozen k.answer = subst (λ (x : ScriptJob). answers x.query x.frozen k.answer) (sym same) k.is_answer in
+    f.left ∙ leaves_one s j f.job.query f.job.frozen f.answer k.answer f.is_answer answered (sym f.told ∙ k.told) ∙ ap (λ (x : ScriptJob). finished_in s j x k.answer) same ∙ sym k.left
 
 -- a finish that is granted and has the same outcome leaves one state
 granted_leave_one : (s t u : ProgramState) (j : ℕ) (o : ProgramOutcome) → Granted program s (finish j) o t → Granted program s (finish j) o u → t ≡ u

@@ -7,7 +7,7 @@ use Rattle.versions.specs.Commands as commands
 use Rattle.handles.specs.declared.limits.Limits.{Limits}
 use Rattle.handles.specs.Machine.{Kind, State, Request, open_handle, snapshot, drop_handle, on, view, freeze, Outcome, made, replied, viewed, finished, refused}
 use Rattle.handles.specs.Views.{machine, request_of}
-use Rattle.bulk_ops.specs.Answers as plain
+use Rattle.bulk_work.specs.Answers as plain
 use Rattle.keys.specs.Order.{bytes_cmp}
 use Rattle.script.specs.declared.statement.Statement.{Statement}
 use Rattle.script.specs.declared.statement.Statement.TheVariants.{Open, Snap, Drop, Get, Put, PutIfAbsent, Replace, ReplaceIf, Remove, RemoveIf, GetOrElse, Size, Clear, Pairs, Count, Exists, ForAll, Find, Filter, MapValues, MapPairs, Fold}
@@ -16,7 +16,7 @@ use Rattle.script.specs.declared.reply.LineReply.TheVariants as replies
 use Rattle.questions.specs.Folds.{Item}
 use Rattle.questions.specs.declared.ask.Ask.{Ask}
 use Rattle.questions.specs.declared.ask.Ask.TheVariants as asks
-use Rattle.questions.specs.Queries.{ScriptQuestion, count, exists, for_all, find, filtered, mapped, paired, fold, answers_in_order, target_of}
+use Rattle.questions.specs.Queries.{ScriptQuestion, count, exists, for_all, find, filtered, mapped, paired, fold, answers, target_of}
 
 -- what a question is answered
 abbrev pub ProgramAnswer : Type 0
@@ -28,7 +28,7 @@ ProgramSummary = plain.Summary (List ℕ) ℤ Item
 
 -- the machine of the program: its keys are in the order of their bytes, its values are numbers, and a question has its answers
 abbrev pub program : Kind (List ℕ) ℤ ScriptQuestion ProgramAnswer ProgramSummary
-program = machine bytes_cmp int_eq target_of answers_in_order
+program = machine bytes_cmp int_eq target_of answers
 
 -- a state of that machine
 abbrev pub ProgramState : Type 0
@@ -130,6 +130,7 @@ abbrev pub or_else_in : Statement → Option (ℕ × List ℕ × ℤ)
 or_else_in (GetOrElse handle key value) = Some (handle, key, value)
 or_else_in statement = None
 
+-- the same of what was asked
 abbrev pub or_else_asked : Ask → Option (ℕ × List ℕ × ℤ)
 or_else_asked (asks.GetOrElse handle key value) = Some (handle, arc_value key, value)
 or_else_asked ask = None

@@ -1,5 +1,5 @@
 //! What a program of scripts asks of a map: the queries of the bulk verbs with their closures and folds, the calls of
-//! the other verbs, and the replies that tell what is answered.
+//! the other verbs, and the replies that show what is returned.
 //!
 //! Contracts see the table of such a program as one machine, whose laws are here too.
 #![tactic(auto)]

@@ -13,15 +13,19 @@ module _ {T : Type 0} where
   abbrev pub taken_through : Pass T (DequeView T) Global → List T
   taken_through token = (view token).taken
 
+  -- the weight of what was taken through a thief's end
   abbrev pub token_taken : (T → ℕ) → Pass T (DequeView T) Global → ℕ
   token_taken h token = sum_by h (taken_through token)
 
+  -- the weight of what was taken through the owner's end
   abbrev pub owner_taken : (T → ℕ) → Worker T Global (DequeView T) DequeRule → ℕ
   owner_taken h w = sum_by h (worker_view w).taken
 
+  -- the weight of what was pushed through the owner's end
   abbrev pub owner_pushed : (T → ℕ) → Worker T Global (DequeView T) DequeRule → ℕ
   owner_pushed h w = sum_by h (worker_view w).pushed
 
+  -- the shares of the owner's end
   abbrev pub owner_shares : Worker T Global (DequeView T) DequeRule → ℕ
   owner_shares w = (worker_view w).shares
 

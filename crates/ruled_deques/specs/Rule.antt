@@ -5,6 +5,7 @@ use mathlib.Core.Option.{some}
 use lib.ListN.{get_elem?}
 use Rattle.ruled_deques.specs.declared.rule.DequeView.{DequeView}
 
+-- an end with so many shares, through which these were pushed and taken
 abbrev pub deque_view : {T : Type 0} → ℕ → List T → List T → DequeView T
 deque_view n pushed taken = record { shares = n; pushed = pushed; taken = taken }
 

@@ -1,6 +1,6 @@
 //! The deques of a crew, before its workers begin.
 ghost use Rattle.std.specs.Prelude.{◌≡◌, ◌<◌, ◌∷◌, [], ℕ, IfOk, length, slice_index_or};
-ghost use Rattle.crossbeam_deque.specs.Handles.{worker_view};
+ghost use Rattle.crossbeam_deque.specs.Handles.{worker_capacity, worker_index, worker_view};
 ghost use Rattle.ruled_deques.specs.Counts.{IsFresh};
 ghost use Rattle.ruled_deques.specs.EndsView.{given};
 
@@ -15,19 +15,20 @@ const FIRST_ROOM: usize = 64;
 
 // A deque on which nothing was pushed.
 fn open_one<T: Drop>(alloc: Global) -> Result<Owner<T>, AllocError>
-    ensures { IfOk result (λ own. IsFresh own × ((worker_view own).pushed ≡ [])) }
+    ensures fresh { IfOk result (λ own. IsFresh own × ((worker_view own).pushed ≡ [])) }
+    ensures room { IfOk result (λ own. worker_index own < worker_capacity own) }
 {
     Owner::<T>::lifo_as(alloc, FIRST_ROOM)
 }
 
-// A deque on which one item was pushed.
+// A deque on which one item was pushed. It has room for the item, so that the push is never refused.
 fn open_first<T: Drop>(alloc: Global, first: T) -> Result<Owner<T>, AllocError>
     ensures { IfOk result (λ own. IsFresh own × ((worker_view own).pushed ≡ first ∷ [])) }
 {
     let mut owner = open_one::<T>(alloc)?;
     match owner.push_as::<Push>(first) {
         Ok(()) => Ok(owner),
-        Err(_) => Err(AllocError),
+        Err(_) => unreachable!(),
     }
 }
 

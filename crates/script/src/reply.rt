@@ -9,7 +9,7 @@ use std::io;
 use std::io::Write;
 use versions::Refusal;
 
-/// What a command line is answered.
+/// The reply to a command line.
 #[derive(Debug, Drop)]
 pub enum LineReply {
     /// It was done, and there is nothing to tell.

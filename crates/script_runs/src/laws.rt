@@ -10,8 +10,8 @@ use handles::law_of_freezes;
 use keys::ByteText;
 use questions::{ScriptQuery, finishes_tell_one_answer, requests_have_one_outcome};
 
-/// What is written for a script of one client is a function of the script, if no line of it is a `find`, which may be
-/// answered any pair that passes, or a `mappairs`, which may keep any of the images of a key.
+/// What is written for a script of one client is a function of the script, if no line of it is a `find`, which may
+/// return any pair that passes, or a `mappairs`, which may keep any of the images of a key.
 pub fn script_has_one_output()
     ensures { (script : List CommandLine) (one other : List ℕ) → HasOneClient script → LeavesNoChoice script → IsOutputOf script one → IsOutputOf script other → one ≡ other }
 {

@@ -7,8 +7,8 @@ use std::alloc::{AllocError, Global};
 use std::sync::atomic::{AtomicU64, Ordering};
 use std::sync::{Barrier, Wait};
 use std::test::Fail;
-use std::thread;
 use std::thread::Threads;
+use std::{hint, thread};
 
 // A stack that no thread can have.
 const TOO_LARGE: usize = usize::MAX;
@@ -34,6 +34,34 @@ impl Work for Counted<'_> {
     fn run(&self, job: u32) -> u64 {
         self.0.fetch_add(1, Ordering::SeqCst);
         10 * job as u64 + 1
+    }
+}
+
+// How often a job looks whether another has begun.
+const LOOKS: u32 = 200_000;
+
+// Counts how often it was begun, and returns the job's number, and whether another job was begun meanwhile.
+#[derive(Drop)]
+struct Alone<'a>(&'a AtomicU64);
+
+impl Work for Alone<'_> {
+    type Job = u32;
+
+    type Out = (u32, bool);
+
+    ghost needs = { λ _ _. Unit {0} };
+
+    ghost gives = { λ _ _ _. Unit {0} };
+
+    fn run(&self, job: u32) -> (u32, bool) {
+        let begun = self.0.fetch_add(1, Ordering::SeqCst).wrapping_add(1);
+        for _ in 0..LOOKS {
+            if self.0.load(Ordering::SeqCst) != begun {
+                return (job, true);
+            }
+            hint::spin_loop();
+        }
+        (job, false)
     }
 }
 
@@ -102,25 +130,26 @@ fn refused<R: Threads + Wait + Sync>(
     alloc: Global,
     jobs: Vec<u32>,
     count: &AtomicU64,
-) -> Result<Vec<u64>, AllocError> {
-    let work = Counted(count);
+) -> Result<Vec<(u32, bool)>, AllocError> {
+    let work = Alone(count);
     let work = &work;
     thread::scope(
         thread::scope_env(),
         rt,
-        move |scope| -> Result<Vec<u64>, AllocError> {
+        move |scope| -> Result<Vec<(u32, bool)>, AllocError> {
             run_jobs(scope, rt, alloc, TOO_LARGE, 2, work, jobs)
         },
     )
 }
 
-/// Each thread is tried and refused.
+/// Each thread is tried and refused, so each job is done when those before it are.
 #[test]
 fn a_job_whose_thread_is_refused_is_done_by_the_caller(rt: HostRuntime) -> Result<(), Fail> {
     let alloc = rt.alloc();
     let count = AtomicU64::new(0);
     let done = refused(&rt, alloc, vec![in alloc; 5, 3, 8, 2]?, &count)?;
-    assert_eq!(rt; done.as_slice(), [51, 31, 81, 21].as_slice());
+    let alone = [(5, false), (3, false), (8, false), (2, false)];
+    assert_eq!(rt; done.as_slice(), alone.as_slice());
     assert_eq!(rt; count.load(Ordering::SeqCst), 4);
     Ok(())
 }

@@ -1,5 +1,5 @@
 -- What pieces and the spots where they are cut have to do with their map.
-use Rattle.std.specs.Prelude.{◌≡◌, ℕ, ◌+◌, ◌<◌, ◌≤◌, ◌^◌, Option, None, MatchOption, length}
+use Rattle.std.specs.Prelude.{◌≡◌, ℕ, ◌+◌, ◌<◌, ◌≤◌, ◌^◌, Option, Some, None, MatchOption, length}
 use Rattle.std.specs.declared.cmp.Ordering.{Ordering}
 use Rattle.hash_path.specs.Digits.{word_bits}
 use Rattle.trie_shape.specs.Map.{Map, IsMap}
@@ -10,6 +10,7 @@ use Rattle.iter.specs.Intervals.{part, whole}
 use Rattle.iter.specs.Subtries.{children_between, pairs_of_all}
 use Rattle.iter.specs.declared.interval.Interval.{Interval}
 use Rattle.splitter.specs.Cuts.{middle_of, words_of}
+use Rattle.splitter.specs.Laws.{below, from}
 use Rattle.splitter.specs.Places.{IsPlace}
 use Rattle.splitter.specs.declared.place.Place.{Place}
 use Rattle.splitter.specs.declared.place.Spot.{Spot}
@@ -27,6 +28,14 @@ module _ {K V : Type 0} (R : K → K → Ordering) (path : K → ℕ) where
   IsCutAt m i spot =
       MatchOption spot (middle_of (words_of path (part path m i)) ≡ None)
       (λ s. (s.from + 1 < s.to) × IsPlace R path m i (tree s.branch.now) s.bitmap s.level s.base s.from s.to)
+
+  -- the spot is divided at the child of this number, whose words begin at mid: the middle of the words of the part
+  pub record IsDivided (m : Map K V) (i : Interval) (s : Spot K V) (half mid : ℕ) : Type 0 where
+    pub low : i.lo ≤ mid
+    pub high : mid ≤ i.hi
+    pub middle : middle_of (words_of path (part path m i)) ≡ Some mid
+    pub lower : IsPlace R path m (below i mid) (tree s.branch.now) s.bitmap s.level s.base s.from half
+    pub upper : IsPlace R path m (from i mid) (tree s.branch.now) s.bitmap s.level s.base half s.to
 
   -- the pairs of the spot's children
   abbrev pub pairs_at : Spot K V → Map K V

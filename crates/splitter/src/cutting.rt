@@ -18,7 +18,10 @@ pub fn cut<K: PathKey + Drop, V: Drop>(
         return Ok(Cut::One(piece));
     }
     match piece.halves() {
-        Ok(Some((lower, upper))) => Ok(Cut::Two(lower, upper)),
+        Ok(Some((lower, upper))) => {
+            drop(piece);
+            Ok(Cut::Two(lower, upper))
+        }
         Ok(None) => Ok(Cut::One(piece)),
         Err(_) => Err(piece),
     }

@@ -1,10 +1,13 @@
 //! Where a piece is cut.
 
-ghost use Rattle.std.specs.Prelude.{◌≡◌, Some, None, IfOk, MatchOption};
+ghost use Rattle.std.specs.Prelude.{◌≡◌, ◌+◌, ◌<◌, ◌≤◌, ◌^◌, Some, None, IfOk, MatchOption};
+ghost use Rattle.hash_path.specs.Digits.{word_bits};
+ghost use Rattle.trie_shape.specs.View.{tree};
 ghost use Rattle.iter.specs.Intervals.{part};
 ghost use Rattle.splitter.specs.Cuts.{middle_of, words_of};
 ghost use Rattle.splitter.specs.Laws.{below, from};
-ghost use Rattle.splitter.specs.Spots.{IsCutAt};
+ghost use Rattle.splitter.specs.Places.{IsPlace};
+ghost use Rattle.splitter.specs.Spots.{IsCutAt, IsDivided};
 
 use crate::digits::nth_digit;
 use crate::piece::Piece;
@@ -59,11 +62,45 @@ impl<K: PathKey, V> Piece<K, V> {
 }
 
 impl<K: PathKey + Drop, V: Drop> Piece<K, V> {
-    /// The pieces below the middle and from there on, where the piece has a middle.
-    pub(crate) fn halves(&self) -> Result<Option<(Piece<K, V>, Piece<K, V>)>, NoMemory>
-        ensures middle { IfOk result (λ halves. MatchOption halves (middle_of (words_of K.path_of (part K.path_of self.now.map self.now.interval)) ≡ None) (λ two. middle_of (words_of K.path_of (part K.path_of self.now.map self.now.interval)) ≡ Some two.0.interval.hi)) }
-        ensures lower { IfOk result (λ halves. MatchOption halves (Unit {0}) (λ two. two.0 ≡ record self.now { interval = below self.now.interval two.0.interval.hi })) }
-        ensures upper { IfOk result (λ halves. MatchOption halves (Unit {0}) (λ two. two.1 ≡ record self.now { interval = from self.now.interval two.0.interval.hi })) }
+    /// The pairs of the view in an interval, which some children of the spot have.
+    fn half(
+        &self,
+        spot: &Spot<'_, K, V>,
+        interval: Interval,
+        from: u32,
+        to: u32,
+    ) -> Result<Piece<K, V>, NoMemory>
+        requires order { interval.lo ≤ interval.hi }
+        requires within { interval.hi ≤ 2 ^ word_bits }
+        requires place { IsPlace K.cmp K.path_of self.now.map interval (tree spot.now.branch.now) spot.now.bitmap spot.now.level spot.now.base from to }
+        ensures { IfOk result (λ half. half ≡ record self.now { interval = interval }) }
+    {
+        branch_is_its_children::<K, V>();
+        parts_follow_intervals::<K, V>();
+        trie_follows_digits::<K, V>();
+        walk_lists_map::<K, V>();
+        let count = count_between(spot.branch, from, to);
+        let place = spot.place(from, to)?;
+        let Ok(view) = self.view.try_clone() else {
+            drop(place);
+            return Err(NoMemory);
+        };
+        let half = Piece {
+            view,
+            interval,
+            count,
+            place: Some(place),
+            alloc: self.alloc,
+        };
+        Ok(half)
+    }
+
+    /// Where the pairs of the spot are divided: the number of the first child of the upper half, and the position at
+    /// which its words begin.
+    fn middle(&self, spot: &Spot<'_, K, V>) -> (u32, Bound)
+        requires many { spot.now.from + 1 < spot.now.to }
+        requires place { IsPlace K.cmp K.path_of self.now.map self.now.interval (tree spot.now.branch.now) spot.now.bitmap spot.now.level spot.now.base spot.now.from spot.now.to }
+        ensures { IsDivided K.cmp K.path_of self.now.map self.now.interval spot.now result.0 result.1 }
     {
         bitmap_counts_children::<K, V>();
         branch_is_its_children::<K, V>();
@@ -75,26 +112,28 @@ impl<K: PathKey + Drop, V: Drop> Piece<K, V> {
         shared_digits_are_interval();
         trie_follows_digits::<K, V>();
         walk_lists_map::<K, V>();
+        // Read for the piece's invariant.
+        let _ = &self.view;
+        let half = spot.from + (spot.to - spot.from) / 2;
+        let mid = spot.base + Word::from(nth_digit(spot.bitmap, half)) * weight_at(spot.level);
+        (half, Bound::from(mid))
+    }
+
+    /// The pieces below the middle and from there on, where the piece has a middle.
+    pub(crate) fn halves(&self) -> Result<Option<(Piece<K, V>, Piece<K, V>)>, NoMemory>
+        ensures middle { IfOk result (λ halves. MatchOption halves (middle_of (words_of K.path_of (part K.path_of self.now.map self.now.interval)) ≡ None) (λ two. middle_of (words_of K.path_of (part K.path_of self.now.map self.now.interval)) ≡ Some two.0.interval.hi)) }
+        ensures lower { IfOk result (λ halves. MatchOption halves (Unit {0}) (λ two. two.0 ≡ record self.now { interval = below self.now.interval two.0.interval.hi })) }
+        ensures upper { IfOk result (λ halves. MatchOption halves (Unit {0}) (λ two. two.1 ≡ record self.now { interval = from self.now.interval two.0.interval.hi })) }
+    {
         let Some(spot) = self.cut_spot() else {
             return Ok(None);
         };
-        let half = spot.from + (spot.to - spot.from) / 2;
-        let mid = spot.base + Word::from(nth_digit(spot.bitmap, half)) * weight_at(spot.level);
-        let bound = Bound::from(mid);
-        let Interval { lo, hi } = self.interval;
-        let lower = Piece {
-            view: self.view.try_clone()?,
-            interval: Interval { lo, hi: bound },
-            count: count_between(spot.branch, spot.from, half),
-            place: Some(spot.place(spot.from, half)?),
-            alloc: self.alloc,
-        };
-        let upper = Piece {
-            view: self.view.try_clone()?,
-            interval: Interval { lo: bound, hi },
-            count: count_between(spot.branch, half, spot.to),
-            place: Some(spot.place(half, spot.to)?),
-            alloc: self.alloc,
+        let (half, mid) = self.middle(&spot);
+        let (lo, hi) = (self.lo(), self.hi());
+        let lower = self.half(&spot, Interval { lo, hi: mid }, spot.from, half)?;
+        let Ok(upper) = self.half(&spot, Interval { lo: mid, hi }, half, spot.to) else {
+            drop(lower);
+            return Err(NoMemory);
         };
         Ok(Some((lower, upper)))
     }

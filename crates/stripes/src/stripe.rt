@@ -90,7 +90,7 @@ impl<K: PathKey + Drop, V: Drop, P: Keeps<K, V>> Stripe<K, V, P> {
         self.version.len()
     }
 
-    /// Maps the key to the value where the condition holds of the value that the key has, and answers that value and
+    /// Maps the key to the value where the condition holds of the value that the key has, and returns that value and
     /// whether the stripe was written.
     ///
     /// The error is `Full` where the condition holds, the key is new and there are as many pairs as there may be, and
@@ -122,7 +122,7 @@ impl<K: PathKey + Drop, V: Drop, P: Keeps<K, V>> Stripe<K, V, P> {
         Ok(change)
     }
 
-    /// Removes the key where it is there and the condition holds of its value, and answers the value that it had and
+    /// Removes the key where it is there and the condition holds of its value, and returns the value that it had and
     /// whether the stripe was written.
     ///
     /// The only error is `NoMemory`, if memory runs out. The stripe is then as before.
@@ -150,7 +150,7 @@ impl<K: PathKey + Drop, V: Drop, P: Keeps<K, V>> Stripe<K, V, P> {
         Ok(change)
     }
 
-    /// Maps the key to the value, and answers the value before, or none. It is refused as `put_where` is, and the
+    /// Maps the key to the value, and returns the value before, or none. It is refused as `put_where` is, and the
     /// stripe is then as before.
     pub fn put(
         &mut self,
@@ -172,7 +172,7 @@ impl<K: PathKey + Drop, V: Drop, P: Keeps<K, V>> Stripe<K, V, P> {
         Ok(self.put_where(alloc, key, path, value, &Always)?.previous)
     }
 
-    /// Removes the key, and answers the value before, or none. The only error is `NoMemory`, if memory runs out. The
+    /// Removes the key, and returns the value before, or none. The only error is `NoMemory`, if memory runs out. The
     /// stripe is then as before.
     pub fn remove<Q: Sought<K>>(
         &mut self,

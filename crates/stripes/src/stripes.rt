@@ -145,7 +145,7 @@ pub fn empties<K: PathKey + Drop, V: Drop, P: Keeps<K, V>>(
     Ok(stripes)
 }
 
-/// A empty for each stripe.
+/// An empty map for each stripe.
 pub fn empty_maps<K: PathKey + Drop, V: Drop>(
     alloc: Global,
 ) -> Result<Vec<EmptyMap<K, V>>, NoMemory> {
@@ -156,7 +156,7 @@ pub fn empty_maps<K: PathKey + Drop, V: Drop>(
     Ok(empty_maps)
 }
 
-/// Removes all pairs of stripes that are all held, and lets each go then: a empty for each.
+/// Removes all pairs of stripes that are all held, and lets each go then: an empty map for each.
 pub fn clear_all<K: PathKey + Drop, V: Drop, P: Keeps<K, V>>(
     held: Guards<'_, K, V, P>,
     mut empty_maps: Vec<EmptyMap<K, V>>,

@@ -1,5 +1,7 @@
 pub use Rattle.hash_path.specs.Fnv
-pub use Rattle.bulk_ops.specs.Answers
+pub use Rattle.seeded_keys.specs.Sip
+pub use Rattle.seeded_keys.specs.Seeded
+pub use Rattle.bulk_work.specs.Answers
 pub use Rattle.trie_map.specs.Iterables
 pub use Rattle.trie_map.specs.Map
 pub use Rattle.trie_map.specs.Meanings

@@ -8,6 +8,8 @@ mod test;
 mod tests;
 
 pub use hash_path::{Path, Sought};
+pub use key_parts::{Parts, ThreeParts};
+pub use seeded_keys::{Seed, SeededText};
 pub use test::{Passes, Tested, test_by};
 pub use trie_map::{
     Answer, Anything, Asks, Both, ByteText, Crew, Greatest, Groups, ImageFn, Keeps, Keys, Least,

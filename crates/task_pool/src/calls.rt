@@ -1,7 +1,7 @@
 //! The call of a crew.
-ghost use Rattle.std.specs.Prelude.{◌≡◌, ◌+◌, ◌<◌, ◌≤◌, ◌++◌, [], ℕ, IfOk, Some, length, map, slice_index_or};
+ghost use Rattle.std.specs.Prelude.{◌≡◌, ◌+◌, ◌<◌, ◌≤◌, ◌++◌, ◌∷◌, [], ℕ, IfOk, Some, length, map, slice_index_or};
 ghost use Rattle.std.specs.List.{sum_by};
-ghost use Rattle.iter.specs.Intervals.{Tile, cover, whole};
+ghost use Rattle.iter.specs.Intervals.{AreApart, Tile, cover, whole};
 ghost use Rattle.ruled_deques.specs.Counts.{IsOpened};
 ghost use Rattle.ruled_deques.specs.EndsView.{given};
 ghost use Rattle.task_pool.specs.Reports.{IsReport, all_of};
@@ -151,26 +151,151 @@ where
     requires tile { Tile (all_of gathered.partials.items ++ gathered.leftover.items) whole }
     ensures { IfOk result (λ report. IsReport K.path_of (B.answers bulk.now) (B.decides bulk.now) C.map C.grain workers report.part (map (λ list. list.items) report.lists.items)) }
 {
-    let alloc = shared.alloc;
     let Gathered { partials, leftover } = gathered;
-    let mut rest = empty_lists(alloc, (workers as usize).saturating_sub(partials.len()))?;
-    let (all, mut lists) = merge_all(alloc, view, bulk, partials)?;
-    lists.append(&mut rest)?;
-    all.law();
-    let all = match all.settled_part() {
-        Ok(part) => {
-            lists.push(Vec::new(alloc))?;
-            return Ok(Report { part, lists });
-        }
-        Err(all) => all,
+    let Ok((all, lists)) = merge_padded(shared.alloc, view, bulk, workers, partials) else {
+        drop(leftover);
+        return Err(NoMemory);
     };
-    let mine = Partial::new(alloc, view, bulk)?;
-    let mine = work_leftovers(shared, mine, workers, leftover)?;
-    let list = mine.list(alloc)?;
-    lists.push(list)?;
-    let all = all.merge(alloc, mine)?;
+    all.law();
+    match all.settled_part() {
+        Ok(part) => {
+            drop(leftover);
+            let report = report_with(part, lists, Vec::new(shared.alloc))?;
+            Ok(report)
+        }
+        Err(all) => report_of_rest(shared, view, bulk, workers, all, lists, leftover),
+    }
+}
+
+// All that was worked, and a list for each worker: one of nothing for each that was not started.
+fn merge_padded<'a, C, K, V, B>(
+    alloc: Global,
+    view: &View<K, V>,
+    bulk: &'a B,
+    workers: u32,
+    partials: Vec<Partial<'a, C, K, V, B>>,
+) -> Result<(Partial<'a, C, K, V, B>, Vec<Vec<Interval>>), NoMemory>
+where
+    C: OfView<K, V> + OfBulk<B>,
+    K: PathKey + Drop,
+    V: Drop,
+    B: Bulk<K, V>,
+    requires view { view.now ≡ C.map }
+    requires bulk { Some bulk.now ≡ C.bulk }
+    requires ready { B.ready bulk.now }
+    requires apart { AreApart (all_of partials.items) }
+    requires few { length partials.items ≤ workers }
+    ensures all { IfOk result (λ both. both.0 ≡ all_of partials.entry.items) }
+    ensures lists { IfOk result (λ both. all_of (map (λ list. list.items) both.1.items) ≡ both.0) }
+    ensures count { IfOk result (λ both. length both.1.items ≡ workers) }
+{
+    let Ok(mut rest) = empty_lists(alloc, (workers as usize).saturating_sub(partials.len())) else {
+        drop(partials);
+        return Err(NoMemory);
+    };
+    let Ok((all, mut lists)) = merge_all(alloc, view, bulk, partials) else {
+        drop(rest);
+        return Err(NoMemory);
+    };
+    let padded = lists.append(&mut rest);
+    drop(rest);
+    let Ok(()) = padded else {
+        drop(all);
+        drop(lists);
+        return Err(NoMemory);
+    };
+    Ok((all, lists))
+}
+
+// The report where the workers' part is not settled: the caller works the rest.
+fn report_of_rest<'a, C, K, V, B, G>(
+    shared: &Shared<'_, G>,
+    view: &View<K, V>,
+    bulk: &'a B,
+    workers: u32,
+    all: Partial<'a, C, K, V, B>,
+    lists: Vec<Vec<Interval>>,
+    leftover: Vec<Task<C, K, V>>,
+) -> Result<Report<B::Part>, NoMemory>
+where
+    C: OfView<K, V> + OfBulk<B>,
+    K: PathKey + Drop,
+    V: Drop,
+    B: Bulk<K, V>,
+    G: Gate,
+    requires grain { shared.now.grain ≡ C.grain }
+    requires view { view.now ≡ C.map }
+    requires bulk { Some bulk.now ≡ C.bulk }
+    requires ready { B.ready bulk.now }
+    requires lists { all_of (map (λ list. list.items) lists.items) ≡ all }
+    requires count { length lists.items ≡ workers }
+    requires tile { Tile (all ++ leftover.items) whole }
+    ensures { IfOk result (λ report. IsReport K.path_of (B.answers bulk.now) (B.decides bulk.now) C.map C.grain workers report.part (map (λ list. list.items) report.lists.items)) }
+{
+    let Ok((mine, list)) = work_rest(shared, view, bulk, workers, leftover) else {
+        drop(all);
+        drop(lists);
+        return Err(NoMemory);
+    };
+    let Ok(all) = all.merge(shared.alloc, mine) else {
+        drop(lists);
+        drop(list);
+        return Err(NoMemory);
+    };
     all.law();
     let part = all.whole_part();
+    let report = report_with(part, lists, list)?;
+    Ok(report)
+}
+
+// What the caller works, and the list of it.
+fn work_rest<'a, C, K, V, B, G>(
+    shared: &Shared<'_, G>,
+    view: &View<K, V>,
+    bulk: &'a B,
+    workers: u32,
+    leftover: Vec<Task<C, K, V>>,
+) -> Result<(Partial<'a, C, K, V, B>, Vec<Interval>), NoMemory>
+where
+    C: OfView<K, V> + OfBulk<B>,
+    K: PathKey + Drop,
+    V: Drop,
+    B: Bulk<K, V>,
+    G: Gate,
+    requires grain { shared.now.grain ≡ C.grain }
+    requires view { view.now ≡ C.map }
+    requires bulk { Some bulk.now ≡ C.bulk }
+    requires ready { B.ready bulk.now }
+    requires apart { AreApart leftover.items }
+    ensures mine { IfOk result (λ both. (p : ℕ) → cover both.0 p ≡ cover leftover.items p) }
+    ensures list { IfOk result (λ both. both.1.items ≡ both.0) }
+{
+    let Ok(none) = Partial::new(shared.alloc, view, bulk) else {
+        drop(leftover);
+        return Err(NoMemory);
+    };
+    let mine = work_leftovers(shared, none, workers, leftover)?;
+    let Ok(list) = mine.list(shared.alloc) else {
+        drop(mine);
+        return Err(NoMemory);
+    };
+    Ok((mine, list))
+}
+
+// The report of a part, with one list more.
+fn report_with<P: Drop>(
+    part: P,
+    mut lists: Vec<Vec<Interval>>,
+    last: Vec<Interval>,
+) -> Result<Report<P>, NoMemory>
+    ensures part { IfOk result (λ report. report.part ≡ part) }
+    ensures lists { IfOk result (λ report. report.lists.items ≡ lists.items ++ last ∷ []) }
+{
+    let Ok(()) = lists.push(last) else {
+        drop(part);
+        drop(lists);
+        return Err(NoMemory);
+    };
     Ok(Report { part, lists })
 }
 
@@ -194,19 +319,25 @@ where
     ensures { IfOk result (λ report. IsReport K.path_of (B.answers bulk.now) (B.decides bulk.now) C.map C.grain workers report.part (map (λ list. list.items) report.lists.items)) }
 {
     let alloc = shared.alloc;
-    let mut lists = empty_lists(alloc, workers as usize)?;
-    let partial = Partial::<C, K, V, B>::new(alloc, view, bulk)?;
-    let all = work_alone(
-        shared,
-        partial,
-        workers,
-        Task::new(whole(alloc, view.try_clone()?)),
-    )?;
-    let list = all.list(alloc)?;
-    lists.push(list)?;
+    let task = Task::new(whole(alloc, view.try_clone()?));
+    let Ok(none) = Partial::<C, K, V, B>::new(alloc, view, bulk) else {
+        drop(task);
+        return Err(NoMemory);
+    };
+    let all = work_alone(shared, none, workers, task)?;
+    let Ok(list) = all.list(alloc) else {
+        drop(all);
+        return Err(NoMemory);
+    };
+    let Ok(lists) = empty_lists(alloc, workers as usize) else {
+        drop(all);
+        drop(list);
+        return Err(NoMemory);
+    };
     all.law();
     let part = all.whole_part();
-    Ok(Report { part, lists })
+    let report = report_with(part, lists, list)?;
+    Ok(report)
 }
 
 fn empty_lists(alloc: Global, count: usize) -> Result<Vec<Vec<Interval>>, NoMemory>

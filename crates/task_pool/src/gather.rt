@@ -1,5 +1,5 @@
 //! What the caller gathers from workers that have ended.
-ghost use Rattle.std.specs.Prelude.{◌≡◌, ◌+◌, ◌<◌, ℕ, IfOk, Some, length, map, slice_index_or};
+ghost use Rattle.std.specs.Prelude.{◌≡◌, ◌+◌, ◌<◌, ◌++◌, ◌∷◌, [], ℕ, IfOk, OnOk, Some, length, map, slice_index_or};
 ghost use Rattle.std.specs.List.{sum_by};
 ghost use Rattle.iter.specs.Intervals.{AreApart, cover, whole};
 ghost use Rattle.ruled_deques.specs.EndsView.{given};
@@ -31,6 +31,36 @@ struct Parted<'a, C: OfView<K, V> + OfBulk<B>, K: PathKey, V, B: Bulk<K, V>, D: 
     leftover: Vec<Task<C, K, V>>,
 }
 
+impl<'a, C, K, V, B, D> Parted<'a, C, K, V, B, D>
+where
+    C: OfView<K, V> + OfBulk<B>,
+    K: PathKey + Drop,
+    V: Drop,
+    B: Bulk<K, V>,
+    D: Deques,
+{
+    // Puts the fields of one worker behind those of the others.
+    fn add(&mut self, state: WorkerState<'a, C, K, V, B, D>) -> Result<(), NoMemory>
+        ensures ends { OnOk result (self.new.ends.items ≡ self.old.ends.items ++ state.entry.ends ∷ []) }
+        ensures partials { OnOk result (self.new.partials.items ≡ self.old.partials.items ++ state.entry.partial ∷ []) }
+        ensures leftover { OnOk result (self.new.leftover.items ≡ self.old.leftover.items ++ state.entry.leftover.items) }
+    {
+        let WorkerState {
+            ends,
+            partial,
+            leftover: mut rest,
+        } = state;
+        let ends = self.ends.push(ends);
+        let partials = self.partials.push(partial);
+        let leftover = self.leftover.append(&mut rest);
+        drop(rest);
+        match (ends, partials, leftover) {
+            (Ok(()), Ok(()), Ok(())) => Ok(()),
+            _ => Err(NoMemory),
+        }
+    }
+}
+
 // Takes the workers apart, and adds their balances.
 fn part_all<'a, C, K, V, B, D>(
     alloc: Global,
@@ -47,25 +77,16 @@ where
     ensures places { IfOk result (λ r. (i : ℕ) (d : _) → i < length r.ends.items → (slice_index_or r.ends.items i d).place ≡ i) }
     ensures balance { IfOk result (λ r. (p : ℕ) → sum_by (λ e. cover (given whole e.place) p) r.ends.items + sum_by (λ e. cover e.taken p) r.ends.items ≡ sum_by (λ t. cover t p) r.partials.items + sum_by (λ e. cover e.pushed p) r.ends.items + cover r.leftover.items p) }
 {
-    let mut all = Vec::new(alloc);
-    let mut partials = Vec::new(alloc);
-    let mut leftover = Vec::new(alloc);
+    let mut parted = Parted {
+        ends: Vec::new(alloc),
+        partials: Vec::new(alloc),
+        leftover: Vec::new(alloc),
+    };
     for one in done {
         let IdleWorker { state } = one?;
-        let WorkerState {
-            ends,
-            partial,
-            leftover: mut rest,
-        } = state;
-        all.push(ends)?;
-        partials.push(partial)?;
-        leftover.append(&mut rest)?;
+        parted.add(state)?;
     }
-    Ok(Parted {
-        ends: all,
-        partials,
-        leftover,
-    })
+    Ok(parted)
 }
 
 /// Closes the deques: what was given is what was worked and what is left over, each position as often.

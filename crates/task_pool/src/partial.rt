@@ -110,13 +110,24 @@ impl<'a, C: OfView<K, V> + OfBulk<B>, K: PathKey + Drop, V: Drop, B: Bulk<K, V>>
             mut runs,
             call,
         } = self;
-        let part = task.work_into(alloc, bulk, part)?;
         let interval = Interval {
             lo: task.lo(),
             hi: task.hi(),
         };
-        add_run(&mut runs, interval)?;
-        worked.push(interval)?;
+        let made = task.work_into(alloc, bulk, part);
+        drop(task);
+        let Ok(part) = made else {
+            drop((worked, runs));
+            return Err(NoMemory);
+        };
+        let Ok(()) = add_run(&mut runs, interval) else {
+            drop((part, worked, runs));
+            return Err(NoMemory);
+        };
+        let Ok(()) = worked.push(interval) else {
+            drop((part, worked, runs));
+            return Err(NoMemory);
+        };
         Ok(Partial {
             bulk,
             part,

@@ -31,16 +31,23 @@ where
 {
     law_of_cuts::<K, V>();
     match task.halves(shared.grain) {
-        Err(_) => Err(NoMemory),
+        Err(task) => {
+            drop(task);
+            drop(partial);
+            Err(NoMemory)
+        }
         Ok((lower, rest)) => match rest {
             None => {
                 shared.gate.before(number, lower.lo(), lower.hi());
                 partial.work(shared.alloc, lower)
             }
-            Some(upper) => {
-                let partial = work_alone(shared, partial, number, lower)?;
-                work_alone(shared, partial, number, upper)
-            }
+            Some(upper) => match work_alone(shared, partial, number, lower) {
+                Ok(partial) => work_alone(shared, partial, number, upper),
+                Err(NoMemory) => {
+                    drop(upper);
+                    Err(NoMemory)
+                }
+            },
         },
     }
 }

@@ -15,8 +15,7 @@ use std::sync::Wait;
 use std::thread::Threads;
 use trie_node::NoMemory;
 
-// The stack of a worker's thread, in bytes: that of a client's thread, on which a crew's first worker runs where a client
-// asks a crew.
+// The stack of a worker's thread, in bytes: as much as that of a client, whose thread is a crew's first worker.
 const WORKER_STACK: usize = 512 * 1024;
 
 // Runs a worker, by whichever thread.

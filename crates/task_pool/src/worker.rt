@@ -53,17 +53,24 @@ where
     {
         law_of_cuts::<K, V>();
         match task.halves(shared.grain) {
-            Err(_) => Err(NoMemory),
+            Err(task) => {
+                drop(task);
+                drop(self);
+                Err(NoMemory)
+            }
             Ok((lower, rest)) => match rest {
                 None => self.work_or_leave(shared, lower),
                 Some(upper) => {
                     shared.note_split();
                     match self.ends.push(upper) {
                         Ok(()) => self.process(shared, lower),
-                        Err(upper) => {
-                            let state = self.process(shared, lower)?;
-                            state.process(shared, upper)
-                        }
+                        Err(upper) => match self.process(shared, lower) {
+                            Ok(state) => state.process(shared, upper),
+                            Err(NoMemory) => {
+                                drop(upper);
+                                Err(NoMemory)
+                            }
+                        },
                     }
                 }
             },

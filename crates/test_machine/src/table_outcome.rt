@@ -2,7 +2,7 @@
 
 use crate::questions::Question;
 use crate::rows::PlainPair;
-use bulk_ops::Answer;
+use bulk_work::Answer;
 use handles::{CallReply, Reply};
 use test_keys::ChosenKey;
 use versions::Refusal;

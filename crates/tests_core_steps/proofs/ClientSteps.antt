@@ -7,9 +7,9 @@ use Rattle.std.specs.Cmp.{nat_cmp_total, eq_by_cmp_equiv}
 use Rattle.std.specs.FinMap.Entries.{find-put}
 use Rattle.versions.specs.Map.{Map}
 use Rattle.versions.specs.Commands as commands
-use Rattle.bulk_ops.specs.Answers as plain
-use Rattle.bulk_ops.specs.Summaries.{summary_of}
-use Rattle.bulk_ops.specs.declared.asks.Answer.{Answer}
+use Rattle.bulk_work.specs.Answers as plain
+use Rattle.bulk_work.specs.Summaries.{summary_of}
+use Rattle.bulk_work.specs.declared.asks.Answer.{Answer}
 use Rattle.handles.specs.Machine.{State, Job, on, freeze, finish, replied, frozen, finished, held_by, map_at}
 use Rattle.held_maps.specs.declared.reply.Reply.TheVariants as replies
 use Rattle.handles.specs.declared.call_reply.CallReply.TheVariants as call_replies

@@ -1,11 +1,12 @@
 -- Queries that ask how many pairs a map has, and what is returned where there is something.
 use Rattle.std.proofs.Common.{◌≡◌, ℕ, true, [], ◌∷◌, length, filter, refl, ap, sym, subst, ◌∙◌, Option, Some, None}
 use Rattle.std.specs.Prelude.{Result, Ok, Err, IfOk, IfSome}
+use Rattle.std.specs.declared.cmp.Ordering.{Ordering}
 use Rattle.versions.specs.Map.{Map}
-use Rattle.bulk_ops.specs.Answers.{Answer, Summary, answers, count, passes, summary}
-use Rattle.bulk_ops.specs.Summaries.{summary_of}
-use Rattle.bulk_ops.specs.declared.asks.Answer as code
-use Rattle.bulk_ops.specs.declared.asks.Answer.TheVariants.{Count, Truth, Found, Made, Images, Item}
+use Rattle.bulk_work.specs.Answers.{Answer, Summary, answers, count, passes, summary}
+use Rattle.bulk_work.specs.Summaries.{summary_of}
+use Rattle.bulk_work.specs.declared.asks.Answer as code
+use Rattle.bulk_work.specs.declared.asks.Answer.TheVariants.{Count, Truth, Found, Made, Images, Item}
 use Rattle.handles.specs.Machine.{State, Job}
 use Rattle.tests_core_steps.specs.Clients.{AsksSize, IsOnlyJob, IsAnswerTo, TellsCount}
 
@@ -15,15 +16,15 @@ all_pass [] = refl
 all_pass {K = K} {V = V} (x ∷ m) = ap (λ (n : Map K V). x ∷ n) (all_pass m)
 
 -- a count of all pairs has one answer
-pub size_answer : {K V I : Type 0} (m : Map K V) (a : Answer K V I) → answers (count (λ k v. true)) m a → a ≡ Answer.number (length m)
-size_answer {K = K} {V = V} {I = I} m (Answer.number n) e =
+pub size_answer : {K V I : Type 0} (R : K → K → Ordering) (m : Map K V) (a : Answer K V I) → answers R (count (λ k v. true)) m a → a ≡ Answer.number (length m)
+size_answer {K = K} {V = V} {I = I} R m (Answer.number n) e =
     let of_number : ℕ → Answer K V I = λ k. Answer.number k in
     ap of_number (e ∙ ap length (all_pass m))
-size_answer m (Answer.truth b) e = absurd e
-size_answer m (Answer.found x) e = absurd e
-size_answer m (Answer.made n) e = absurd e
-size_answer m (Answer.images n) e = absurd e
-size_answer m (Answer.item i) e = absurd e
+size_answer R m (Answer.truth b) e = absurd e
+size_answer R m (Answer.found x) e = absurd e
+size_answer R m (Answer.made n) e = absurd e
+size_answer R m (Answer.images n) e = absurd e
+size_answer R m (Answer.item i) e = absurd e
 
 -- where a number is returned, it is a count's
 pub tells_count : {K V I : Type 0} (a : code.Answer K V I) (n : ℕ) → summary_of a ≡ Summary.number n → TellsCount a

@@ -1,10 +1,10 @@
 -- What a client of a core may rely on.
 use Rattle.std.specs.Prelude.{◌≡◌, ℕ, ◌<◌, length, Some}
 use Rattle.versions.specs.Map.{Map}
-use Rattle.bulk_ops.specs.Answers as plain
-use Rattle.bulk_ops.specs.Summaries.{summary_of}
-use Rattle.bulk_ops.specs.declared.asks.Answer.{Answer}
-use Rattle.bulk_ops.specs.declared.asks.Answer.TheVariants.{Count}
+use Rattle.bulk_work.specs.Answers as plain
+use Rattle.bulk_work.specs.Summaries.{summary_of}
+use Rattle.bulk_work.specs.declared.asks.Answer.{Answer}
+use Rattle.bulk_work.specs.declared.asks.Answer.TheVariants.{Count}
 use Rattle.handles.specs.Machine.{State, Job, job_at}
 
 module _ {K V Q : Type 0} where

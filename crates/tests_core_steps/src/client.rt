@@ -1,7 +1,7 @@
 //! A client of a core, which knows the core by its contracts alone: what a count returns at last is the size that the
 //! handle's map had before its freeze, whatever steps clients and workers make between the two.
 ghost use Rattle.std.specs.Prelude.{◌≡◌, All, IfOk, IfSome, length};
-ghost use Rattle.bulk_ops.specs.declared.asks.Answer.TheVariants as answers;
+ghost use Rattle.bulk_work.specs.declared.asks.Answer.TheVariants as answers;
 ghost use Rattle.handles.specs.Machine.{held_by};
 ghost use Rattle.handles.specs.declared.call_reply.CallReply.TheVariants as call_replies;
 ghost use Rattle.held_maps.specs.declared.reply.Reply.TheVariants as replies;
@@ -10,7 +10,7 @@ ghost use Rattle.core_steps.specs.Steps.{CanAsk, asked_by};
 ghost use Rattle.core_steps.specs.declared.outcome.Outcome.TheVariants as outcomes;
 ghost use Rattle.tests_core_steps.specs.Clients.{AsksSize, IsOnlyJob, IsAnswerTo, NumbersStay, TellsCount};
 
-use bulk_ops::{Answer, Asks};
+use bulk_work::{Answer, Asks};
 use core_steps::{Core, Outcome, Step};
 use handles::{Call, CallReply, Command, Reply};
 use hash_path::PathKey;

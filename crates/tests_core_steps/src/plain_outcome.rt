@@ -1,6 +1,7 @@
 //! The outcomes of a core, as plain values.
 
-use bulk_ops::{Pair, Part};
+use bulk_ops::Part;
+use bulk_work::Pair;
 use core_steps::{Outcome, Progress};
 use iter::{pairs, pairs_of};
 use std::alloc::Global;

@@ -1,7 +1,7 @@
 //! The outcomes of a table, as plain values.
 
 use crate::asking::ThreeItems;
-use bulk_ops::{Answer, Pair};
+use bulk_work::{Answer, Pair};
 use handles::{CallReply, Reply};
 use std::sync::Arc;
 use test_keys::ChosenKey;

@@ -6,7 +6,8 @@ use crate::asking::{Ask, Asked, Asking, ThreeItems, query_of};
 use crate::plain_outcome::{
     PlainOutcome, call_outcome_of, finish_outcome, freeze_outcome, unit_outcome, view_outcome,
 };
-use bulk_ops::{Answer, Asks, Part, work};
+use bulk_ops::Part;
+use bulk_work::{Answer, Asks, work};
 use combiner::Bulk;
 use handles::{Call, Command, Table};
 use hash_path::PathKey;

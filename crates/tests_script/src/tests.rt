@@ -3,3 +3,4 @@
 mod parts;
 mod questions;
 mod replies;
+mod verbs;

@@ -4,6 +4,7 @@ mod gates;
 mod many;
 mod memory;
 mod pieces;
+mod refusals;
 mod rows;
 
 ghost use Rattle.std.specs.Prelude.{◌≤◌};

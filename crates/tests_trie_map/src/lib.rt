@@ -1,4 +1,4 @@
-//! Tests of `trie_map`: what its calls answer, by hand; with requests for memory refused; and by many threads at once.
+//! Tests of `trie_map` that call and compare: what its calls answer, by hand and by several threads at once.
 #![tactic(auto)]
 
 #[cfg(test)]

@@ -1,24 +1,19 @@
-//! What the calls answer, by hand; with requests for memory refused; of many pairs; and by many threads at once.
+//! What the calls answer, by hand and by several threads at once.
 mod asked;
 mod calls;
 mod crews;
 mod drops;
 mod equality;
 mod filled;
-mod hashing;
 mod hot_keys;
 mod made;
 mod many;
-mod memory;
-mod moments;
 mod races;
 mod ranks;
 mod reads;
 mod reentry;
 mod retained;
-mod sizes;
 mod texts;
-mod threads;
 mod updates;
 mod walks;
 

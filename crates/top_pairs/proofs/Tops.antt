@@ -9,7 +9,7 @@ use Rattle.std.proofs.lemmas.List.{append_assoc, length-append, length-map, map-
 use Rattle.std.proofs.lemmas.List.Sorted.{IsPermutation-append, IsPermutation-append_comm, IsPermutation-append_left, IsPermutation-append_right, IsPermutation-cons, IsPermutation-map, IsPermutation-middle, IsPermutation-refl, IsPermutation-sym, IsPermutation-trans, length_permutation}
 use Rattle.versions.specs.Map.{Map, ShareNoKey, union, with_pair}
 use Rattle.combiner.specs.Bulks.{IsAdded, IsJoined}
-use Rattle.bulk_ops.proofs.Unions.{Split, apart_rest, fresh, put_splits, right_of, truth_of}
+use Rattle.bulk_work.proofs.Unions.{Split, apart_rest, fresh, put_splits, right_of, truth_of}
 use Rattle.std.specs.FinMap.{is_sorted}
 use Rattle.top_pairs.specs.Ranks.{AtLeast, IsTop, Listed, pair_of}
 use Rattle.top_pairs.specs.Merges.{highest}

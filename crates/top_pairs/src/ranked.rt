@@ -12,6 +12,13 @@ use trie_node::NoMemory;
 
 /// Pairs of a map with their scores, from the highest score down.
 ///
+/// <!-- quoted from crates/tests_trie_map/src/tests/ranks.rt -->
+/// ```rust
+/// let top = map.par_top(&rt, 3, |_, value| *value, four());
+/// let top = top.expect(&rt, "no pairs");
+/// assert_is(&rt, top.len(), 3);
+/// ```
+///
 /// Contracts see the list of them.
 #[derive(Drop)]
 pub struct Ranked<K, V, S> {
@@ -38,6 +45,8 @@ impl<K: Drop, V: Drop, S: Ord + Copy> Ranked<K, V, S> {
     }
 
     /// How many pairs are listed.
+    ///
+    /// Cost: O(1), no lock. Refused: never.
     pub fn len(&self) -> usize
         ensures { result ≡ length self.now }
     {
@@ -45,6 +54,8 @@ impl<K: Drop, V: Drop, S: Ord + Copy> Ranked<K, V, S> {
     }
 
     /// Whether no pair is listed.
+    ///
+    /// Cost: O(1), no lock. Refused: never.
     pub fn is_empty(&self) -> bool
         ensures { IsTrue result ↔ (self.now ≡ []) }
     {
@@ -52,6 +63,8 @@ impl<K: Drop, V: Drop, S: Ord + Copy> Ranked<K, V, S> {
     }
 
     /// The pair at the index, from 0 for the highest score, or none beyond the last.
+    ///
+    /// Cost: O(1), no lock. Refused: never.
     pub fn get(&self, index: usize) -> Option<&Scored<K, V, S>>
         ensures { option_map (λ item. item.now) result ≡ slice_get self.now index }
     {
@@ -59,6 +72,8 @@ impl<K: Drop, V: Drop, S: Ord + Copy> Ranked<K, V, S> {
     }
 
     /// The pairs, from the highest score down.
+    ///
+    /// Cost: O(1), no lock. Refused: never.
     pub fn as_slice(&self) -> &[Scored<K, V, S>]
         ensures { result.now ≡ self.now }
     {

@@ -7,6 +7,15 @@ use trie_node::NoMemory;
 
 /// A pair of a map with its score.
 ///
+/// <!-- quoted from crates/tests_trie_map/src/tests/ranks.rt -->
+/// ```rust
+/// for (place, pair) in top.as_slice().iter().enumerate() {
+///     assert_is(&rt, pair.score(), 99 - place as u64);
+///     assert_is(&rt, **pair.value(), 99 - place as u64);
+///     assert_is(&rt, u64::from(pair.key().id) * 37 % 100, pair.score());
+/// }
+/// ```
+///
 /// Contracts see the score, the key and the value.
 #[derive(Drop)]
 pub struct Scored<K, V, S> {
@@ -36,6 +45,8 @@ impl<K: Drop, V: Drop, S: Copy> Scored<K, V, S> {
     }
 
     /// The score of the pair.
+    ///
+    /// Cost: O(1), no lock. Refused: never.
     pub fn score(&self) -> S
         ensures { result ≡ self.now.score }
     {
@@ -43,6 +54,8 @@ impl<K: Drop, V: Drop, S: Copy> Scored<K, V, S> {
     }
 
     /// A handle on the key of the pair.
+    ///
+    /// Cost: O(1), no lock. Refused: never.
     pub fn key(&self) -> &Arc<K>
         ensures { result.now.value ≡ self.now.key }
     {
@@ -50,6 +63,8 @@ impl<K: Drop, V: Drop, S: Copy> Scored<K, V, S> {
     }
 
     /// A handle on the value of the pair.
+    ///
+    /// Cost: O(1), no lock. Refused: never.
     pub fn value(&self) -> &Arc<V>
         ensures { result.now.value ≡ self.now.value }
     {
@@ -57,6 +72,8 @@ impl<K: Drop, V: Drop, S: Copy> Scored<K, V, S> {
     }
 
     /// The same pair with its score, by other handles.
+    ///
+    /// Cost: O(1), no lock. Refused: `NoMemory`, where a handle cannot be cloned.
     pub fn try_clone(&self) -> Result<Scored<K, V, S>, NoMemory>
         ensures { IfOk result (λ item. item ≡ self.now) }
     {

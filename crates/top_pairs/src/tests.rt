@@ -1,7 +1,7 @@
 //! The highest scores of small maps, by hand.
 
 use crate::{Ranked, TopPairs};
-use bulk_ops::work;
+use bulk_work::work;
 use combiner::Bulk;
 use splitter::whole;
 use std::alloc::Global;

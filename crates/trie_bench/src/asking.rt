@@ -1,7 +1,8 @@
 //! Questions about all pairs, one after another.
 
 use bench_kit::{Best, Fault, Question, count, exists, filter, fold_sum, map_values};
-use bulk_ops::{NoImages, Part, work};
+use bulk_ops::{NoImages, Part};
+use bulk_work::work;
 use combiner::Bulk;
 use hash_path::PathKey;
 use keys::ByteText;

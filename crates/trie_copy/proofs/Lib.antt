@@ -2,6 +2,7 @@ pub mod Answered
 pub mod Branches
 pub mod ChildAt
 pub mod EachPut
+pub mod InRows
 pub mod MergedRoots
 pub mod MergedRows
 pub mod PutsBelow

@@ -19,6 +19,7 @@ module _ {K V : Type 0} where
   child_among (x ∷ xs) no_trees d = None
   child_among (x ∷ xs) (more_trees t ts) d = if x == d then Some t else child_among xs ts d
 
+  -- the child of a branch that has the digit, if there is one
   abbrev pub child_at : Tree K V → ℕ → Option (Tree K V)
   child_at (branch stamp size bitmap ts) d = child_among (digits_of bitmap) ts d
   child_at (bucket stamp es) d = None
@@ -34,6 +35,7 @@ module _ {K V : Type 0} where
     StampsPass test (branch stamp size bitmap ts) = (test stamp ≡ true) × AllStampsPass test ts
     StampsPass test (bucket stamp es) = test stamp ≡ true
 
+    -- the same of several trees
     pub AllStampsPass : (ℕ → Bool) → Trees K V → Type 0
     AllStampsPass test no_trees = Unit {0}
     AllStampsPass test (more_trees t ts) = StampsPass test t × AllStampsPass test ts

@@ -146,7 +146,7 @@ fn merge_branches<K: PathKey + Drop, V: Drop>(
 ///
 /// A part where one side alone has pairs is shared with that side, so that the maps of disjoint
 /// intervals are put together at the cost of the nodes where the intervals meet. Each new node has
-/// the stamp. Where a map is empty, the other's root is answered as it is.
+/// the stamp. Where a map is empty, the other's root is returned as it is.
 pub fn merged<K: PathKey + Drop, V: Drop>(
     alloc: Global,
     left: &Node<K, V>,

@@ -25,10 +25,10 @@ use trie_shape::{make_bucket, make_leaf};
 /// How many pairs a subtrie has at most whose keys and values are fetched at once.
 const MOST_AT_ONCE: u64 = 256;
 
-/// The root of the map of those pairs at which the test answers true. It shares the keys and values with the old
+/// The root of the map of those pairs at which the test returns true. It shares the keys and values with the old
 /// root, which is unchanged. All its nodes are new and have the stamp.
 ///
-/// The test is called once for each pair, in the order of a walk. A test may answer differently each time, so which
+/// The test is called once for each pair, in the order of a walk. A test may return differently each time, so which
 /// pairs are left is exact for each meaning that it has. No memory is requested for a subtrie none of whose pairs
 /// pass, or of which a leaf is left.
 ///
@@ -45,7 +45,7 @@ pub fn with_passing<K: PathKey + Drop, V: Drop, F: Fn(&K, &V) -> bool>(
     requires callable { F.IsAlwaysCallable test.now }
     ensures root { IfOk result (λ n. IsRoot K.cmp K.path_of (tree n)) }
     ensures map { IfOk result (λ n. (p : K → V → Bool) → Means (MayAnswer F.Fn test.now) p → map_of K.cmp (tree n) ≡ filter (λ x. p x.0 x.1) (map_of K.cmp (tree root.now))) }
-    // In any case the test may answer true at each pair that stays, and false at each that is left out.
+    // In any case the test may return true at each pair that stays, and false at each that is left out.
     ensures chosen { IfOk result (λ n. AreChosen (MayAnswer F.Fn test.now) (map_of K.cmp (tree root.now)) (map_of K.cmp (tree n))) }
     ensures count { IfOk result (λ n. length (map_of K.cmp (tree n)) ≤ length (map_of K.cmp (tree root.now))) }
     ensures stamps { IfOk result (λ n. All (λ node. node.1 ≡ stamp.0) (nodes (word_of K.path_of) (tree n))) }
@@ -154,7 +154,7 @@ fn pass_pairs<K: Drop, V: Drop, F: Fn(&K, &V) -> bool>(
     }
 }
 
-/// What the test answers at a pair.
+/// What the test returns at a pair.
 fn answer_at<K, V, F: Fn(&K, &V) -> bool>(test: &F, key: &Arc<K>, value: &Arc<V>) -> bool
     requires { F.IsAlwaysCallable test.now }
     ensures { MayAnswer F.Fn test.now key.now.value value.now.value result }

@@ -1,2 +1,3 @@
 pub mod BothClauses
 pub mod Deciding
+pub mod Gone

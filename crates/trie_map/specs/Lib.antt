@@ -1,7 +1,7 @@
 pub use Rattle.trie_shape.specs.Map
 pub use Rattle.bulk_ops.specs.Meanings
 pub use Rattle.bulk_ops.specs.Queries
-pub use Rattle.bulk_ops.specs.Summaries
+pub use Rattle.bulk_work.specs.Summaries
 pub use Rattle.stripes.specs.Rules
 pub use Rattle.stripes.specs.Updates
 pub use Rattle.map_view.specs.Questions

@@ -1,6 +1,6 @@
-//! Questions about all pairs, by plain closures, that a crew answers.
+//! Questions about all pairs, by plain closures, that a crew works.
 ghost use Rattle.std.specs.Prelude.{◌≡◌, ◌≤◌, Bool, IfOk, length};
-ghost use Rattle.bulk_ops.specs.Answers.{items_of, passing};
+ghost use Rattle.bulk_work.specs.Answers.{items_of, passing};
 ghost use Rattle.bulk_ops.specs.Meanings.{MayAnswer, Means};
 ghost use Rattle.combiner.specs.Monoids.{folded};
 ghost use Rattle.group_counts.specs.Groups.{IsGroups};
@@ -22,6 +22,8 @@ use trie_node::NoMemory;
 /// Each question takes a view, and a crew works it there: nobody waits for the crew.
 impl<K: PathKey + Drop + Send + Sync, V: Drop + Send + Sync, P: Keeps<K, V>> TrieMap<K, V, P> {
     /// How many pairs pass the test, of the map as it stands at one moment of the call, counted by a crew over a view.
+    ///
+    /// Cost: O(n), shared out; under all locks for the view alone. Refused: `NoMemory`, if memory runs out.
     pub fn par_count<R, F>(&self, rt: &R, test: F, crew: Crew) -> Result<u64, NoMemory>
     where
         R: Threads + Wait + Sync,
@@ -34,6 +36,8 @@ impl<K: PathKey + Drop + Send + Sync, V: Drop + Send + Sync, P: Keeps<K, V>> Tri
 
     /// The items of all pairs combined by the monoid, of the map as it stands at one moment of the call, worked by a
     /// crew over a view.
+    ///
+    /// Cost: O(n), shared out; under all locks for the view alone. Refused: `NoMemory`, if memory runs out.
     pub fn par_fold<R, M, G>(
         &self,
         rt: &R,
@@ -52,8 +56,11 @@ impl<K: PathKey + Drop + Send + Sync, V: Drop + Send + Sync, P: Keeps<K, V>> Tri
         self.view(rt)?.par_fold(rt, monoid, item, crew)
     }
 
-    /// How many pairs each group has, where the closure names the group of a pair, of the map as it stands at one moment
-    /// of the call, counted by a crew over a view. A group that no pair has is not listed.
+    /// How many pairs each group has, where the closure names the group of a pair, of the map as it stands at one
+    /// moment of the call, counted by a crew over a view. A group that no pair has is not listed.
+    ///
+    /// Cost: O(n log g + g²) for g groups, shared out; under all locks for the view alone. Refused: `NoMemory`, if
+    /// memory runs out.
     pub fn par_group_count<R, G, F>(
         &self,
         rt: &R,
@@ -73,6 +80,9 @@ impl<K: PathKey + Drop + Send + Sync, V: Drop + Send + Sync, P: Keeps<K, V>> Tri
     /// The `most` pairs with the highest scores, or all pairs where there are fewer, of the map as it stands at one
     /// moment of the call, found by a crew over a view. Each of them keeps the rule. Which of several pairs with one
     /// score are listed is free.
+    ///
+    /// Cost: O(n log m) for m pairs that are listed, and O(m) for each that gets in; under all locks for the view
+    /// alone. Refused: `NoMemory`, if memory runs out.
     pub fn par_top<R, S, F>(
         &self,
         rt: &R,

@@ -12,9 +12,9 @@ mod shown;
 mod trie_map;
 
 pub use bulk_ops::{
-    Answer, Asks, ImageFn, NoImages, Pair, PairFn, Part, Query, Stored, StoredItem, StoredMap,
-    StoredPairs, StoredTest,
+    ImageFn, NoImages, PairFn, Part, Query, Stored, StoredItem, StoredMap, StoredPairs, StoredTest,
 };
+pub use bulk_work::{Answer, Asks, Pair};
 pub use combiner::{Both, Greatest, Least, Monoid, Sum};
 pub use group_counts::Groups;
 pub use hash_path::PathKey;

@@ -8,6 +8,13 @@ use trie_node::NoMemory;
 use versions::Refusal;
 
 /// Why a put was refused. The map is then as it was before.
+///
+/// <!-- quoted from crates/example_leases/src/main.rt -->
+/// ```rust
+/// match tour(&rt) {
+///     Ok(figures) => print_figures(&rt, figures),
+///     Err(error) => println!(rt; "refused: {error}"),
+/// ```
 #[derive(Clone, Copy, Debug, PartialEq, Eq, Error)]
 pub enum PutError {
     /// The key is new, and its stripe holds as many pairs as it may.

@@ -28,38 +28,44 @@ use versions::{Change, Refusal};
 
 /// A map that threads share by reference, for as long as a service runs.
 ///
-/// It has a lock for each first digit of a key's path word, so calls of keys with different first digits do not wait
-/// for one another. What a call finds is what other threads left, so a clause says of it only that its pairs keep the
-/// rule. That `is_empty`, `len` and `contains_key` tell what is there, that `clear` removes it, and that `view`,
-/// `snapshot` and `query` take all stripes as they stand at one moment, is shown by the code and by tests: no clause
-/// can name what a lock keeps, not even of a map that one thread alone has. A call that is refused has changed nothing;
-/// of `extend` and `retain`, and of those whose closure has run, as `get_or_else_update` and `update`, each says more.
+/// <!-- quoted from crates/example_leases/src/main.rt -->
+/// ```rust
+/// let leases: Leases = TrieMap::new(rt)?;
+/// serve_all(rt, &leases)?;
+/// leases.put(rt, 5, Lease { port: 8_443 })?;
+/// let port = leases.get(rt, &5)?.map_or(0, |lease| lease.port);
+/// ```
+///
+/// It has 32 stripes, each under a lock of its own: the pairs whose path words begin with the same digit. Calls of keys
+/// in different stripes do not wait for one another. What a call finds is what other threads left, so a clause says of
+/// it only that its pairs keep the rule. `is_empty`, `len` and `contains_key` return what is there, `clear` removes it,
+/// and `view`, `snapshot` and `query` take all stripes as they stand at one moment. The code and tests show that: no
+/// clause can name what a lock keeps. A call that is refused has changed nothing; `extend` and `retain`, and calls
+/// whose closure has run, say more.
 ///
 /// # What runs under a lock
 ///
-/// `K::cmp`, `K::path`, `V::eq` and, of a look-up or a removal, `Sought::compare_with` run while the stripe of the key
-/// is locked, and so do the drops of a key that is replaced or removed, and of a key and a value that are not written.
-/// They must not call the map: the thread would wait for itself. A value that is replaced or removed is handed out, and
-/// dropped by whoever has it last; what `clear` removes is dropped once all locks are free; the closures of
-/// `get_or_else_update` and `try_get_or_else_update` run with no lock held. The closure of `update`, `update_with`,
-/// `try_update`, `read` or `remove_where` runs under the lock too, and what it makes is dropped there where it cannot
-/// be stored; so does that of `retain`, once more for each pair that fails.
+/// `K::cmp`, `K::path` and `V::eq` run while the stripe of the key is locked, and of a look-up or a removal
+/// `Sought::compare_with`. So do the drops of a key that is replaced or removed, and of a key and a value that are not
+/// written. They must not call the map: the thread would wait for itself. A value that is replaced or removed is handed
+/// out, and dropped by whoever has it last; what `clear` removes is dropped once all locks are free. Each call says
+/// whether its closure runs under the lock.
 ///
 /// # Between two calls
 ///
 /// Between a `get` and a `put` of one thread another may write the key, and its write is then lost. `put_if_absent`,
 /// `replace_if`, `remove_if`, `remove_where`, `get_or_else_update` and `update` decide and write as one step: `update`
 /// makes the new value of the one that is there. Where that takes long, write with `replace_if` what was made of the
-/// value that `get` found, and begin again where it answers false.
+/// value that `get` found, and begin again where it returns false.
 ///
 /// # What it costs
 ///
-/// A call on one key costs as many steps as the trie is deep there, at most thirteen, and then a step for each key that
-/// has the key's whole path word: n keys of one word cost n² steps to put, and all calls on that stripe wait meanwhile.
-/// A stripe holds 524,288 pairs at most ([`MOST_PAIRS_OF_STRIPE`](crate::MOST_PAIRS_OF_STRIPE)), so keys whose words
-/// begin alike fill one stripe while the map has room elsewhere. `len`, `is_empty`, `clear`, `view`, `snapshot` and
-/// `query` hold all stripes at once, for 32 short steps: all other calls wait for these steps. A view, and a snapshot,
-/// keeps the nodes of its version for as long as it is there, so memory grows with what is written meanwhile.
+/// n is the number of pairs, and O(log n) the way down the trie: at most thirteen steps, and then a step for each key
+/// that has the key's whole path word. So n keys of one word cost n² steps to put, and all calls on that stripe wait
+/// meanwhile. A stripe holds 524,288 pairs at most ([`MOST_PAIRS_OF_STRIPE`](crate::MOST_PAIRS_OF_STRIPE)), so keys
+/// whose words begin alike fill one stripe while the map has room elsewhere. A call under all locks holds the 32
+/// stripes at one moment, for short steps: all other calls wait for these. A view or a snapshot keeps the nodes of its
+/// moment, so a write copies those of its way, and memory grows with what is written meanwhile.
 #[derive(Drop)]
 pub struct TrieMap<K: PathKey, V, P: Keeps<K, V> = Anything> {
     alloc: Global,
@@ -68,6 +74,8 @@ pub struct TrieMap<K: PathKey, V, P: Keeps<K, V> = Anything> {
 
 impl<K: PathKey + Drop, V: Drop, P: Keeps<K, V>> TrieMap<K, V, P> {
     /// A map with no pairs. It keeps the runtime's allocator for all calls.
+    ///
+    /// Cost: O(1), no lock. Refused: `NoMemory`, if memory runs out.
     pub fn new<R: AllocGlobal>(rt: &R) -> Result<TrieMap<K, V, P>, NoMemory> {
         let alloc = rt.alloc();
         Ok(TrieMap {
@@ -76,15 +84,19 @@ impl<K: PathKey + Drop, V: Drop, P: Keeps<K, V>> TrieMap<K, V, P> {
         })
     }
 
-    /// The value of the key, or none. It makes no request for memory, but the clone of the value's handle may be
-    /// refused.
+    /// The value of the key, or none.
+    ///
+    /// Cost: O(log n), under the lock of the key's stripe, and no request for memory. Refused: `NoMemory`, where the
+    /// handle on the value cannot be cloned.
     pub fn get<R: Wait, Q: Sought<K>>(&self, rt: &R, key: Q) -> Result<Option<Arc<V>>, NoMemory>
         ensures kept { IfOk result (λ found. IfSome found (λ value. P.holds (Q.key_of key) value.value)) }
     {
         self.found(rt, key, key.path_sought())
     }
 
-    /// Whether the key has a value. It takes no memory.
+    /// Whether the key has a value.
+    ///
+    /// Cost: O(log n), under the lock of the key's stripe. Refused: never.
     pub fn contains_key<R: Wait, Q: Sought<K>>(&self, rt: &R, key: Q) -> bool
         ensures kept { IsTrue result → (value : V) × P.holds (Q.key_of key) value }
     {
@@ -92,9 +104,10 @@ impl<K: PathKey + Drop, V: Drop, P: Keeps<K, V>> TrieMap<K, V, P> {
         self.row.stripe_at(rt, path).get(key, path).is_some()
     }
 
-    /// Maps the key to the value, and answers the value before, or none.
+    /// Maps the key to the value, and returns the value before, or none.
     ///
-    /// The error is `Full` where the key is new and its stripe has 524,288 pairs, and `NoMemory` if memory runs out.
+    /// Cost: O(log n), under the lock of the key's stripe. Refused: `Full`, where the key is new and its stripe has
+    /// 524,288 pairs; `NoMemory`, if memory runs out.
     pub fn put<R: Wait>(&self, rt: &R, key: K, value: V) -> Result<Option<Arc<V>>, PutError>
         requires { P.holds key value }
         ensures kept { IfOk result (λ before. IfSome before (λ found. P.holds key found.value)) }
@@ -105,9 +118,9 @@ impl<K: PathKey + Drop, V: Drop, P: Keeps<K, V>> TrieMap<K, V, P> {
         Ok(self.write(rt, key, path, value, &Always)?.previous)
     }
 
-    /// Maps the key to the value where the key is absent, and answers the value before, or none.
+    /// Maps the key to the value where the key is absent, and returns the value that is there, or none.
     ///
-    /// It is refused as `put` is.
+    /// Cost: O(log n), under the lock of the key's stripe. Refused: as `put`.
     pub fn put_if_absent<R: Wait>(
         &self,
         rt: &R,
@@ -123,9 +136,9 @@ impl<K: PathKey + Drop, V: Drop, P: Keeps<K, V>> TrieMap<K, V, P> {
         Ok(self.write(rt, key, path, value, &IfAbsent)?.previous)
     }
 
-    /// Maps the key to the value where the key is present, and answers the value before, or none.
+    /// Maps the key to the value where the key is present, and returns the value before, or none.
     ///
-    /// The only error is `NoMemory`, if memory runs out.
+    /// Cost: O(log n), under the lock of the key's stripe. Refused: `NoMemory`, if memory runs out.
     pub fn replace<R: Wait>(&self, rt: &R, key: K, value: V) -> Result<Option<Arc<V>>, NoMemory>
         requires { P.holds key value }
         ensures kept { IfOk result (λ before. IfSome before (λ found. P.holds key found.value)) }
@@ -139,7 +152,9 @@ impl<K: PathKey + Drop, V: Drop, P: Keeps<K, V>> TrieMap<K, V, P> {
         )
     }
 
-    /// Removes the key, and answers the value before, or none. The only error is `NoMemory`, if memory runs out.
+    /// Removes the key, and returns the value before, or none.
+    ///
+    /// Cost: O(log n), under the lock of the key's stripe. Refused: `NoMemory`, if memory runs out.
     pub fn remove<R: Wait, Q: Sought<K>>(&self, rt: &R, key: Q) -> Result<Option<Arc<V>>, NoMemory>
         ensures kept { IfOk result (λ before. IfSome before (λ found. P.holds (Q.key_of key) found.value)) }
     {
@@ -149,8 +164,9 @@ impl<K: PathKey + Drop, V: Drop, P: Keeps<K, V>> TrieMap<K, V, P> {
     /// The value that the key has then: the one that it had, else the one that `make` made.
     ///
     /// `make` is called where the key was absent when the call looked, and no lock is held meanwhile. Where another
-    /// thread has put the key by then, its value is answered, and the one that was made is dropped. It is refused as
-    /// `put` is.
+    /// thread has put the key by then, its value is returned, and the one that was made is dropped.
+    ///
+    /// Cost: O(log n), one lock for the look-up and one for the put, that of the key's stripe. Refused: as `put`.
     pub fn get_or_else_update<R: Wait, F: FnOnce() -> V>(
         &self,
         rt: &R,
@@ -174,9 +190,10 @@ impl<K: PathKey + Drop, V: Drop, P: Keeps<K, V>> TrieMap<K, V, P> {
         }
     }
 
-    /// What `get_or_else_update` does, where `make` may fail: nothing is put then, and the error of `make` is answered.
+    /// What `get_or_else_update` does, where `make` may fail: nothing is put then, and the error of `make` is returned.
     ///
-    /// It is refused as `put` is: that is the outer error, and the inner one is that of `make`.
+    /// Cost: O(log n), one lock for the look-up and one for the put. Refused: as `put`, which is the outer error; the
+    /// inner one is that of `make`.
     pub fn try_get_or_else_update<R: Wait, E, F: FnOnce() -> Result<V, E>>(
         &self,
         rt: &R,
@@ -202,8 +219,9 @@ impl<K: PathKey + Drop, V: Drop, P: Keeps<K, V>> TrieMap<K, V, P> {
         }
     }
 
-    /// Removes all pairs at one moment of the call, when all stripes are held. They are dropped once the locks are free.
-    /// The only error is `NoMemory`, if memory runs out.
+    /// Removes all pairs at one moment of the call. They are dropped once the locks are free.
+    ///
+    /// Cost: O(1), under all locks; then what the drops take. Refused: `NoMemory`, if memory runs out.
     pub fn clear<R: Wait>(&self, rt: &R) -> Result<(), NoMemory> {
         let empty_maps = empty_maps(self.alloc)?;
         let room = Vec::with_capacity(self.alloc, STRIPES as usize)?;
@@ -215,11 +233,12 @@ impl<K: PathKey + Drop, V: Drop, P: Keeps<K, V>> TrieMap<K, V, P> {
         Ok(())
     }
 
-    /// The map as it stands at one moment of the call, when all stripes are held. Its cost does not grow with the
-    /// pairs. The view keeps the nodes of that moment: a write meanwhile copies the nodes of its way.
+    /// The map as it stands at one moment of the call. The view keeps the nodes of that moment.
     ///
     /// Its clause says that each pair keeps the rule. That it has the pairs of all stripes, and that no lock was free
     /// in between, no clause can say: each step of it is proved (`Stripes::all`, `joined`), and tests show it whole.
+    ///
+    /// Cost: O(1), under all locks. Refused: `NoMemory`, if memory runs out.
     pub fn view<R: Wait>(&self, rt: &R) -> Result<View<K, V, P>, NoMemory>
         ensures { IfOk result (λ view. AllKeep K.cmp P.holds view) }
     {
@@ -229,10 +248,11 @@ impl<K: PathKey + Drop, V: Drop, P: Keeps<K, V>> TrieMap<K, V, P> {
         Ok(View::new(self.alloc, map.view()?))
     }
 
-    /// Another map with the pairs of one moment of the call, when all stripes are held. It has locks of its own: the
-    /// two go separate ways. Its cost does not grow with the pairs.
+    /// Another map with the pairs of one moment of the call, and locks of its own: the two go separate ways.
     ///
     /// That each of its pairs keeps the rule is part of its type. Which pairs it has no clause can say: tests do.
+    ///
+    /// Cost: O(1), under all locks. Refused: `NoMemory`, if memory runs out.
     pub fn snapshot<R: Wait>(&self, rt: &R) -> Result<TrieMap<K, V, P>, NoMemory> {
         Ok(TrieMap {
             alloc: self.alloc,
@@ -300,7 +320,7 @@ impl<K: PathKey + Drop, V: Drop, P: Keeps<K, V>> TrieMap<K, V, P> {
         }
     }
 
-    // A removal of a key, where the condition holds of its value. The lock is free again when the answer is dropped.
+    // A removal of a key, where the condition holds of its value. The lock is free again when the call returns.
     fn removal<R: Wait, Q: Sought<K>, C: Condition<V>>(
         &self,
         rt: &R,
@@ -326,9 +346,9 @@ impl<K: PathKey + Drop, V: Drop, P: Keeps<K, V>> TrieMap<K, V, P> {
 }
 
 impl<K: PathKey + Drop, V: Eq + Drop, P: Keeps<K, V>> TrieMap<K, V, P> {
-    /// Maps the key to the value where it is mapped to a value equal to `old`, and answers whether it was.
+    /// Maps the key to the value where it is mapped to a value equal to `old`, and returns whether it was.
     ///
-    /// The only error is `NoMemory`, if memory runs out.
+    /// Cost: O(log n), under the lock of the key's stripe, where `V::eq` runs. Refused: `NoMemory`, if memory runs out.
     pub fn replace_if<R: Wait>(&self, rt: &R, key: K, old: &V, value: V) -> Result<bool, NoMemory>
         requires { P.holds key value }
     {
@@ -341,9 +361,9 @@ impl<K: PathKey + Drop, V: Eq + Drop, P: Keeps<K, V>> TrieMap<K, V, P> {
         )
     }
 
-    /// Removes the key where it is mapped to a value equal to `value`, and answers whether it was.
+    /// Removes the key where it is mapped to a value equal to `value`, and returns whether it was.
     ///
-    /// The only error is `NoMemory`, if memory runs out.
+    /// Cost: O(log n), under the lock of the key's stripe, where `V::eq` runs. Refused: `NoMemory`, if memory runs out.
     pub fn remove_if<R: Wait, Q: Sought<K>>(
         &self,
         rt: &R,

@@ -1,4 +1,0 @@
-pub mod PutInPlace
-pub mod RemovalInPlace
-pub mod PutInside
-pub mod Buckets

@@ -7,16 +7,14 @@
 //! function of its pairs; a write puts its stamp on the nodes of its key's path and on no other.
 #![tactic(auto)]
 
-mod bucket_in_place;
-mod change;
-mod put_in_place;
-mod removal_in_place;
 mod root_in_place;
 
-pub use change::Change;
 pub use root_in_place::{
     put_in, put_in_where, put_in_where_along, remove_in, remove_in_where, remove_in_where_along,
 };
+
+// What a write did, and what it found.
+pub use trie_puts::Change;
 
 // Writes by copies.
 pub use trie_copy::{Written, merged, put_where, removed_where, with_put, with_removed};

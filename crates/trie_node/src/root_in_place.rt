@@ -8,13 +8,12 @@ ghost use Rattle.trie_shape.specs.Shape.{nodes, Restamps};
 ghost use Rattle.trie_shape.specs.View.{tree};
 ghost use Rattle.trie_copy.specs.Changes.{IsPut, IsRemoval};
 
-use crate::change::Change;
-use crate::put_in_place::put_in_at;
-use crate::removal_in_place::{RemovedIn, remove_in_at};
 use hash_path::{Path, PathKey, Sought};
 use std::alloc::Global;
 use std::sync::Arc;
 use trie_copy::NewPair;
+use trie_puts::{Change, put_in_at};
+use trie_removals::{RemovedIn, remove_in_at};
 use trie_shape::{Always, Condition, NoMemory, Node, Stamp};
 
 /// Puts the value at the key, where the condition holds of the value that the key has. The root is

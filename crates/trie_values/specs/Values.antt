@@ -34,6 +34,7 @@ module _ {K V W : Type 0} (gives : K → V → W → Type 0) where
     IsMade stamp (bucket old es) (branch new n b us) = ⊥
     IsMade stamp (bucket old es) (bucket new fs) = (new ≡ stamp) × AreGiven es fs
 
+    -- the same of several trees
     pub AreMade : ℕ → Trees K V → Trees K W → Type 0
     AreMade stamp no_trees no_trees = Unit {0}
     AreMade stamp no_trees (more_trees u us) = ⊥

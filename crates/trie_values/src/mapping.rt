@@ -21,7 +21,7 @@ const MOST_AT_ONCE: u64 = 256;
 /// The root of the map with the same keys, each with what the closure makes of its pair. It shares the keys with the
 /// old root, which is unchanged. All its nodes are new and have the stamp.
 ///
-/// The closure is called once for each pair, in the order of a walk. A closure may answer differently each time, so
+/// The closure is called once for each pair, in the order of a walk. A closure may return differently each time, so
 /// what is promised of the values is exact for each meaning that it has.
 ///
 /// # Errors
@@ -37,7 +37,7 @@ pub fn with_new_values<K: PathKey + Drop, V, W: Drop, F: Fn(&K, &V) -> W>(
     requires callable { F.IsAlwaysCallable change.now }
     ensures root { IfOk result (λ n. IsRoot K.cmp K.path_of (tree n)) }
     ensures map { IfOk result (λ n. (f : K → V → W) → Means (MayAnswer F.Fn change.now) f → map_of K.cmp (tree n) ≡ with_values f (map_of K.cmp (tree root.now))) }
-    // In any case the keys are the same, and each has a value that the closure may answer for its pair.
+    // In any case the keys are the same, and each has a value that the closure may return for its pair.
     ensures given { IfOk result (λ n. AreGiven (MayAnswer F.Fn change.now) (map_of K.cmp (tree root.now)) (map_of K.cmp (tree n))) }
     ensures count { IfOk result (λ n. length (map_of K.cmp (tree n)) ≡ length (map_of K.cmp (tree root.now))) }
     ensures stamps { IfOk result (λ n. All (λ node. node.1 ≡ stamp.0) (nodes (word_of K.path_of) (tree n))) }
@@ -112,7 +112,7 @@ fn map_pair<K: Drop, V, W: Drop, F: Fn(&K, &V) -> W>(
     Ok((Arc::try_clone(key)?, made))
 }
 
-/// What the closure answers at a pair.
+/// What the closure returns at a pair.
 fn answer_at<K, V, W, F: Fn(&K, &V) -> W>(change: &F, key: &Arc<K>, value: &Arc<V>) -> W
     requires { F.IsAlwaysCallable change.now }
     ensures { MayAnswer F.Fn change.now key.now.value value.now.value result }

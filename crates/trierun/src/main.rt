@@ -5,7 +5,7 @@ ghost use Rattle.command_line.specs.CommandLine.{AreInRange};
 
 use batch_cli::execute;
 use command_line::Options;
-use program_io::{StandardError, given_options, input, keep, shown};
+use program_io::{JournalFile, StandardError, given_options, input, keep, opened_journal, shown};
 use std::io;
 use std::process::ExitCode;
 use std::rt::Runtime;
@@ -25,25 +25,31 @@ fn status<R: Runtime + AllocGlobal + Threads + Wait + Sync>(rt: &R) -> u8 {
     }
 }
 
-/// Runs the script that the options name, or audits a journal.
+/// Runs the script that the options name, or audits a journal. A journal's file is open before the run.
 fn run<R: Runtime + AllocGlobal + Threads + Wait + Sync>(rt: &R, options: &Options) -> u8
     requires { AreInRange options.now.workers options.now.grain }
 {
-    match input(rt, options, &mut StandardError(rt)) {
-        Ok(text) => executed(rt, options, &text),
+    let err = &mut StandardError(rt);
+    let text = match input(rt, options, err) {
+        Ok(text) => text,
+        Err(status) => return status,
+    };
+    match opened_journal(rt, options, err) {
+        Ok(file) => executed(rt, options, &text, file),
         Err(status) => status,
     }
 }
 
-/// Runs the script of this text, and writes the journal of the run; or audits the text as a journal's.
+/// Runs the script of this text, and writes the journal of the run to its file; or audits the text as a journal's.
 fn executed<R: Runtime + AllocGlobal + Threads + Wait + Sync>(
     rt: &R,
     options: &Options,
     text: &[u8],
+    file: Option<JournalFile<R::File>>,
 ) -> u8
     requires { AreInRange options.now.workers options.now.grain }
 {
     let (out, err) = (&mut io::writer(rt), &mut StandardError(rt));
     let (status, journal) = execute(rt, rt.alloc(), options, text, out, err);
-    keep(rt, options, status, journal, err)
+    keep(rt, options, file, status, journal, err)
 }

@@ -40,15 +40,18 @@ module _ {K V : Type 0} (k : Coded K) (v : Coded V) where
   row_code = coded⊎ coded_unit (coded× itself itself)
 
   abbrev mutual
+    -- a branch's head and the code of its children, or a bucket's stamp and pairs
     pub parts : Tree K V → (Head × Gv) ⊎ (ℕ × List (K × V))
     parts (branch stamp size bitmap ts) = inl ((stamp, (size, bitmap)), row_code.code (parts_of_all ts))
     parts (bucket stamp es) = inr (stamp, es)
 
+    -- nothing, or the codes of the first tree and of the others
     pub parts_of_all : Trees K V → Unit {0} ⊎ (Gv × Gv)
     parts_of_all no_trees = inl tt
     parts_of_all (more_trees t ts) = inr (node_code.code (parts t), row_code.code (parts_of_all ts))
 
   mutual
+    -- trees with the same parts are one tree
     pub same : (t u : Tree K V) → parts t ≡ parts u → t ≡ u
     same (branch s n b ts) (branch s' n' b' us) e =
         let p = ap (left_or ((s, (n, b)), row_code.code (parts_of_all ts))) e in
@@ -58,6 +61,7 @@ module _ {K V : Type 0} (k : Coded K) (v : Coded V) where
     same (bucket s es) (branch s' n' b' us) e = absurd (subst IsRight e tt)
     same (bucket s es) (bucket s' es') e = ap (λ q. bucket q.0 q.1) (ap (right_or (s, es)) e)
 
+    -- the same of several trees
     pub same_all : (ts us : Trees K V) → parts_of_all ts ≡ parts_of_all us → ts ≡ us
     same_all no_trees no_trees e = λ i. no_trees
     same_all no_trees (more_trees u us) e = absurd (subst IsLeft e tt)
@@ -67,5 +71,6 @@ module _ {K V : Type 0} (k : Coded K) (v : Coded V) where
         ap (λ first. more_trees first ts) (same t u (node_code.inj _ _ (ap (λ q. q.0) p)))
         ∙ ap (λ rest. more_trees u rest) (same_all ts us (row_code.inj _ _ (ap (λ q. q.1) p)))
 
+  -- the code of a tree
   abbrev pub tree_code : Coded (Tree K V)
   tree_code = record { code = λ t. node_code.code (parts t); inj = λ t u e. same t u (node_code.inj _ _ e) }

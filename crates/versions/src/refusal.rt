@@ -5,6 +5,15 @@ use thiserror::Error;
 use trie_node::NoMemory;
 
 /// Why a call was refused. All that the call was made on is then as it was before.
+///
+/// <!-- quoted from crates/example_registry/src/maps.rt -->
+/// ```rust
+/// match registry.put(alloc, name(alloc, "login")?, at(alloc, "10.0.0.8", 8080)?) {
+///     Err(Refusal::Full) => rt.println(format_args!("there is no room for login"))?,
+///     Err(refusal) => return Err(refusal.into()),
+///     Ok(_) => rt.println(format_args!("login was put"))?,
+/// }
+/// ```
 #[derive(Clone, Copy, Debug, PartialEq, Eq, Error)]
 pub enum Refusal {
     /// The handle that is read, written, dropped, frozen or snapshotted is not live.

@@ -26,9 +26,23 @@ use trie_node::{
 /// The most pairs that a map may be limited to.
 pub const MOST_PAIRS: u64 = 16_777_216;
 
-/// A finite map from `K` to `V` with a limit on its pairs, as a root of shared trie nodes.
+/// A finite map from `K` to `V` with a limit on its pairs, as a root of shared trie nodes. It has one owner, and takes
+/// no lock.
 ///
-/// A write changes the nodes of one path, and copies those of them that forks and views share.
+/// <!-- quoted from crates/example_registry/src/maps.rt -->
+/// ```rust
+/// let mut source = Source::new();
+/// let mut registry = Version::empty(alloc, 1_000, source.next())?;
+/// registry.put(alloc, name(alloc, "billing")?, at(alloc, "10.0.0.4", 8080)?)?;
+/// registry.put(alloc, name(alloc, "search")?, at(alloc, "10.0.0.5", 8080)?)?;
+///
+/// // A snapshot shares every node of the registry, and makes no request for memory.
+/// let snapshot = registry.fork(&mut source)?;
+/// ```
+///
+/// A write changes the nodes of one path, and copies those of them that forks and views share. n is the number of
+/// pairs, and O(log n) the way down the trie: at most thirteen steps, and then a step for each key that has the key's
+/// whole path word. A call that is refused leaves the map as it was.
 #[derive(Drop)]
 pub struct Version<K: PathKey, V> {
     root: Root<K, V>,
@@ -52,6 +66,8 @@ impl<K: PathKey, V> Model for Version<K, V> {
 
 impl<K: PathKey + Drop, V: Drop> Version<K, V> {
     /// A map with no pairs, which may hold up to `limit` of them. Its one node has the stamp.
+    ///
+    /// Cost: O(1), no lock. Refused: `NoMemory`, if memory runs out.
     pub fn empty(alloc: Global, limit: u64, stamp: Stamp) -> Result<Version<K, V>, NoMemory>
         requires least { 1 ≤ limit }
         requires most { limit ≤ MOST_PAIRS }
@@ -68,7 +84,9 @@ impl<K: PathKey + Drop, V: Drop> Version<K, V> {
     }
 
     /// The map of a root, which may hold up to `limit` pairs. No node of the root has a greater stamp than `stamp`,
-    /// which later writes put on nodes. It takes no memory.
+    /// which later writes put on nodes.
+    ///
+    /// Cost: O(1), no lock. Refused: never.
     pub fn from_root(root: Node<K, V>, limit: u64, stamp: Stamp) -> Version<K, V>
         requires root { IsRoot K.cmp K.path_of (tree root) }
         requires fits { length (map_of K.cmp (tree root)) ≤ limit }
@@ -87,21 +105,27 @@ impl<K: PathKey + Drop, V: Drop> Version<K, V> {
         }
     }
 
-    /// The value of the key, or none. It takes no memory.
+    /// The value of the key, or none.
+    ///
+    /// Cost: O(log n), no lock. Refused: never.
     pub fn get<Q: Sought<K>>(&self, key: Q) -> Option<&Arc<V>>
         ensures { option_map (λ value. value.now.value) result ≡ value_at K.cmp self.now.entries (Q.key_of key) }
     {
         self.get_along(key, key.path_sought())
     }
 
-    /// Whether the key has a value. It takes no memory.
+    /// Whether the key has a value.
+    ///
+    /// Cost: O(log n), no lock. Refused: never.
     pub fn contains_key<Q: Sought<K>>(&self, key: Q) -> bool
         ensures { result ≡ is_some (value_at K.cmp self.now.entries (Q.key_of key)) }
     {
         self.get(key).is_some()
     }
 
-    /// How many pairs there are. It takes no memory.
+    /// How many pairs there are.
+    ///
+    /// Cost: O(1), no lock. Refused: never.
     pub fn len(&self) -> u64
         ensures count { result ≡ length self.now.entries }
         ensures within { length self.now.entries ≤ self.now.limit }
@@ -111,14 +135,18 @@ impl<K: PathKey + Drop, V: Drop> Version<K, V> {
         trie_node::size(self.root.node())
     }
 
-    /// Whether there is no pair. It takes no memory.
+    /// Whether there is no pair.
+    ///
+    /// Cost: O(1), no lock. Refused: never.
     pub fn is_empty(&self) -> bool
         ensures { IsTrue result ↔ (self.now.entries ≡ []) }
     {
         self.len() == 0
     }
 
-    /// How many pairs there may be. It takes no memory.
+    /// How many pairs there may be.
+    ///
+    /// Cost: O(1), no lock. Refused: never.
     pub fn limit(&self) -> u64
         ensures limit { result ≡ self.now.limit }
         ensures least { 1 ≤ result }
@@ -127,7 +155,9 @@ impl<K: PathKey + Drop, V: Drop> Version<K, V> {
         self.limit
     }
 
-    /// The stamp that this version's writes put on nodes. No node has a greater one. It takes no memory.
+    /// The stamp that this version's writes put on nodes. No node has a greater one.
+    ///
+    /// Cost: O(1), no lock. Refused: never.
     pub fn stamp(&self) -> Stamp
         ensures stamp { result.0 ≡ self.now.stamp }
         ensures newest { NoneAbove self.now.stamp self.now.nodes }
@@ -135,7 +165,9 @@ impl<K: PathKey + Drop, V: Drop> Version<K, V> {
         self.stamp
     }
 
-    /// The root of the version's trie. It takes no memory.
+    /// The root of the version's trie.
+    ///
+    /// Cost: O(1), no lock. Refused: never.
     pub fn root(&self) -> &Node<K, V>
         ensures root { IsRoot K.cmp K.path_of (tree result.now) }
         ensures entries { map_of K.cmp (tree result.now) ≡ self.now.entries }
@@ -144,7 +176,9 @@ impl<K: PathKey + Drop, V: Drop> Version<K, V> {
         self.root.node()
     }
 
-    /// How many nodes carry the version's own stamp. It takes no memory.
+    /// How many nodes carry the version's own stamp.
+    ///
+    /// Cost: O(n), no lock: it looks at all nodes. Refused: never.
     pub fn own_nodes(&self) -> u64
         ensures { result ≡ own_count self.now.stamp self.now.nodes }
     {
@@ -152,10 +186,10 @@ impl<K: PathKey + Drop, V: Drop> Version<K, V> {
         generation::own_nodes(self.root.node(), self.stamp)
     }
 
-    /// Maps the key to the value, and answers the value before, or none.
+    /// Maps the key to the value, and returns the value before, or none.
     ///
-    /// The error is `Full` where the key is new and there are as many pairs as there may be, and `NoMemory` if memory
-    /// runs out. The map is then as before.
+    /// Cost: O(log n), no lock. Refused: `Full`, where the key is new and there are as many pairs as there may be;
+    /// `NoMemory`, if memory runs out.
     pub fn put(
         &mut self,
         alloc: Global,
@@ -173,11 +207,11 @@ impl<K: PathKey + Drop, V: Drop> Version<K, V> {
         Ok(self.put_where(alloc, key, value, &Always)?.previous)
     }
 
-    /// Maps the key to the value where the condition holds of the value that the key has, and answers that value and
-    /// whether the map was written. It walks down the trie once. Where the map is not written no node is copied.
+    /// Maps the key to the value where the condition holds of the value that the key has, and returns that value and
+    /// whether the map was written. Where the map is not written no node is copied.
     ///
-    /// The error is `Full` where the condition holds, the key is new and there are as many pairs as there may be, and
-    /// `NoMemory` if memory runs out. The map is then as before.
+    /// Cost: O(log n), by one walk down the trie, no lock. Refused: `Full`, where the condition holds, the key is new
+    /// and there are as many pairs as there may be; `NoMemory`, if memory runs out.
     pub fn put_where<C: Condition<V>>(
         &mut self,
         alloc: Global,
@@ -198,8 +232,9 @@ impl<K: PathKey + Drop, V: Drop> Version<K, V> {
         self.put_where_along(alloc, key, path, value, condition)
     }
 
-    /// Removes the key, and answers the value before, or none. The only error is `NoMemory`, if memory runs out. The
-    /// map is then as before. Where the key is absent no node is copied.
+    /// Removes the key, and returns the value before, or none. Where the key is absent no node is copied.
+    ///
+    /// Cost: O(log n), no lock. Refused: `NoMemory`, if memory runs out.
     pub fn remove<Q: Sought<K>>(
         &mut self,
         alloc: Global,
@@ -215,10 +250,10 @@ impl<K: PathKey + Drop, V: Drop> Version<K, V> {
         self.remove_along(alloc, key, key.path_sought())
     }
 
-    /// Removes the key where it is there and the condition holds of its value, and answers the value that it had and
-    /// whether the map was written. It walks down the trie once. Where the map is not written no node is copied.
+    /// Removes the key where it is there and the condition holds of its value, and returns the value that it had and
+    /// whether the map was written. Where the map is not written no node is copied.
     ///
-    /// The only error is `NoMemory`, if memory runs out. The map is then as before.
+    /// Cost: O(log n), by one walk down the trie, no lock. Refused: `NoMemory`, if memory runs out.
     pub fn remove_where<Q: Sought<K>, C: Condition<V>>(
         &mut self,
         alloc: Global,
@@ -236,8 +271,9 @@ impl<K: PathKey + Drop, V: Drop> Version<K, V> {
         self.remove_where_along(alloc, key, key.path_sought(), condition)
     }
 
-    /// Removes all pairs, which leaves one node, with the version's stamp. The only error is `NoMemory`, if memory runs
-    /// out. The map is then as before.
+    /// Removes all pairs, which leaves one node, with the version's stamp.
+    ///
+    /// Cost: O(1), no lock; then what the drops take. Refused: `NoMemory`, if memory runs out.
     pub fn clear(&mut self, alloc: Global) -> Result<(), NoMemory>
         ensures entries { OnOk result (self.new.entries ≡ []) }
         ensures limit { self.new.limit ≡ self.old.limit }
@@ -249,10 +285,11 @@ impl<K: PathKey + Drop, V: Drop> Version<K, V> {
         Ok(())
     }
 
-    /// Another map with the same pairs and limit, which shares every node. It makes no request for memory. Both maps
-    /// get a stamp that the source had not issued, so that neither has a node of its own.
+    /// Another map with the same pairs and limit, which shares every node. Both maps get a stamp that the source had
+    /// not issued, so that neither has a node of its own. A later write to one of the two leaves the other.
     ///
-    /// A later write to one of the two leaves the other. After `NoMemory` the map and the source are as before.
+    /// Cost: O(1), no lock and no request for memory. Refused: `NoMemory`, where the handle on the root cannot be
+    /// cloned; the map and the source are then as before.
     pub fn fork(&mut self, source: &mut Source) -> Result<Version<K, V>, NoMemory>
         requires issued { self.old.stamp ≤ source.old }
         requires room { source.old + 2 ≤ 2 ^ 63 }
@@ -277,8 +314,10 @@ impl<K: PathKey + Drop, V: Drop> Version<K, V> {
         })
     }
 
-    /// The map as it stands now, which no later write changes. It makes no request for memory, but the clone of a
-    /// handle may be refused.
+    /// The map as it stands now, which no later write changes.
+    ///
+    /// Cost: O(1), no lock and no request for memory. Refused: `NoMemory`, where the handle on the root cannot be
+    /// cloned.
     pub fn view(&self) -> Result<View<K, V>, NoMemory>
         ensures { IfOk result (λ view. view ≡ self.now.entries) }
     {
@@ -287,7 +326,9 @@ impl<K: PathKey + Drop, V: Drop> Version<K, V> {
         })
     }
 
-    /// Gives the map another limit, which its pairs do not pass. It takes no memory and changes nothing else.
+    /// Gives the map another limit, which its pairs do not pass. It changes nothing else.
+    ///
+    /// Cost: O(1), no lock. Refused: never.
     pub fn relimit(&mut self, limit: u64)
         requires fits { length self.old.entries ≤ limit }
         requires least { 1 ≤ limit }
@@ -300,7 +341,9 @@ impl<K: PathKey + Drop, V: Drop> Version<K, V> {
         self.limit = limit;
     }
 
-    /// Gives the map a stamp that the source had not issued. It takes no memory and copies no node.
+    /// Gives the map a stamp that the source had not issued. It copies no node.
+    ///
+    /// Cost: O(1), no lock. Refused: never.
     pub fn restamp(&mut self, source: &mut Source)
         requires issued { self.old.stamp ≤ source.old }
         requires room { source.old < 2 ^ 63 }

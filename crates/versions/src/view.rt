@@ -11,7 +11,13 @@ use std::marker::Model;
 use std::sync::Arc;
 use trie_node::{NoMemory, Node, root_is_map};
 
-/// A map that never changes, as it stood when the view was taken. Any number of threads may read it.
+/// A map that never changes, as it stood when the view was taken. Any number of threads may read it, with no lock.
+///
+/// <!-- quoted from crates/example_expiry/src/tour.rt -->
+/// ```rust
+/// let frozen = registry.view()?;
+/// lease(alloc, &mut registry, "alpha", 900)?;
+/// ```
 #[derive(Drop)]
 pub struct View<K: PathKey, V> {
     pub(crate) root: Root<K, V>,
@@ -31,21 +37,27 @@ impl<K: PathKey, V> Model for View<K, V> {
 }
 
 impl<K: PathKey, V> View<K, V> {
-    /// The value of the key, or none. It takes no memory.
+    /// The value of the key, or none.
+    ///
+    /// Cost: O(log n), no lock. Refused: never.
     pub fn get<Q: Sought<K>>(&self, key: Q) -> Option<&Arc<V>>
         ensures { option_map (λ value. value.now.value) result ≡ value_at K.cmp self.now (Q.key_of key) }
     {
         trie_node::find(self.root.node(), key)
     }
 
-    /// Whether the key has a value. It takes no memory.
+    /// Whether the key has a value.
+    ///
+    /// Cost: O(log n), no lock. Refused: never.
     pub fn contains_key<Q: Sought<K>>(&self, key: Q) -> bool
         ensures { result ≡ is_some (value_at K.cmp self.now (Q.key_of key)) }
     {
         self.get(key).is_some()
     }
 
-    /// How many pairs there are. It takes no memory.
+    /// How many pairs there are.
+    ///
+    /// Cost: O(1), no lock. Refused: never.
     pub fn len(&self) -> u64
         ensures count { result ≡ length self.now }
         ensures few { length self.now ≤ MOST_PAIRS }
@@ -55,14 +67,18 @@ impl<K: PathKey, V> View<K, V> {
         trie_node::size(self.root.node())
     }
 
-    /// Whether there is no pair. It takes no memory.
+    /// Whether there is no pair.
+    ///
+    /// Cost: O(1), no lock. Refused: never.
     pub fn is_empty(&self) -> bool
         ensures { IsTrue result ↔ (self.now ≡ []) }
     {
         self.len() == 0
     }
 
-    /// The root of the view's trie. It takes no memory.
+    /// The root of the view's trie.
+    ///
+    /// Cost: O(1), no lock. Refused: never.
     pub fn root(&self) -> &Node<K, V>
         ensures root { IsRoot K.cmp K.path_of (tree result.now) }
         ensures entries { map_of K.cmp (tree result.now) ≡ self.now }
@@ -72,7 +88,9 @@ impl<K: PathKey, V> View<K, V> {
 }
 
 impl<K: PathKey + Drop, V: Drop> View<K, V> {
-    /// Another handle on the same view. It makes no request for memory, but the clone may be refused.
+    /// Another handle on the same view.
+    ///
+    /// Cost: O(1), no lock and no request for memory. Refused: `NoMemory`, where the handle cannot be cloned.
     pub fn try_clone(&self) -> Result<View<K, V>, NoMemory>
         ensures { IfOk result (λ view. view ≡ self.now) }
     {

@@ -1,15 +1,15 @@
 //! How jobs are opened, and closed by an answer, and what that answer would be.
 ghost use Rattle.std.specs.Prelude.{◌≡◌, ◌<◌, ◌≤◌, ◌+◌, ◌^◌, [], length, IfErr, IfOk, IsSome, OnErr, OnOk, Some, None, unwrap_or};
 ghost use Rattle.std.specs.Ordering.{nat_cmp};
-ghost use Rattle.bulk_ops.specs.Answers as plain;
-ghost use Rattle.bulk_ops.specs.Summaries.{summary_of};
+ghost use Rattle.bulk_work.specs.Answers as plain;
+ghost use Rattle.bulk_work.specs.Summaries.{summary_of};
 ghost use Rattle.handles.specs.Jobs.{AllCanFinish, Concludes, Tells};
 ghost use Rattle.handles.specs.Machine.{Job};
 ghost use Rattle.handles.specs.declared.jobs.TheConstants.{MOST_JOBS};
 ghost use Rattle.versions.specs.Map.{value_at, with_pair};
 
 use crate::jobs::Jobs;
-use bulk_ops::{Answer, Asks};
+use bulk_work::{Answer, Asks};
 use hash_path::PathKey;
 use held_maps::Places;
 use std::sync::Arc;
@@ -33,8 +33,18 @@ pub(super) fn open_job<K: PathKey + Drop, V: Eq + Drop, Q: Asks<K, V> + Drop>(
     ensures memory { IfErr result (λ e. e ≡ Refusal.NoMemory) }
     ensures err { OnErr result (jobs.new ≡ jobs.old) }
 {
-    let view = places.view(handle)?;
-    let kept = view.try_clone()?;
+    let view = match places.view(handle) {
+        Ok(view) => view,
+        Err(refusal) => {
+            drop(query);
+            return Err(refusal);
+        }
+    };
+    let Ok(kept) = view.try_clone() else {
+        drop(query);
+        drop(view);
+        return Err(Refusal::NoMemory);
+    };
     Ok((jobs.add(query, kept), view))
 }
 
@@ -67,7 +77,7 @@ pub(super) fn close_job<K: PathKey + Drop, V: Eq + Drop, Q: Asks<K, V> + Drop>(
     Ok(answer)
 }
 
-/// What `close_job` would answer.
+/// What `close_job` would return.
 ///
 /// It is refused as `NoJob` where the job is not open, and as `NoMemory`.
 pub(super) fn tell_job<K: PathKey + Drop, V: Eq + Drop, Q: Asks<K, V> + Drop>(

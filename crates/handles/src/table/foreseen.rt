@@ -1,4 +1,4 @@
-//! Calls that are made once their answers were foreseen.
+//! Calls that are made once what they return was foreseen.
 ghost use Rattle.std.specs.Prelude.{◌≡◌, OnErr, OnOk, false, true};
 ghost use Rattle.handles.specs.Machine.{Step, takes_no_memory};
 ghost use Rattle.handles.specs.Views.{Foresees, call_outcome, is_counted, leaves_maps, machine, outcome_of, request_of};
@@ -6,16 +6,18 @@ ghost use Rattle.handles.specs.Views.{Foresees, call_outcome, is_counted, leaves
 use super::{Table, lacks_memory};
 use crate::call::Call;
 use crate::call_reply::CallReply;
-use bulk_ops::Asks;
+use bulk_work::Asks;
 use hash_path::PathKey;
 use std::alloc::Global;
 use versions::{NoMemory, Refusal};
 
 impl<K: PathKey + Drop, V: Eq + Drop, Q: Asks<K, V> + Drop> Table<K, V, Q> {
     /// Makes the call as `serve` does, where this answer was foreseen: it is the outcome of the step. That the call is
-    /// not refused was decided when it was foreseen, and is not looked at again. A call that is
-    /// answered so and leaves all maps is counted alone, with no second look at a map, and is never `NoMemory`. Nor is a
-    /// drop.
+    /// not refused was decided when it was foreseen, and is not looked at again. A call that was foreseen so and leaves
+    /// all maps is counted alone, with no second look at a map.
+    ///
+    /// Cost: O(log n), no lock; O(1) where the call leaves all maps. Refused: `NoMemory`, if memory runs out, but never
+    /// where the call leaves all maps, nor of a drop.
     pub fn serve_foreseen(
         &mut self,
         alloc: Global,
@@ -31,12 +33,13 @@ impl<K: PathKey + Drop, V: Eq + Drop, Q: Asks<K, V> + Drop> Table<K, V, Q> {
     {
         if leaves_maps(&call, answer) {
             self.count(&call, answer);
+            drop(call);
             return Ok(());
         }
-        if lacks_memory(&self.serve_granted(alloc, call)) {
-            return Err(NoMemory);
-        }
-        Ok(())
+        let made = self.serve_granted(alloc, call);
+        let lacks = lacks_memory(&made);
+        drop(made);
+        if lacks { Err(NoMemory) } else { Ok(()) }
     }
 
     // Counts the entry of a call that leaves all maps.
@@ -54,7 +57,7 @@ impl<K: PathKey + Drop, V: Eq + Drop, Q: Asks<K, V> + Drop> Table<K, V, Q> {
     }
 }
 
-// Whether a call that is answered so leaves all maps as they were.
+// Whether a call that returns this leaves all maps as they were.
 fn leaves_maps<K: PathKey + Drop, V: Eq + Drop>(
     call: &Call<K, V>,
     answer: &Result<CallReply<V>, Refusal>,

@@ -1,7 +1,7 @@
-//! What the calls of a table would be answered now, `NoMemory` aside.
+//! What the calls of a table would return now, `NoMemory` aside.
 ghost use Rattle.std.specs.Prelude.{◌≡◌, MatchOption, Err, IfOk, Ok, Some, false};
-ghost use Rattle.bulk_ops.specs.Answers as plain;
-ghost use Rattle.bulk_ops.specs.Summaries.{summary_of};
+ghost use Rattle.bulk_work.specs.Answers as plain;
+ghost use Rattle.bulk_work.specs.Summaries.{summary_of};
 ghost use Rattle.handles.specs.Machine.{Job, abandon, drop_handle, finish, freeze, job_at, on, open_handle, snapshot, view};
 ghost use Rattle.handles.specs.Views.{AnswersWithoutMemory, Foresees, call_outcome, command_of, finished_outcome, frozen_outcome, lacks_memory, machine, reply_outcome, request_of, unit_outcome, view_outcome};
 
@@ -10,13 +10,15 @@ use super::ends::tell_job;
 use crate::call::Call;
 use crate::call_reply::CallReply;
 use crate::request_ref::RequestRef;
-use bulk_ops::{Answer, Asks};
+use bulk_work::{Answer, Asks};
 use hash_path::PathKey;
 use held_maps::{Command, Reply};
 use versions::{Refusal, View};
 
 impl<K: PathKey + Drop, V: Eq + Drop, Q: Asks<K, V> + Drop> Table<K, V, Q> {
-    /// What `open` would answer now. It takes no memory, and never foresees `NoMemory`.
+    /// What `open` would return now.
+    ///
+    /// Cost: O(1), no lock. Refused: as `open`, but never `NoMemory`.
     pub fn foresee_open(&self, handle: u32) -> Result<(), Refusal>
         ensures now { Foresees (machine K.cmp V.eq Q.target_of Q.answered) self.now (open_handle handle) unit_outcome result }
         ensures memory { lacks_memory result ≡ false }
@@ -24,7 +26,9 @@ impl<K: PathKey + Drop, V: Eq + Drop, Q: Asks<K, V> + Drop> Table<K, V, Q> {
         granted(self.refusal_of(&RequestRef::Open(handle)))
     }
 
-    /// What `snapshot` would answer now. It takes no memory, and never foresees `NoMemory`.
+    /// What `snapshot` would return now.
+    ///
+    /// Cost: O(1), no lock. Refused: as `snapshot`, but never `NoMemory`.
     pub fn foresee_snapshot(&self, handle: u32, to: u32) -> Result<(), Refusal>
         ensures now { Foresees (machine K.cmp V.eq Q.target_of Q.answered) self.now (snapshot handle to) unit_outcome result }
         ensures memory { lacks_memory result ≡ false }
@@ -32,9 +36,10 @@ impl<K: PathKey + Drop, V: Eq + Drop, Q: Asks<K, V> + Drop> Table<K, V, Q> {
         granted(self.refusal_of(&RequestRef::Snapshot(handle, to)))
     }
 
-    /// What `view` would answer now: the handle's map, which no later call changes. It makes no request for memory.
+    /// What `view` would return now: the handle's map, which no later call changes.
     ///
-    /// It foresees `NoMemory` only where no refusal is due.
+    /// Cost: O(1), no lock and no request for memory. Refused: as `view`; `NoMemory` only where no other refusal is
+    /// due.
     pub fn foresee_view(&self, handle: u32) -> Result<View<K, V>, Refusal>
         ensures { Foresees (machine K.cmp V.eq Q.target_of Q.answered) self.now (view handle) view_outcome result }
     {
@@ -44,10 +49,10 @@ impl<K: PathKey + Drop, V: Eq + Drop, Q: Asks<K, V> + Drop> Table<K, V, Q> {
         }
     }
 
-    /// What `call` with the command would answer now. It makes no request for memory: a value that the reply shows is
-    /// shared with the map.
+    /// What `call` with the command would return now: a value that the reply shows is shared with the map.
     ///
-    /// It foresees `NoMemory` only where no refusal is due, and never of `Size`.
+    /// Cost: O(log n), no lock and no request for memory. Refused: as `call`; `NoMemory` only where no other refusal is
+    /// due, and never of `Size`.
     pub fn foresee_call(&self, handle: u32, command: &Command<K, V>) -> Result<Reply<V>, Refusal>
         ensures now { Foresees (machine K.cmp V.eq Q.target_of Q.answered) self.now (on handle (command_of command.now)) reply_outcome result }
         ensures memory { AnswersWithoutMemory (machine K.cmp V.eq Q.target_of Q.answered) (on handle (command_of command.now)) result }
@@ -58,7 +63,9 @@ impl<K: PathKey + Drop, V: Eq + Drop, Q: Asks<K, V> + Drop> Table<K, V, Q> {
         }
     }
 
-    /// What `drop_handle` would answer now. It takes no memory, and never foresees `NoMemory`.
+    /// What `drop_handle` would return now.
+    ///
+    /// Cost: O(1), no lock. Refused: as `drop_handle`.
     pub fn foresee_drop_handle(&self, handle: u32) -> Result<(), Refusal>
         ensures now { Foresees (machine K.cmp V.eq Q.target_of Q.answered) self.now (drop_handle handle) unit_outcome result }
         ensures memory { lacks_memory result ≡ false }
@@ -66,10 +73,11 @@ impl<K: PathKey + Drop, V: Eq + Drop, Q: Asks<K, V> + Drop> Table<K, V, Q> {
         granted(self.refusal_of(&RequestRef::Drop(handle)))
     }
 
-    /// What `freeze` with the query would answer now: the number that the job would get, and the handle's map, which no
-    /// later call changes. It makes no request for memory.
+    /// What `freeze` with the query would return now: the number that the job would get, and the handle's map, which no
+    /// later call changes.
     ///
-    /// It foresees `NoMemory` only where no refusal is due.
+    /// Cost: O(1), no lock and no request for memory. Refused: as `freeze`; `NoMemory` only where no other refusal is
+    /// due.
     pub fn foresee_freeze(&self, handle: u32, query: &Q) -> Result<(u64, View<K, V>), Refusal>
         ensures { Foresees (machine K.cmp V.eq Q.target_of Q.answered) self.now (freeze handle query.now) frozen_outcome result }
     {
@@ -79,11 +87,12 @@ impl<K: PathKey + Drop, V: Eq + Drop, Q: Asks<K, V> + Drop> Table<K, V, Q> {
         }
     }
 
-    /// What `finish` with the part would answer now. The part, which is lent alone, has to answer the job's query for
-    /// its frozen map. It makes no request for memory: a pair that was found is shared with the part. A `finish`
-    /// that is made then with that part returns the same answer.
+    /// What `finish` with the part would return now. The part, which is lent alone, has to answer the job's query for
+    /// its frozen map: a pair that was found is shared with the part. A `finish` that is made then with that part
+    /// returns the same answer.
     ///
-    /// It foresees `NoMemory` only where no refusal is due.
+    /// Cost: O(1), no lock and no request for memory. Refused: as `finish`; `NoMemory`, where a handle cannot be cloned
+    /// and no other refusal is due.
     pub fn foresee_finish(&self, job: u64, part: &Q::Part) -> Result<Answer<K, V, Q::Item>, Refusal>
         requires { (j : Job K V Q) → job_at self.now job ≡ Some j → Q.answers j.query j.frozen part.now }
         ensures now { Foresees (machine K.cmp V.eq Q.target_of Q.answered) self.now (finish job) finished_outcome result }
@@ -95,7 +104,9 @@ impl<K: PathKey + Drop, V: Eq + Drop, Q: Asks<K, V> + Drop> Table<K, V, Q> {
         }
     }
 
-    /// What `abandon` would answer now. It takes no memory, and never foresees `NoMemory`.
+    /// What `abandon` would return now.
+    ///
+    /// Cost: O(1), no lock. Refused: as `abandon`.
     pub fn foresee_abandon(&self, job: u64) -> Result<(), Refusal>
         ensures now { Foresees (machine K.cmp V.eq Q.target_of Q.answered) self.now (abandon job) unit_outcome result }
         ensures memory { lacks_memory result ≡ false }
@@ -103,7 +114,9 @@ impl<K: PathKey + Drop, V: Eq + Drop, Q: Asks<K, V> + Drop> Table<K, V, Q> {
         granted(self.refusal_of(&RequestRef::Abandon(job)))
     }
 
-    /// What `serve` with the call would answer now, as the twins of `open`, `snapshot`, `drop_handle` and `call` do.
+    /// What `serve` with the call would return now, as the twins of `open`, `snapshot`, `drop_handle` and `call` do.
+    ///
+    /// Cost: O(log n) at most, no lock. Refused: as these.
     pub fn foresee_serve(&self, call: &Call<K, V>) -> Result<CallReply<V>, Refusal>
         ensures now { Foresees (machine K.cmp V.eq Q.target_of Q.answered) self.now (request_of call.now) call_outcome result }
         ensures memory { AnswersWithoutMemory (machine K.cmp V.eq Q.target_of Q.answered) (request_of call.now) result }

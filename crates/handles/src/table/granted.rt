@@ -6,7 +6,7 @@ ghost use Rattle.handles.specs.Views.{AnswersWithoutMemory, IsStep, call_outcome
 use super::{Table, counted};
 use crate::call::Call;
 use crate::call_reply::CallReply;
-use bulk_ops::Asks;
+use bulk_work::Asks;
 use hash_path::PathKey;
 use held_maps::{Command, Reply};
 use std::alloc::Global;

@@ -6,7 +6,7 @@ ghost use Rattle.handles.specs.Views.{requested, machine};
 use super::Table;
 use crate::jobs::MOST_JOBS;
 use crate::request_ref::RequestRef;
-use bulk_ops::Asks;
+use bulk_work::Asks;
 use hash_path::PathKey;
 use held_maps::LAST_HANDLE;
 use versions::Refusal;

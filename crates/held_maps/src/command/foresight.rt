@@ -36,6 +36,8 @@ impl<K: PathKey + Drop, V: Eq + Drop> Command<K, V> {
 
     /// Whether the command, where it replies so, leaves the map as it was: it reads alone, what it was to write hung on
     /// a condition that did not hold, or the key that it was to remove was absent.
+    ///
+    /// Cost: O(1), no lock. Refused: never.
     pub fn leaves_map(&self, reply: &Reply<V>) -> bool
         ensures { result ≡ leaves_map (command_of self.now) (reply_of reply.now) }
     {

@@ -1,4 +1,4 @@
-//! How calls are made and filed whose answers were foreseen.
+//! How calls are made and filed, where what they return was foreseen.
 ghost use Rattle.std.specs.Prelude.{◌≡◌, ◌<◌, ◌+◌, ◌^◌, IfOk, IsTrue, OnErr, OnOk, true};
 ghost use Rattle.boxcar.specs.Table.{Shows};
 ghost use Rattle.handles.specs.Machine.{freeze, view};
@@ -7,12 +7,10 @@ ghost use Rattle.journal.specs.Answers.{answered};
 ghost use Rattle.journal.specs.Kept.{Files};
 
 use super::{JournaledTable, set_beside};
-use crate::asked::Asked;
 use crate::caller::Caller;
-use crate::filing::{Event, Opened, entered};
+use crate::filing::{Event, Opened, entered_call, entered_freeze, entered_view};
 use crate::journal_name::{Entries, JournalName};
-use crate::response::{response_to_call, response_to_freeze, response_to_view};
-use bulk_ops::Asks;
+use bulk_work::Asks;
 use handles::{Call, CallReply, lacks_memory, law_of_foresight, law_of_freezes, law_of_open_jobs};
 use hash_path::PathKey;
 use std::alloc::Global;
@@ -25,7 +23,7 @@ impl<K: PathKey + Drop, V: Eq + Drop, Q: Asks<K, V> + Drop, J: JournalName> Jour
     Q,
     J,
 > {
-    /// Makes the call, which is foreseen to be answered so, and files it.
+    /// Makes the call, which is foreseen to return this, and files it.
     pub(super) fn file_call<R: Wait>(
         &mut self,
         rt: &R,
@@ -44,12 +42,20 @@ impl<K: PathKey + Drop, V: Eq + Drop, Q: Asks<K, V> + Drop, J: JournalName> Jour
         ensures room { OnOk result (IsTrue caller.has_room) }
         ensures err { OnErr result (self.new ≡ self.old) }
     {
-        let told = response_to_call(&answer)?;
-        let asked = Asked::Call(call.try_clone::<Q>()?);
         let place = self.journal.len() as u64;
-        let journal = &mut self.journal;
-        let (token, mine) = entered(rt, entries, journal, caller, asked, told)?;
-        self.table.serve_foreseen(alloc, call, &answer)?;
+        let entered = entered_call(rt, entries, &mut self.journal, caller, &call, &answer);
+        let Ok((token, mine)) = entered else {
+            drop(call);
+            drop(answer);
+            return Err(NoMemory);
+        };
+        let served = self.table.serve_foreseen(alloc, call, &answer);
+        let Ok(()) = served else {
+            drop(token);
+            drop(mine);
+            drop(answer);
+            return Err(NoMemory);
+        };
         law_of_open_jobs::<K, V, Q>();
         self.journal.push_reserved(mine);
         Ok(Event {
@@ -59,7 +65,7 @@ impl<K: PathKey + Drop, V: Eq + Drop, Q: Asks<K, V> + Drop, J: JournalName> Jour
         })
     }
 
-    /// Shows the map of the handle, which is foreseen to be answered so, and files that.
+    /// Shows the map of the handle, which is foreseen to be returned, and files that.
     pub(super) fn file_view<R: Wait>(
         &mut self,
         rt: &R,
@@ -77,12 +83,19 @@ impl<K: PathKey + Drop, V: Eq + Drop, Q: Asks<K, V> + Drop, J: JournalName> Jour
         ensures room { OnOk result (IsTrue caller.has_room) }
         ensures err { OnErr result (self.new ≡ self.old) }
     {
-        let told = response_to_view(&answer)?;
-        let asked = Asked::View(handle);
         let place = self.journal.len() as u64;
-        let journal = &mut self.journal;
-        let (token, mine) = entered(rt, entries, journal, caller, asked, told)?;
-        if lacks_memory(&self.table.view(handle)) {
+        let entered = entered_view(rt, entries, &mut self.journal, caller, handle, &answer);
+        let Ok((token, mine)) = entered else {
+            drop(answer);
+            return Err(NoMemory);
+        };
+        let shown = self.table.view(handle);
+        let lacks = lacks_memory(&shown);
+        drop(shown);
+        if lacks {
+            drop(token);
+            drop(mine);
+            drop(answer);
             return Err(NoMemory);
         }
         law_of_foresight::<K, V, Q>();
@@ -95,7 +108,7 @@ impl<K: PathKey + Drop, V: Eq + Drop, Q: Asks<K, V> + Drop, J: JournalName> Jour
         })
     }
 
-    /// Opens a job with the query on the handle's map, which is foreseen to be answered so, and files that.
+    /// Opens a job with the query on the handle's map, which is foreseen to return this, and files that.
     pub(super) fn file_freeze<R: Wait>(
         &mut self,
         rt: &R,
@@ -114,13 +127,29 @@ impl<K: PathKey + Drop, V: Eq + Drop, Q: Asks<K, V> + Drop, J: JournalName> Jour
         ensures room { OnOk result (IsTrue caller.has_room) }
         ensures err { OnErr result (self.new ≡ self.old) }
     {
-        let told = response_to_freeze(&answer)?;
-        let asked = Asked::Freeze(handle, Arc::try_clone(&query)?);
-        self.freezes.reserve(1)?;
         let place = self.journal.len() as u64;
-        let journal = &mut self.journal;
-        let (token, mine) = entered(rt, entries, journal, caller, asked, told)?;
-        if lacks_memory(&self.table.freeze(handle, query)) {
+        let entered = entered_freeze(
+            rt,
+            entries,
+            &mut self.journal,
+            &mut self.freezes,
+            caller,
+            handle,
+            &query,
+            &answer,
+        );
+        let Ok((token, mine)) = entered else {
+            drop(query);
+            drop(answer);
+            return Err(NoMemory);
+        };
+        let frozen = self.table.freeze(handle, query);
+        let lacks = lacks_memory(&frozen);
+        drop(frozen);
+        if lacks {
+            drop(token);
+            drop(mine);
+            drop(answer);
             return Err(NoMemory);
         }
         law_of_foresight::<K, V, Q>();

@@ -5,7 +5,7 @@ ghost use Rattle.locked_map.specs.Getting.{GetsOrElse, PutsOrFinds, TellsValue};
 
 use super::SharedMap;
 use crate::seat::Seat;
-use bulk_ops::Asks;
+use bulk_work::Asks;
 use handles::{Call, CallReply, Command, Reply};
 use hash_path::PathKey;
 use journal::JournalName;
@@ -14,11 +14,13 @@ use versions::Refusal;
 
 impl<K: PathKey + Drop, V: Eq + Drop, Q: Asks<K, V> + Drop, J: JournalName> SharedMap<K, V, Q, J> {
     /// The value of the key on the handle. Where it has none, `make` makes one, which is put, unless another seat has
-    /// put one meanwhile: that seat's value is the answer then.
+    /// put one meanwhile: that seat's value is returned then.
     ///
     /// It is a get and, where that finds nothing, a put if absent, each an entry of its own. `make` is called between
-    /// the two, with no lock held, and for a key that has a value it is not called. It is refused as either call is.
-    /// Where the second is refused, the first stands in the journal.
+    /// the two, with no lock held, and for a key that has a value it is not called.
+    ///
+    /// Cost: O(log n), under the lock of the table, once or twice. Refused: as either call; where the second is
+    /// refused, the first stands in the journal.
     pub fn get_or_else_update<R: Wait, F: FnOnce() -> V>(
         &self,
         rt: &R,
@@ -38,7 +40,7 @@ impl<K: PathKey + Drop, V: Eq + Drop, Q: Asks<K, V> + Drop, J: JournalName> Shar
         }
     }
 
-    // Puts the value, unless the key has one by now. The value that the key has then is the answer.
+    // Puts the value, unless the key has one by now. Returns the value that the key has then.
     fn put_or_find<R: Wait>(
         &self,
         rt: &R,

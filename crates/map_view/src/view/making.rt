@@ -1,6 +1,6 @@
 //! Maps that are made of the pairs of a view.
 ghost use Rattle.std.specs.Prelude.{◌≡◌, ◌≤◌, Bool, IfOk, length};
-ghost use Rattle.bulk_ops.specs.Answers.{passing};
+ghost use Rattle.bulk_work.specs.Answers.{passing};
 ghost use Rattle.bulk_ops.specs.Meanings.{MayAnswer, Means};
 ghost use Rattle.map_view.specs.Questions.{changed};
 ghost use Rattle.versions.specs.declared.version.TheConstants.{MOST_PAIRS};
@@ -19,6 +19,8 @@ use versions::{MOST_PAIRS, Version};
 /// or compared.
 impl<K: PathKey + Drop, V: Drop, P: Keeps<K, V>> View<K, V, P> {
     /// The map of the pairs that pass the test. It asks for memory for the nodes of these pairs alone.
+    ///
+    /// Cost: O(n), no lock. Refused: `NoMemory`, if memory runs out.
     pub fn filter<F: Fn(&K, &V) -> bool>(&self, test: F) -> Result<Version<K, V>, NoMemory>
         requires callable { F.IsAlwaysCallable test }
         ensures entries { IfOk result (λ made. (p : K → V → Bool) → Means (MayAnswer F.Fn test) p → made.entries ≡ passing p self.now) }
@@ -31,6 +33,8 @@ impl<K: PathKey + Drop, V: Drop, P: Keeps<K, V>> View<K, V, P> {
     }
 
     /// The map of the same keys, each with what the closure makes of its pair.
+    ///
+    /// Cost: O(n), no lock, and memory for each node and each value. Refused: `NoMemory`, if memory runs out.
     pub fn map_values<W: Drop, G: Fn(&K, &V) -> W>(
         &self,
         change: G,

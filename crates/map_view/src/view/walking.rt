@@ -10,6 +10,8 @@ use stripes::Keeps;
 
 impl<K: PathKey + Drop, V: Drop, P: Keeps<K, V>> View<K, V, P> {
     /// A walk over all pairs, as `pairs` gives it, and as `for (key, value) in &view` walks it.
+    ///
+    /// Cost: O(1), no lock, and O(n) for the walk. Refused: never.
     pub fn iter(&self) -> Pairs<'_, K, V>
         ensures rest { result.rest ≡ walked K.cmp K.path_of self.now }
         ensures once { IsPermutation self.now result.rest }
@@ -20,6 +22,8 @@ impl<K: PathKey + Drop, V: Drop, P: Keeps<K, V>> View<K, V, P> {
     }
 
     /// The same walk, which takes its pairs from the trie in bunches: for calls that mostly look at all of them.
+    ///
+    /// Cost: O(1), no lock, and O(n) for the walk. Refused: never.
     pub fn bunched(&self) -> BunchedPairs<'_, K, V>
         ensures rest { result ≡ walked K.cmp K.path_of self.now }
         ensures once { IsPermutation self.now result }

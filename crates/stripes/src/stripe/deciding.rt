@@ -17,7 +17,7 @@ use versions::Refusal;
 
 impl<K: PathKey + Drop, V: Drop, P: Keeps<K, V>> Stripe<K, V, P> {
     /// Calls `change` at the value that the key has, or at none. The key has then what it made: a value is stored, and
-    /// for none the key is removed. The answer is the value before, or none.
+    /// for none the key is removed. It returns the value before, or none.
     ///
     /// It is refused as a put is: as `Full` exactly where a value was made, the key is new and there are as many pairs
     /// as there may be. `change` has run then, and the stripe is as before.
@@ -42,7 +42,7 @@ impl<K: PathKey + Drop, V: Drop, P: Keeps<K, V>> Stripe<K, V, P> {
         self.set(alloc, key, path, made)
     }
 
-    /// What `update` does, where `change` answers something beside what it made: that is handed out.
+    /// What `update` does, where `change` returns something beside what it made: that is returned.
     pub fn update_with<T: Drop, F: FnOnce(Option<&V>) -> (Option<V>, T)>(
         &mut self,
         alloc: Global,
@@ -91,7 +91,7 @@ impl<K: PathKey + Drop, V: Drop, P: Keeps<K, V>> Stripe<K, V, P> {
         }
     }
 
-    /// Removes the key where it has a value of which the test holds, and answers the value that was removed, or none.
+    /// Removes the key where it has a value of which the test holds, and returns the value that was removed, or none.
     ///
     /// The only error is `NoMemory`, if memory runs out. The test has run then, and the stripe is as before.
     pub fn remove_passing<Q: Sought<K>, F: FnOnce(&V) -> bool>(
@@ -116,7 +116,7 @@ impl<K: PathKey + Drop, V: Drop, P: Keeps<K, V>> Stripe<K, V, P> {
         }
     }
 
-    // Maps the key to the value, or removes it for none, and answers the value before, or none.
+    // Maps the key to the value, or removes it for none, and returns the value before, or none.
     fn set(
         &mut self,
         alloc: Global,

@@ -9,7 +9,7 @@ use std::mem;
 use std::sync::Arc;
 
 impl<K: PathKey + Drop, V: Drop, P: Keeps<K, V>> Stripe<K, V, P> {
-    /// Has the stripe's writes marked there from now on, and answers where they were marked before. The pairs stay as
+    /// Has the stripe's writes marked there from now on, and returns where they were marked before. The pairs stay as
     /// they are.
     ///
     /// The marks before have to end before the stripe's lock is released.

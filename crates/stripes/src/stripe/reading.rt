@@ -1,4 +1,4 @@
-//! What a closure answers of a value that stays where it is.
+//! What a closure returns of a value that stays where it is.
 ghost use Rattle.std.specs.Prelude.{◌≡◌, IfSome, option_map};
 ghost use Rattle.stripes.specs.Rules.{first_digit as digit_of};
 ghost use Rattle.stripes.specs.Updates.{MayPass};
@@ -9,7 +9,7 @@ use crate::keeps::Keeps;
 use hash_path::{Path, PathKey, Sought};
 
 impl<K: PathKey + Drop, V: Drop, P: Keeps<K, V>> Stripe<K, V, P> {
-    /// What `look` answers of the value of the key, or of none. No handle is cloned.
+    /// What `look` returns of the value of the key, or of none. No handle is cloned.
     pub fn read<T, Q: Sought<K>, F: FnOnce(Option<&V>) -> T>(
         &self,
         key: Q,

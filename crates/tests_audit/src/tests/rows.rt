@@ -13,7 +13,7 @@ pub(super) const FIRST: &[u8] = b"{\"call\":\"open 1\",\"entry\":1,\"reply\":\"o
 ";
 
 /// A journal of a bulk verb with a target, of each kind of event, and of a find that two pairs could answer.
-pub(super) const BULK: &[u8] = b"{\"call\":\"open 1\",\"entry\":1,\"reply\":\"ok\",\"seat\":0}
+const BULK: &[u8] = b"{\"call\":\"open 1\",\"entry\":1,\"reply\":\"ok\",\"seat\":0}
 {\"call\":\"put 1 a\\\"\\\\=b 4\",\"entry\":2,\"reply\":\"none\",\"seat\":63}
 {\"call\":\"put 1 c -9223372036854775808\",\"entry\":3,\"reply\":\"none\",\"seat\":0}
 {\"call\":\"freeze filter 1 even 2\",\"entry\":4,\"reply\":\"job 0\",\"seat\":0}

@@ -1,7 +1,7 @@
 //! Journals as text. An entry is a request, a colon and its response.
 use super::assert_text;
 use batch_cli::{Journal, ScriptQuery};
-use bulk_ops::Answer;
+use bulk_work::Answer;
 use handles::{Call, CallReply, Command, Reply};
 use keys::ByteText;
 use locked_map::{Asked, Response};

@@ -3,7 +3,7 @@ use super::stopping::Given;
 use super::{
     Asked, Plain, assert_is, assert_plain, below, first, instead, part_of, plain_of, two_of,
 };
-use bulk_ops::work_into;
+use bulk_work::work_into;
 use combiner::Bulk;
 use hash_path::PathKey;
 use std::alloc::Global;

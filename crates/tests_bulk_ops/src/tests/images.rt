@@ -3,7 +3,8 @@ ghost use Rattle.std.specs.Prelude.{◌≡◌, ◌∷◌, [], take};
 
 use super::joined;
 use super::memory::{MOST_GIVEN, take_all_but};
-use bulk_ops::{Answer, Asks, ImageFn, PairFn, Part, Query, StoredPairs, ask, work};
+use bulk_ops::{ImageFn, PairFn, Part, Query, StoredPairs};
+use bulk_work::{Answer, Asks, ask, work};
 use combiner::{Bulk, Sum};
 use keys::ByteText;
 use splitter::{Piece, whole};
@@ -57,7 +58,6 @@ impl PairFn<ByteText, i64, i128> for Unasked {
 
 type Imaged<P> = Query<ByteText, i64, Unasked, Unasked, Sum, Unasked, P>;
 
-// A part of such a query.
 type Images = Part<ByteText, i64, i128>;
 
 // The first byte of the key, as a key, with the value.

@@ -1,6 +1,6 @@
 //! What the law of folds shows of values.
 ghost use Rattle.std.specs.Prelude.{◌≡◌, ℕ, ℤ, [], ◌∷◌, pos};
-ghost use Rattle.bulk_ops.specs.Answers.{items_of};
+ghost use Rattle.bulk_work.specs.Answers.{items_of};
 ghost use Rattle.combiner.specs.Monoids.{folded};
 ghost use Rattle.combiner.specs.Numbers.{wrapped_sum};
 

@@ -5,7 +5,8 @@ use super::{
     Asked, Contents, Plain, SUMS, ThreeItems, assert_is, assert_plain, at_three, below, chosen,
     first, instead, many, map_of, plain_of, values,
 };
-use bulk_ops::{Part, work};
+use bulk_ops::Part;
+use bulk_work::work;
 use combiner::{Both, Bulk, Greatest, Least, Sum};
 use splitter::{Piece, whole};
 use std::alloc::{AllocError, Global};

@@ -1,7 +1,7 @@
 //! When a work stops: once its part is settled, and else at the end of its piece.
 
 use super::{assert_is, first, many};
-use bulk_ops::work;
+use bulk_work::work;
 use combiner::Bulk;
 use splitter::whole;
 use std::alloc::Global;

@@ -6,7 +6,8 @@ ghost use Rattle.tests_core_steps.specs.Clients.{AsksSize};
 
 use super::{LARGEST, assert_is};
 use crate::client::size_and_count;
-use bulk_ops::{Asks, NoImages, PairFn, Query, Stored};
+use bulk_ops::{NoImages, PairFn, Query, Stored};
+use bulk_work::Asks;
 use combiner::Sum;
 use core_steps::{Core, Step};
 use handles::{Call, Command};

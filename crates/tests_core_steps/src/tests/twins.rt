@@ -9,7 +9,8 @@ use crate::plain_outcome::{
 };
 use crate::plans::{Plan, TestCore, step_of};
 use crate::worker_states::Job;
-use bulk_ops::{Answer, Part};
+use bulk_ops::Part;
+use bulk_work::Answer;
 use core_steps::Outcome;
 use handles::MOST_ENTRIES;
 use std::alloc::Global;

@@ -1,6 +1,6 @@
 //! What the twins of calls foresee, beside what the calls then answer.
 ghost use Rattle.std.specs.Prelude.{◌≡◌, IfOk, IfSome};
-ghost use Rattle.bulk_ops.specs.Summaries.{summary_of};
+ghost use Rattle.bulk_work.specs.Summaries.{summary_of};
 ghost use Rattle.handles.specs.Machine.{Step, drop_handle, job_at};
 ghost use Rattle.handles.specs.Views.{call_outcome, machine};
 
@@ -10,7 +10,8 @@ use crate::plain_outcome::{
     PlainOutcome, call_outcome_of, finish_outcome, freeze_outcome, unit_outcome, view_outcome,
 };
 use crate::steps::{Act, Do, Prepared, part_of, take};
-use bulk_ops::{Answer, Asks, Part};
+use bulk_ops::Part;
+use bulk_work::{Answer, Asks};
 use combiner::Bulk;
 use handles::{Call, CallReply, Limits, Table, law_of_answers, law_of_foresight};
 use hash_path::PathKey;

@@ -7,7 +7,7 @@ use super::{assert_is, assert_rows};
 use crate::asking::{Ask, Asked, Asking, ThreeItems, query_of};
 use crate::plain_outcome::{PlainOutcome, call_outcome_of, finish_outcome};
 use crate::steps::{Act, Do, command_of, worked};
-use bulk_ops::{Answer, Asks};
+use bulk_work::{Answer, Asks};
 use handles::{
     Call, CallReply, Command, Table, law_of_answers, law_of_freezes, law_of_open_jobs,
     law_of_other_handles, law_of_refusals,

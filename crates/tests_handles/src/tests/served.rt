@@ -7,7 +7,7 @@ use super::{assert_entries, assert_is, step, table_of};
 use crate::asking::{Asked, Asking};
 use crate::plain_outcome::{PlainOutcome, call_outcome_of};
 use crate::steps::{Act, Do, Prepared, take};
-use bulk_ops::Asks;
+use bulk_work::Asks;
 use handles::{Call, CallReply, Table};
 use hash_path::PathKey;
 use std::alloc::Global;

@@ -1,6 +1,6 @@
 //! The outcomes of seats, as plain values.
 use super::KEYS;
-use bulk_ops::Answer;
+use bulk_work::Answer;
 use handles::CallReply;
 use locked_map::Response;
 use std::sync::Arc;

@@ -1,7 +1,8 @@
 //! What the tests ask of whole maps: the question of a query, and its part of a view.
 ghost use Rattle.std.specs.Prelude.{IfOk};
 
-use bulk_ops::{Part, StoredTest, work};
+use bulk_ops::{Part, StoredTest};
+use bulk_work::work;
 use combiner::Bulk;
 use iter::parts_follow_intervals;
 use splitter::whole;

@@ -34,6 +34,30 @@ fn each_reply_has_its_text(rt: HostRuntime) -> Result<(), Fail> {
 }
 
 #[test]
+fn each_refusal_has_its_name(rt: HostRuntime) -> Result<(), Fail> {
+    let mut shown = Vec::new(rt.alloc());
+    for refusal in [
+        Refusal::BadNumber,
+        Refusal::NoHandle,
+        Refusal::Taken,
+        Refusal::Full,
+        Refusal::NoJob,
+        Refusal::Unfinished,
+        Refusal::NoWorker,
+        Refusal::TooManyJobs,
+        Refusal::JournalFull,
+        Refusal::NoMemory,
+    ] {
+        push_line(&mut shown, 7, &LineReply::Refused(refusal))?;
+    }
+    let wanted = b"7 refused BadNumber\n7 refused NoHandle\n7 refused Taken\n7 refused Full\n\
+        7 refused NoJob\n7 refused Unfinished\n7 refused NoWorker\n7 refused TooManyJobs\n\
+        7 refused JournalFull\n7 refused NoMemory\n";
+    assert_eq!(rt; shown.as_slice(), wanted.as_slice());
+    Ok(())
+}
+
+#[test]
 fn a_listing_has_its_pairs_in_order_of_bytes(rt: HostRuntime) -> Result<(), Fail> {
     let alloc = rt.alloc();
     let mut shown = Vec::new(alloc);
@@ -47,11 +71,12 @@ fn a_listing_has_its_pairs_in_order_of_bytes(rt: HostRuntime) -> Result<(), Fail
         (b"B".as_slice(), 7),
         (b"a".as_slice(), 1),
         (b"b".as_slice(), 3),
+        (b"c".as_slice(), 0),
     ] {
         pairs.insert(key(alloc, bytes)?, value)?;
     }
     push_line(&mut shown, 2, &LineReply::Pairs(pairs))?;
-    let wanted = b"1 pairs\n2 pairs B=7 a=1 a==-9223372036854775808 b=3 \
+    let wanted = b"1 pairs\n2 pairs B=7 a=1 a==-9223372036854775808 b=3 c=0 \
         ~~~~~~~~~~~~~~~~~~~~~~~~~~~~~~~~~~~~~~~~~~~~~~~~~~~~~~~~~~~~~~~~=9223372036854775807\n";
     assert_eq!(rt; shown.as_slice(), wanted.as_slice());
     Ok(())

@@ -2,7 +2,8 @@
 ghost use Rattle.std.specs.Prelude.{◌≡◌};
 
 use super::{Asked, Seen, all, assert_is, equal, listed, seen};
-use bulk_ops::{Answer, Part};
+use bulk_ops::Part;
+use bulk_work::Answer;
 use std::process::Abort;
 use std::sync::Wait;
 use std::test::*;

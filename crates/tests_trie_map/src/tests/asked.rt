@@ -3,7 +3,8 @@ use super::{Map, Seen, assert_is, empty, key, put, view_of};
 use std::process::Abort;
 use std::sync::Wait;
 use std::sync::atomic::{AtomicU32, Ordering};
-use trie_map::{Greatest, Least, NoMemory, Sum};
+use test_keys::ChosenKey;
+use trie_map::{Greatest, Keys, Least, NoMemory, Sum, Values};
 
 // A map of ten keys in three stripes; the value of each is its number.
 fn ten<R: AllocGlobal + Wait + Abort>(rt: &R) -> Map {
@@ -80,6 +81,11 @@ fn values_of(view: &Seen) -> u64 {
     digits
 }
 
+// The walks over the keys and over the values, by the names of their types.
+fn walks(view: &Seen) -> (Keys<'_, ChosenKey, u64>, Values<'_, ChosenKey, u64>) {
+    (view.keys(), view.values())
+}
+
 #[test]
 fn questions_about_a_view(rt: HostRuntime) {
     let view = view_of(&rt, &ten(&rt));
@@ -134,6 +140,8 @@ fn keys_and_values_are_walked_in_order(rt: HostRuntime) {
     let view = view_of(&rt, &ten(&rt));
     assert_is(&rt, keys_of(&view), 369_147_258);
     assert_is(&rt, values_of(&view), 369_147_258);
+    let (keys, values) = walks(&view);
+    assert_is(&rt, (keys.count(), values.count()), (10, 10));
 }
 
 #[test]

@@ -1,13 +1,10 @@
 //! Calls by one thread.
-ghost use Rattle.trie_map.specs.Queries.{IsReady};
-
 use super::{Map, Seen, assert_is, at, empty, key, plain, put, snapshot_of, view_of};
-use combiner::Sum;
 use std::alloc::Global;
 use std::process::Abort;
 use std::sync::Wait;
 use test_keys::ChosenKey;
-use trie_map::{Answer, ByteText, NoImages, NoMemory, PairFn, PutError, Query, Stored, TrieMap};
+use trie_map::{ByteText, NoMemory, PutError, TrieMap};
 
 // What writes of one key answer, from no pairs on.
 fn written<R: Wait>(rt: &R, map: &Map) -> Result<[Option<u64>; 6], PutError> {
@@ -218,82 +215,24 @@ fn a_closure_that_fails_puts_nothing(rt: HostRuntime) {
     assert_is(&rt, map.len(&rt), 1);
 }
 
+// Puts 7 under the key, and makes 8.
+fn put_and_make<R: Wait>(rt: &R, map: &Map, key: ChosenKey) -> u64 {
+    let _ = map.put(rt, key, 7);
+    8
+}
+
 // What is answered where the closure puts 7 under the key, and makes 8. It may use the map: no lock is held meanwhile.
-fn put_meanwhile<R: Wait>(rt: &R, map: &Map) -> Result<u64, PutError> {
-    let found = map.get_or_else_update(rt, key(1, 0), || {
-        let _ = map.put(rt, key(1, 0), 7);
-        8
-    })?;
-    Ok(*found)
+fn put_meanwhile<R: Wait>(rt: &R, map: &Map) -> Result<(u64, Result<u64, ()>), PutError> {
+    let (one, two) = (key(1, 0), key(1, 1));
+    let found = map.get_or_else_update(rt, one, || put_and_make(rt, map, one))?;
+    let tried = map.try_get_or_else_update(rt, two, || Ok(put_and_make(rt, map, two)))?;
+    Ok((*found, tried.map(|value| *value)))
 }
 
 #[test]
 fn the_closure_may_put_the_key(rt: HostRuntime) {
     let map = empty(&rt);
-    assert_is(&rt, put_meanwhile(&rt, &map), Ok(7));
+    assert_is(&rt, put_meanwhile(&rt, &map), Ok((7, Ok(7))));
     assert_is(&rt, at(&rt, &map, key(1, 0)), Some(7));
-}
-
-// Whether the value is even.
-#[derive(Drop)]
-struct IsEven;
-
-impl PairFn<ChosenKey, u64, bool> for IsEven {
-    ghost use Rattle.std.specs.Prelude.{◌≡◌, ◌%◌, ◌==◌};
-
-    ghost can = { λ test. Unit {0} };
-
-    ghost gives = { λ test key value passes. passes ≡ (value % 2 == 0) };
-
-    fn answer(&self, _key: &ChosenKey, value: &u64) -> bool {
-        *value % 2 == 0
-    }
-}
-
-// A type for the closures that the question does not have.
-#[derive(Drop)]
-struct Value;
-
-impl PairFn<ChosenKey, u64, u64> for Value {
-    ghost use Rattle.std.specs.Prelude.{◌≡◌};
-
-    ghost can = { λ same. Unit {0} };
-
-    ghost gives = { λ same key value given. given ≡ value };
-
-    fn answer(&self, _key: &ChosenKey, value: &u64) -> u64 {
-        *value
-    }
-}
-
-impl PairFn<ChosenKey, u64, i128> for Value {
-    ghost use Rattle.std.specs.Prelude.{◌≡◌, pos};
-
-    ghost can = { λ item. Unit {0} };
-
-    ghost gives = { λ item key value given. given ≡ pos value };
-
-    fn answer(&self, _key: &ChosenKey, value: &u64) -> i128 {
-        i128::from(*value)
-    }
-}
-
-type Question = Query<ChosenKey, u64, IsEven, Value, Sum, Value, NoImages>;
-
-// How many values are even.
-fn even_values() -> Question
-    ensures { IsReady result }
-{
-    Query::Count(Stored::new(IsEven))
-}
-
-#[test]
-fn a_question_about_the_whole_map(rt: HostRuntime) {
-    let map = empty(&rt);
-    for id in 0..10 {
-        put(&rt, &map, key(id % 3, id), u64::from(id));
-    }
-    let (answer, made) = map.query(&rt, &even_values()).expect(&rt, "no answer");
-    assert!(rt; matches!(&answer, Answer::Count(5)));
-    assert!(rt; made.is_none());
+    assert_is(&rt, at(&rt, &map, key(1, 1)), Some(7));
 }

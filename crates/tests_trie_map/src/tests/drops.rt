@@ -1,6 +1,7 @@
 //! When the pairs that a map releases are dropped.
 use super::{assert_is, key};
 use std::alloc::Global;
+use std::process::Abort;
 use std::sync::atomic::{AtomicU32, Ordering};
 use std::sync::{Arc, Wait};
 use std::thread;
@@ -43,15 +44,27 @@ impl Drop for Waiting {
 
 type Values = TrieMap<ChosenKey, Waiting>;
 
-// Puts a pair, and clears the map.
-fn put_and_clear<R: Wait>(
+// Calls that let go of the value of a key.
+#[derive(Clone, Copy, Debug)]
+enum Ends {
+    Clear,
+    // An update that makes none, and whose answer is something else.
+    UpdateWith,
+}
+
+// Puts a pair, and has the map let go of it.
+fn put_and_end<R: Wait>(
     rt: &R,
     map: &Values,
     signs: &Arc<Signs, Global>,
+    call: Ends,
 ) -> Result<(), PutError> {
     let signs = Arc::try_clone(signs)?;
     map.put(rt, key(3, 0), Waiting { signs })?;
-    map.clear(rt)?;
+    match call {
+        Ends::Clear => map.clear(rt)?,
+        Ends::UpdateWith => map.update_with(rt, key(3, 0), |_| (None, ()))?,
+    }
     Ok(())
 }
 
@@ -74,26 +87,25 @@ fn no_signs(alloc: Global) -> Result<Arc<Signs, Global>, PutError> {
     Ok(Arc::new(alloc, signs)?)
 }
 
-// The two threads: what the one that clears the map is answered.
-fn cleared<R: Threads + Wait + Sync>(
-    rt: &R,
-    map: &Values,
-    signs: &Arc<Signs, Global>,
-) -> Result<(), PutError> {
-    let (cleared, _) = thread::join(
+// How many values were dropped while no lock was held, and how many while one was, by the thread that makes the call.
+fn dropped<R: AllocGlobal + Threads + Wait + Abort + Sync>(rt: &R, call: Ends) -> (u32, u32) {
+    let map: Values = TrieMap::new(rt).expect(rt, "no map");
+    let signs = no_signs(rt.alloc()).expect(rt, "no signs");
+    let (ended, _) = thread::join(
         rt,
-        || put_and_clear(rt, map, signs),
-        || lock_all(rt, map, signs),
+        || put_and_end(rt, &map, &signs, call),
+        || lock_all(rt, &map, &signs),
     );
-    cleared
+    assert_is(rt, ended, Ok(()));
+    (
+        signs.free.load(Ordering::SeqCst),
+        signs.held.load(Ordering::SeqCst),
+    )
 }
 
-// One value was dropped while no lock was held, and none while one was.
 #[test]
-fn cleared_pairs_are_dropped_when_no_lock_is_held(rt: HostRuntime) {
-    let map: Values = TrieMap::new(&rt).expect(&rt, "no map");
-    let signs = no_signs(rt.alloc()).expect(&rt, "no signs");
-    assert_is(&rt, cleared(&rt, &map, &signs), Ok(()));
-    assert_is(&rt, signs.free.load(Ordering::SeqCst), 1);
-    assert_is(&rt, signs.held.load(Ordering::SeqCst), 0);
+fn what_a_map_lets_go_of_is_dropped_when_no_lock_is_held(rt: HostRuntime) {
+    for call in [Ends::Clear, Ends::UpdateWith] {
+        assert_eq!(rt; dropped(&rt, call), (1, 0), "{call:?}");
+    }
 }

@@ -2,7 +2,7 @@
 use super::{Map, Seen, assert_is, empty, key, put, view_of};
 use std::process::Abort;
 use std::sync::Wait;
-use test_keys::{ChosenKey, take_all};
+use test_keys::ChosenKey;
 use trie_map::{NoMemory, Version, pairs_of};
 
 // A map of six keys in three stripes; the value of each is ten times its number.
@@ -110,16 +110,4 @@ fn a_map_that_is_made_is_written_apart(rt: HostRuntime) {
     assert_is(&rt, removed.is_some(), true);
     assert_is(&rt, sum(&rt, &made), Ok(90));
     assert_is(&rt, (made.len(), view.len()), (2, 6));
-}
-
-#[test]
-fn no_map_is_made_without_memory(rt: HostRuntime) {
-    let view = view_of(&rt, &six(&rt));
-    let taken = take_all(rt.alloc()).expect(&rt, "no list");
-    let answers = [
-        view.filter(|_, _| true).is_err(),
-        view.map_values(|_, value| *value).is_err(),
-    ];
-    drop(taken);
-    assert_is(&rt, answers, [true; 2]);
 }

@@ -5,7 +5,7 @@ use std::sync::atomic::{AtomicU32, Ordering};
 use std::sync::{Arc, Wait};
 use std::thread;
 use std::thread::Threads;
-use test_keys::{ChosenKey, take_all};
+use test_keys::ChosenKey;
 use trie_map::{ByteText, NoMemory, PutError, TrieMap};
 
 // How often the writer writes both keys. The reader looks until the writer is done.
@@ -61,22 +61,6 @@ fn of_texts<R: AllocGlobal + Wait>(rt: &R) -> Result<[Option<u64>; 3], PutError>
 #[test]
 fn texts_are_looked_up_with_no_key_made(rt: HostRuntime) {
     assert_is(&rt, of_texts(&rt), Ok([Some(6), None, Some(4)]));
-}
-
-#[test]
-fn a_list_is_refused_with_no_memory(rt: HostRuntime) {
-    let map = empty(&rt);
-    put(&rt, &map, key(1, 0), 1);
-    let view = view_of(&rt, &map);
-    let taken = take_all(rt.alloc()).expect(&rt, "no list");
-    let keys = [&key(1, 0)];
-    let refused = [
-        map.get_many(&rt, &keys).is_err(),
-        view.get_many(&keys).is_err(),
-    ];
-    drop(taken);
-    assert_is(&rt, refused, [true; 2]);
-    assert_is(&rt, map.get_copied(&rt, &key(1, 0)), Some(1));
 }
 
 // Puts the numbers in turn at the first key and then at the second.

@@ -1,5 +1,5 @@
 //! Four threads on one key, whose answers have to agree with what is there.
-use super::{Map, assert_is, at, empty, key, put};
+use super::{Map, assert_is, at, empty, key, plain, put};
 use std::process::Abort;
 use std::sync::Wait;
 use std::thread;
@@ -20,6 +20,10 @@ enum Calls {
     PutAndRemoveWhere,
     // Put it, replace it where it is present, and remove it.
     PutReplaceAndRemove,
+    // Put a number of the thread's own, and remove the key where it still has that.
+    PutOwn,
+    // The same, where it is put only if the key is absent.
+    PutOwnIfAbsent,
     // Make its value one more where it is the one that was read.
     Replace,
     // Draw numbers from it.
@@ -60,6 +64,28 @@ fn put_replace_and_remove<R: Wait>(rt: &R, map: &Map) -> PutResult {
     Ok(added.wrapping_sub(removed))
 }
 
+// What this thread's numbers add to the value of the key: those that it put, less those that it replaced or removed.
+fn put_own<R: Wait>(rt: &R, map: &Map, own: u64) -> PutResult {
+    let before = plain(map.put(rt, the_key(), own)?).unwrap_or(0);
+    let removed = if map.remove_if(rt, &the_key(), &own)? {
+        own
+    } else {
+        0
+    };
+    Ok(own.wrapping_sub(before).wrapping_sub(removed))
+}
+
+fn put_own_if_absent<R: Wait>(rt: &R, map: &Map, own: u64) -> PutResult {
+    let before = map.put_if_absent(rt, the_key(), own)?;
+    let added = if before.is_none() { own } else { 0 };
+    let removed = if map.remove_if(rt, &the_key(), &own)? {
+        own
+    } else {
+        0
+    };
+    Ok(added.wrapping_sub(removed))
+}
+
 // 1 where this thread made the value one more.
 fn replace<R: Wait>(rt: &R, map: &Map) -> PutResult {
     let value = map.get_copied(rt, &the_key()).unwrap_or(0);
@@ -92,22 +118,24 @@ fn enter<R: Wait>(rt: &R, map: &Map) -> PutResult {
     Ok(one_if(before == 0 || before > 3))
 }
 
-fn call<R: Wait>(rt: &R, map: &Map, calls: Calls) -> PutResult {
+fn call<R: Wait>(rt: &R, map: &Map, calls: Calls, own: u64) -> PutResult {
     match calls {
         Calls::PutAndRemove => put_and_remove(rt, map),
         Calls::PutAndRemoveWhere => put_and_remove_where(rt, map),
         Calls::PutReplaceAndRemove => put_replace_and_remove(rt, map),
+        Calls::PutOwn => put_own(rt, map, own),
+        Calls::PutOwnIfAbsent => put_own_if_absent(rt, map, own),
         Calls::Replace => replace(rt, map),
         Calls::Draw => draw(rt, map),
         Calls::Enter => enter(rt, map),
     }
 }
 
-// The answers of all calls of one thread.
-fn all_calls<R: Wait>(rt: &R, map: &Map, calls: Calls) -> PutResult {
+// The answers of all calls of the thread that has this number of its own.
+fn all_calls<R: Wait>(rt: &R, map: &Map, calls: Calls, own: u64) -> PutResult {
     let mut sum = 0u64;
     for _ in 0..TIMES {
-        sum = sum.wrapping_add(call(rt, map, calls)?);
+        sum = sum.wrapping_add(call(rt, map, calls, own)?);
     }
     Ok(sum)
 }
@@ -123,7 +151,7 @@ fn sum_by_threads<R: AllocGlobal + Threads + Wait + Abort + Sync>(
         rt,
         rt.alloc(),
         THREADS,
-        &|_: usize| { all_calls(rt, map, calls) },
+        &|thread: usize| { all_calls(rt, map, calls, 1 + thread as u64) },
     );
     for answers in all.expect(rt, "no threads") {
         sum = sum.wrapping_add(answers.expect(rt, "a call was refused"));
@@ -141,6 +169,17 @@ fn what_is_added_is_removed_once(rt: HostRuntime) {
         let map = empty(&rt);
         let left = sum_by_threads(&rt, &map, calls);
         assert_eq!(rt; left, map.len(&rt), "{calls:?}");
+    }
+}
+
+// What is removed is what was compared, and what is put where there is nothing replaces nothing.
+#[test]
+fn a_number_is_removed_by_its_own_thread(rt: HostRuntime) {
+    for calls in [Calls::PutOwn, Calls::PutOwnIfAbsent] {
+        let map = empty(&rt);
+        let left = sum_by_threads(&rt, &map, calls);
+        let there = at(&rt, &map, the_key()).unwrap_or(0);
+        assert_eq!(rt; left, there, "{calls:?}");
     }
 }
 

@@ -3,11 +3,7 @@ use super::{Map, assert_is, empty, key, put};
 use std::process::Abort;
 use std::sync::Wait;
 use std::thread::Threads;
-use test_keys::ChosenKey;
-use test_queries::{Values, Zero};
-use trie_map::{
-    Answer, Crew, NoImages, NoMemory, PairFn, PutError, Query, Stored, StoredTest, Sum,
-};
+use trie_map::{Crew, NoMemory, PutError, Sum};
 
 // Puts a key of each first digit, and answers whether each was put.
 fn puts_everywhere<R: Wait>(rt: &R, map: &Map) -> bool {
@@ -124,58 +120,18 @@ fn a_retain_may_put(rt: HostRuntime) {
     assert_is(&rt, removed, Ok(0));
 }
 
-// A test that puts a key of each first digit, and passes.
-#[derive(Drop)]
-struct Puts<'a, R>(&'a R, &'a Map);
-
-impl<'a, R: Wait> PairFn<ChosenKey, u64, bool> for Puts<'a, R> {
-    ghost use Rattle.std.specs.Prelude.{◌≡◌, true};
-
-    ghost can = { λ test. Unit {0} };
-
-    ghost gives = { λ test key value passes. passes ≡ true };
-
-    fn answer(&self, _key: &ChosenKey, _value: &u64) -> bool {
-        puts_everywhere(self.0, self.1);
-        true
-    }
-}
-
-// That test, as a query asks it.
-fn putting<'a, R: Wait>(rt: &'a R, map: &'a Map) -> StoredTest<ChosenKey, u64, Puts<'a, R>> {
-    Stored::new(Puts(rt, map))
-}
-
-type Putting<'a, R> = Query<ChosenKey, u64, Puts<'a, R>, Zero, Sum, Values, NoImages>;
-
-// How many pairs pass.
-fn counted<I>(answer: &Answer<ChosenKey, u64, I>) -> u64 {
-    match answer {
-        Answer::Count(count) => *count,
-        _ => 0,
-    }
-}
-
-// What a query counts in a map of two pairs, by the calling thread and by a crew.
-fn queried<R: AllocGlobal + Threads + Wait + Abort + Sync>(rt: &R) -> Result<(u64, u64), NoMemory> {
-    let map = two(rt);
-    let query: Putting<R> = Query::Count(putting(rt, &map));
-    let (alone, _) = map.query(rt, &query)?;
-    let map = two(rt);
-    let query: Putting<R> = Query::Count(putting(rt, &map));
-    let (together, _) = map.par_query(rt, &query, two_workers())?;
-    Ok((counted(&alone), counted(&together)))
-}
-
-#[test]
-fn what_a_query_asks_may_put(rt: HostRuntime) {
-    assert_is(&rt, queried(&rt), Ok((2, 2)));
-}
-
 // The value that a key has once the closure that makes it has put others.
 fn got_or_made<R: Wait>(rt: &R, map: &Map) -> Result<u64, PutError> {
     let found = map.get_or_else_update(rt, key(3, 7), || u64::from(puts_everywhere(rt, map)))?;
     Ok(*found)
+}
+
+// The same where the closure may fail.
+fn got_or_tried<R: Wait>(rt: &R, map: &Map) -> Result<Result<u64, ()>, PutError> {
+    let made = map.try_get_or_else_update(rt, key(3, 8), || {
+        Ok(u64::from(puts_everywhere(rt, map)))
+    })?;
+    Ok(made.map(|value| *value))
 }
 
 #[test]
@@ -183,4 +139,6 @@ fn what_makes_a_value_may_put(rt: HostRuntime) {
     let map = two(&rt);
     assert_is(&rt, got_or_made(&rt, &map), Ok(1));
     assert_is(&rt, map.len(&rt), 35);
+    assert_is(&rt, got_or_tried(&rt, &map), Ok(Ok(1)));
+    assert_is(&rt, map.len(&rt), 36);
 }

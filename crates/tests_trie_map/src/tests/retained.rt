@@ -4,7 +4,7 @@ use std::process::Abort;
 use std::sync::Wait;
 use std::thread;
 use std::thread::Threads;
-use trie_map::PutError;
+use trie_map::{NoMemory, PutError};
 
 // How many threads there are, and how many keys.
 const THREADS: usize = 4;
@@ -30,6 +30,29 @@ fn pairs_that_fail_are_removed(rt: HostRuntime) {
     assert_is(&rt, at_three(&rt, &map), [None, Some(6), None]);
     assert_is(&rt, map.retain(&rt, |key, _| key.id == 1), Ok(0));
     assert_is(&rt, map.len(&rt), 1);
+}
+
+// How many pairs are counted of a map of ten pairs with the value 0, where the test itself has removed the even keys and
+// put 1 under the odd ones by the time at which they would be removed.
+fn counted<R: AllocGlobal + Wait + Abort>(rt: &R, map: &Map) -> Result<u64, NoMemory> {
+    map.retain(rt, |key, value| {
+        if *value == 0 && key.id % 2 == 0 {
+            let _ = map.remove(rt, key);
+        } else if *value == 0 {
+            let _ = map.put(rt, *key, 1);
+        }
+        *value != 0
+    })
+}
+
+#[test]
+fn what_others_remove_is_not_counted(rt: HostRuntime) {
+    let map = empty(&rt);
+    for id in 0..10 {
+        put(&rt, &map, key(id, id), 0);
+    }
+    assert_is(&rt, counted(&rt, &map), Ok(0));
+    assert_is(&rt, map.len(&rt), 5);
 }
 
 // Puts the value under each key whose number leaves this rest when it is divided by the number of threads.

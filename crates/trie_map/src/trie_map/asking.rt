@@ -1,9 +1,9 @@
 //! Questions about a map that threads share.
 ghost use Rattle.std.specs.Prelude.{◌≡◌, ◌≤◌, Bool, IfOk, IfSome, length, option_map};
 ghost use Rattle.std.specs.List.{list_all, list_any};
-ghost use Rattle.bulk_ops.specs.Answers.{items_of, passes, passing};
+ghost use Rattle.bulk_work.specs.Answers.{items_of, passes, passing};
 ghost use Rattle.bulk_ops.specs.Meanings.{MayAnswer, Means};
-ghost use Rattle.bulk_ops.specs.Parts.{pair_of};
+ghost use Rattle.bulk_work.specs.Pairs.{pair_of};
 ghost use Rattle.combiner.specs.Monoids.{folded};
 ghost use Rattle.stripes.specs.Rules.{AllKeep};
 ghost use Rattle.map_view.specs.Questions.{IsAnsweredOfKept, IsFound, changed};
@@ -11,7 +11,7 @@ ghost use Rattle.versions.specs.Map.{Map};
 ghost use Rattle.versions.specs.declared.version.TheConstants.{MOST_PAIRS};
 
 use super::TrieMap;
-use bulk_ops::{Answer, Asks, Pair};
+use bulk_work::{Answer, Asks, Pair};
 use combiner::Monoid;
 use hash_path::PathKey;
 use std::sync::Wait;
@@ -24,6 +24,8 @@ use versions::Version;
 /// Each question takes a view and works it, so that nobody waits for the work.
 impl<K: PathKey + Drop, V: Drop, P: Keeps<K, V>> TrieMap<K, V, P> {
     /// How many pairs pass the test, of the map as it stands at one moment of the call: a view is taken and walked.
+    ///
+    /// Cost: O(n), under all locks for the view alone. Refused: `NoMemory`, if memory runs out for the view.
     pub fn count<R: Wait, F: Fn(&K, &V) -> bool>(&self, rt: &R, test: F) -> Result<u64, NoMemory>
         requires callable { F.IsAlwaysCallable test }
         ensures { IfOk result (λ count. (m : Map K V) × AllKeep K.cmp P.holds m × ((p : K → V → Bool) → Means (MayAnswer F.Fn test) p → count ≡ length (passing p m)) × (count ≤ length m)) }
@@ -32,6 +34,8 @@ impl<K: PathKey + Drop, V: Drop, P: Keeps<K, V>> TrieMap<K, V, P> {
     }
 
     /// Whether some pair passes the test, of the map as it stands at one moment of the call.
+    ///
+    /// Cost: O(n), up to the first pair that passes; under all locks for the view alone. Refused: as `count`.
     pub fn exists<R: Wait, F: Fn(&K, &V) -> bool>(&self, rt: &R, test: F) -> Result<bool, NoMemory>
         requires callable { F.IsAlwaysCallable test }
         ensures { IfOk result (λ some. (m : Map K V) × AllKeep K.cmp P.holds m × ((p : K → V → Bool) → Means (MayAnswer F.Fn test) p → some ≡ list_any (passes p) m)) }
@@ -40,6 +44,8 @@ impl<K: PathKey + Drop, V: Drop, P: Keeps<K, V>> TrieMap<K, V, P> {
     }
 
     /// Whether every pair passes the test, of the map as it stands at one moment of the call.
+    ///
+    /// Cost: O(n), up to the first pair that fails; under all locks for the view alone. Refused: as `count`.
     pub fn for_all<R: Wait, F: Fn(&K, &V) -> bool>(&self, rt: &R, test: F) -> Result<bool, NoMemory>
         requires callable { F.IsAlwaysCallable test }
         ensures { IfOk result (λ all. (m : Map K V) × AllKeep K.cmp P.holds m × ((p : K → V → Bool) → Means (MayAnswer F.Fn test) p → all ≡ list_all (passes p) m)) }
@@ -49,6 +55,9 @@ impl<K: PathKey + Drop, V: Drop, P: Keeps<K, V>> TrieMap<K, V, P> {
 
     /// A pair that passes the test, if there is one, of the map as it stands at one moment of the call: the first on a
     /// walk of a view. It keeps the rule.
+    ///
+    /// Cost: O(n), up to that pair; under all locks for the view alone. Refused: `NoMemory`, if memory runs out for the
+    /// view, or a handle on the pair cannot be cloned.
     pub fn find<R: Wait, F: Fn(&K, &V) -> bool>(
         &self,
         rt: &R,
@@ -62,6 +71,8 @@ impl<K: PathKey + Drop, V: Drop, P: Keeps<K, V>> TrieMap<K, V, P> {
     }
 
     /// The items of all pairs combined by the monoid, of the map as it stands at one moment of the call.
+    ///
+    /// Cost: O(n), under all locks for the view alone. Refused: as `count`.
     pub fn fold<R: Wait, M: Monoid, G: Fn(&K, &V) -> M::Item>(
         &self,
         rt: &R,
@@ -74,8 +85,11 @@ impl<K: PathKey + Drop, V: Drop, P: Keeps<K, V>> TrieMap<K, V, P> {
         Ok(self.view(rt)?.fold(monoid, item))
     }
 
-    /// The map of the pairs that pass the test, of the map as it stands at one moment of the call. It has one owner, and
-    /// shares its keys and values with this map.
+    /// The map of the pairs that pass the test, of the map as it stands at one moment of the call. It has one owner,
+    /// and shares its keys and values with this map.
+    ///
+    /// Cost: O(n), and memory for the nodes of these pairs; under all locks for the view alone. Refused: `NoMemory`, if
+    /// memory runs out.
     pub fn filter<R: Wait, F: Fn(&K, &V) -> bool>(
         &self,
         rt: &R,
@@ -90,6 +104,9 @@ impl<K: PathKey + Drop, V: Drop, P: Keeps<K, V>> TrieMap<K, V, P> {
 
     /// The map of the same keys, each with what the closure makes of its pair, of the map as it stands at one moment of
     /// the call. It has one owner, and shares its keys with this map.
+    ///
+    /// Cost: O(n), and memory for the nodes and a value for each pair; under all locks for the view alone. Refused:
+    /// `NoMemory`, if memory runs out.
     pub fn map_values<R: Wait, W: Drop, G: Fn(&K, &V) -> W>(
         &self,
         rt: &R,
@@ -102,9 +119,12 @@ impl<K: PathKey + Drop, V: Drop, P: Keeps<K, V>> TrieMap<K, V, P> {
         self.view(rt)?.map_values(change)
     }
 
-    /// What the query is answered for the map as it stands at one moment of the call, and the map that it makes where
-    /// it has a target. It is worked over a view, so that nobody waits for it. The map that it is answered for is one
+    /// The answer of the query for the map as it stands at one moment of the call, and the map that it makes where it
+    /// has a target. It is worked over a view, so that nobody waits for it. The map that it is answered for is one
     /// whose pairs all keep the rule.
+    ///
+    /// Cost: O(n), or up to where its answer is settled; under all locks for the view alone. Refused: `NoMemory`, if
+    /// memory runs out.
     pub fn query<R: Wait, Q: Asks<K, V>>(
         &self,
         rt: &R,
@@ -118,11 +138,14 @@ impl<K: PathKey + Drop, V: Drop, P: Keeps<K, V>> TrieMap<K, V, P> {
 }
 
 impl<K: PathKey + Drop + Send + Sync, V: Drop + Send + Sync, P: Keeps<K, V>> TrieMap<K, V, P> {
-    /// What `query` answers, of the map as it stands at one moment of the call, worked by a crew of threads over a view.
+    /// What `query` returns, of the map as it stands at one moment of the call, worked by a crew of threads over a
+    /// view.
     ///
-    /// The stripes are held for the view alone, as by `view`: while the crew works no lock is held, and writers go on.
-    /// What runs where, and what is refused, is as for [`View::par_query`](map_view::View::par_query): a map with no more
-    /// pairs than the crew's grain is worked by the caller alone.
+    /// What runs where is as for [`View::par_query`](map_view::View::par_query): a map with no more pairs than the
+    /// crew's grain is worked by the caller alone.
+    ///
+    /// Cost: O(n), shared out; under all locks for the view alone, and none while the crew works. Refused: `NoMemory`,
+    /// if memory runs out.
     pub fn par_query<R, Q>(
         &self,
         rt: &R,

@@ -8,29 +8,34 @@ use std::sync::Wait;
 use stripes::Keeps;
 
 impl<K: PathKey + Drop, V: Drop, P: Keeps<K, V>> TrieMap<K, V, P> {
-    /// How many pairs there are at one moment of the call, when all stripes are held: each is taken, in rising order of
-    /// digits, once those before it are, as `view` takes them, so all writers wait. It takes no memory.
+    /// How many pairs there are at one moment of the call. Each stripe is taken once those before it are held, in
+    /// rising order of digits, as `view` takes them.
+    ///
+    /// Cost: O(1), under all locks. Refused: never.
     pub fn len<R: Wait>(&self, rt: &R) -> u64
         ensures { result ≤ MOST_PAIRS }
     {
         self.row.len_from(rt, 0)
     }
 
-    /// Whether there is no pair at one moment of the call, when all stripes are held as for `len`. It takes no memory.
+    /// Whether there is no pair at one moment of the call.
+    ///
+    /// Cost: O(1), under all locks, as `len`. Refused: never.
     pub fn is_empty<R: Wait>(&self, rt: &R) -> bool {
         self.len(rt) == 0
     }
 
-    /// How many pairs there are, counted stripe by stripe: one lock is held at a time, so writers of other stripes go
-    /// on. Where others write meanwhile, there may have been no moment at which there were that many. It takes no
-    /// memory.
+    /// How many pairs there are, counted stripe by stripe: writers of other stripes go on. Where others write
+    /// meanwhile, there may have been no moment at which there were that many.
+    ///
+    /// Cost: O(1), one lock at a time, 32 in all. Refused: never.
     pub fn approx_len<R: Wait>(&self, rt: &R) -> u64
         ensures { result ≤ MOST_PAIRS }
     {
         self.row.approx_len(rt)
     }
 
-    // What `approx_len` answers where no stripe is locked. It never waits.
+    // What `approx_len` returns where no stripe is locked. It never waits.
     pub(crate) fn try_len(&self) -> Option<u64> {
         self.row.try_len()
     }

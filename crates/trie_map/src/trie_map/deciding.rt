@@ -12,16 +12,18 @@ use trie_node::NoMemory;
 
 impl<K: PathKey + Drop, V: Drop, P: Keeps<K, V>> TrieMap<K, V, P> {
     /// Calls `change` at the value that the key has, or at none, and stores what it makes of it, as one step: no other
-    /// call writes the key between the two. Where it makes none, the key is removed, or stays absent. The answer is the
+    /// call writes the key between the two. Where it makes none, the key is removed, or stays absent. It returns the
     /// value before, at which `change` was called, or none.
     ///
-    /// So a counter for each key loses no call:
-    /// `counts.update(rt, word, |old| Some(old.map_or(1, |n| n.saturating_add(1))))?`.
+    /// So a counter for each key loses no call: `counts.update(rt, word, |old| Some(old.map_or(1, |n|
+    /// n.saturating_add(1))))?`.
     ///
-    /// `change` runs once, while the stripe of the key is locked: calls of keys of that stripe wait for it, and it must
-    /// not call the map, since the thread would wait for itself. It may rest on the rule for the value that it is
-    /// given, and what it makes has to keep it. It is refused as `put` is; `change` has then run, or not, and the map is
-    /// as before. It is refused as `Full` only where `change` was called at none, and made a value.
+    /// `change` runs once, under the lock: calls of keys of that stripe wait for it, and it must not call the map,
+    /// since the thread would wait for itself. It may rest on the rule for the value that it is given, and what it
+    /// makes has to keep it. What it makes is dropped under the lock where it cannot be stored.
+    ///
+    /// Cost: O(log n), under the lock of the key's stripe. Refused: as `put`; `change` has then run, or not, and the
+    /// map is as before. `Full` only where `change` was called at none, and made a value.
     pub fn update<R: Wait, F: FnOnce(Option<&V>) -> Option<V>>(
         &self,
         rt: &R,
@@ -43,11 +45,13 @@ impl<K: PathKey + Drop, V: Drop, P: Keeps<K, V>> TrieMap<K, V, P> {
         }
     }
 
-    /// What `update` does, where `change` answers something beside what it makes: that is handed out. The value before
-    /// is dropped when the lock is free again.
+    /// What `update` does, where `change` returns something beside what it makes: that is returned. The value before is
+    /// dropped when the lock is free again.
     ///
     /// So a number is drawn from a counter: `counts.update_with(rt, word, |old| { let n = old.map_or(1, |n|
     /// n.saturating_add(1)); (Some(n), n) })?`.
+    ///
+    /// Cost: O(log n), under the lock of the key's stripe, where `change` runs. Refused: as `update`.
     pub fn update_with<R: Wait, T: Drop, F: FnOnce(Option<&V>) -> (Option<V>, T)>(
         &self,
         rt: &R,
@@ -70,9 +74,10 @@ impl<K: PathKey + Drop, V: Drop, P: Keeps<K, V>> TrieMap<K, V, P> {
         }
     }
 
-    /// What `update` does, where `change` may fail: the map is then as before, and the error of `change` is answered.
+    /// What `update` does, where `change` may fail: the map is then as before, and the error of `change` is returned.
     ///
-    /// It is refused as `update` is: that is the outer error, and the inner one is that of `change`.
+    /// Cost: O(log n), under the lock of the key's stripe, where `change` runs. Refused: as `update`, which is the
+    /// outer error; the inner one is that of `change`.
     pub fn try_update<R: Wait, E, F: FnOnce(Option<&V>) -> Result<Option<V>, E>>(
         &self,
         rt: &R,
@@ -96,11 +101,11 @@ impl<K: PathKey + Drop, V: Drop, P: Keeps<K, V>> TrieMap<K, V, P> {
         }
     }
 
-    /// Removes the key where it has a value of which the test holds, as one step, and answers the value that was
+    /// Removes the key where it has a value of which the test holds, as one step, and returns the value that was
     /// removed, or none.
     ///
-    /// The test runs at most once, while the stripe of the key is locked, as `change` does in `update`. The only error
-    /// is `NoMemory`, if memory runs out; the test has then run, and the map is as before.
+    /// Cost: O(log n), under the lock of the key's stripe, where the test runs at most once, as `change` does in
+    /// `update`. Refused: `NoMemory`, if memory runs out; the test has then run, and the map is as before.
     pub fn remove_where<R: Wait, Q: Sought<K>, F: FnOnce(&V) -> bool>(
         &self,
         rt: &R,

@@ -12,8 +12,11 @@ use trie_node::NoMemory;
 
 impl<K: PathKey + Drop, V: Drop, P: Keeps<K, V>> TrieMap<K, V, P> {
     /// The values of keys, in the order of the keys, of the map as it stands at one moment of the call: for each its
-    /// value, or none. A view is taken, and its `get_many` answers: nobody waits for the look-ups. So it is for more
+    /// value, or none. A view is taken and asked by its `get_many`, so nobody waits for the look-ups. So it is for more
     /// than a few keys, or where their values have to be of one moment; who has a view already asks that.
+    ///
+    /// Cost: O(k log n) for k keys, under all locks for the view alone, and memory for the list. Refused: `NoMemory`,
+    /// if memory runs out, or a handle on a value cannot be cloned.
     pub fn get_many<R: Wait, Q: Sought<K>>(
         &self,
         rt: &R,

@@ -7,11 +7,13 @@ use std::sync::Wait;
 use stripes::Keeps;
 
 impl<K: PathKey + Drop, V: Drop, P: Keeps<K, V>> TrieMap<K, V, P> {
-    /// What `look` answers of the value of the key, or of none: a value is read where it is, and no handle on it is
-    /// cloned. So it costs less than `get`, and is never refused.
+    /// What `look` returns of the value of the key, or of none: a value is read where it is, and no handle on it is
+    /// cloned. So it costs less than `get`.
     ///
-    /// `look` runs once, while the stripe of the key is locked: calls of keys of that stripe wait for it, and it must
-    /// not call the map, since the thread would wait for itself. It may rest on the rule for the value that it is given.
+    /// `look` runs once, under the lock: calls of keys of that stripe wait for it, and it must not call the map, since
+    /// the thread would wait for itself. It may rest on the rule for the value that it is given.
+    ///
+    /// Cost: O(log n), under the lock of the key's stripe. Refused: never.
     pub fn read<R: Wait, T, Q: Sought<K>, F: FnOnce(Option<&V>) -> T>(
         &self,
         rt: &R,
@@ -28,8 +30,9 @@ impl<K: PathKey + Drop, V: Drop, P: Keeps<K, V>> TrieMap<K, V, P> {
 }
 
 impl<K: PathKey + Drop, V: Copy + Drop, P: Keeps<K, V>> TrieMap<K, V, P> {
-    /// A copy of the value of the key, or none. No handle on it is cloned, so it costs less than `get`, and is never
-    /// refused.
+    /// A copy of the value of the key, or none. No handle on it is cloned, so it costs less than `get`.
+    ///
+    /// Cost: O(log n), under the lock of the key's stripe. Refused: never.
     pub fn get_copied<R: Wait, Q: Sought<K>>(&self, rt: &R, key: Q) -> Option<V>
         ensures kept { IfSome result (λ value. P.holds (Q.key_of key) value) }
     {

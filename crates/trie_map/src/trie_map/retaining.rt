@@ -1,5 +1,5 @@
 //! The removal of the pairs that fail a test.
-ghost use Rattle.std.specs.Prelude.{◌≡◌, ◌≤◌, All, Bool, IfOk, IfSome, IsTrue, OnErr, Some, false, if◌then◌else◌, is_some, length, true};
+ghost use Rattle.std.specs.Prelude.{◌≡◌, ◌≢◌, ◌≤◌, All, AllPairs, Bool, IfOk, IfSome, IsTrue, OnErr, Some, false, if◌then◌else◌, is_some, length, true};
 ghost use Rattle.bulk_ops.specs.Meanings.{MayAnswer, Means};
 ghost use Rattle.stripes.specs.Rules.{AllKeep, first_digit as digit_of};
 ghost use Rattle.map_view.specs.Questions.{failing};
@@ -15,27 +15,29 @@ use stripes::{Keeps, Stripe};
 use trie_node::NoMemory;
 
 impl<K: PathKey + Drop, V: Drop, P: Keeps<K, V>> TrieMap<K, V, P> {
-    /// Removes the pairs that fail the test, and answers how many it removed.
+    /// Removes the pairs that fail the test, and returns how many it removed.
     ///
     /// A view is taken and walked, so that nobody waits for the walk. Where a pair of the view fails the test, the
     /// stripe of its key is locked, and the pair that the key has by then is removed if that fails too. So each pair
     /// that is removed fails the test at that moment, and one that was put after the moment of the view may stay,
     /// though it fails.
     ///
-    /// The test runs on the walk with no lock held, and once more before a removal, while the stripe of the key is
-    /// locked: there it must not call the map. If memory runs out, the call fails, and what it has removed by then is
-    /// gone.
+    /// The test runs on the walk with no lock held, and once more before a removal, under the lock of the key's stripe:
+    /// there it must not call the map.
+    ///
+    /// Cost: O(n), and O(log n) for each pair that fails, under all locks for the view and one lock for each of these.
+    /// Refused: `NoMemory`, if memory runs out; what is removed by then is gone.
     pub fn retain<R: Wait, F: Fn(&K, &V) -> bool>(&self, rt: &R, test: F) -> Result<u64, NoMemory>
         requires callable { F.IsAlwaysCallable test }
         ensures few { IfOk result (λ removed. (m : Map K V) × AllKeep K.cmp P.holds m × ((p : K → V → Bool) → Means (MayAnswer F.Fn test) p → removed ≤ length (failing p m)) × (removed ≤ length m)) }
-        ensures failed { IfOk result (λ removed. (gone : Map K V) × (length gone ≡ removed) × All (λ pair. P.holds pair.0 pair.1 × MayAnswer F.Fn test pair.0 pair.1 false) gone) }
+        ensures failed { IfOk result (λ removed. (gone : Map K V) × (length gone ≡ removed) × AllPairs (λ x y. x.0 ≢ y.0) gone × All (λ pair. P.holds pair.0 pair.1 × MayAnswer F.Fn test pair.0 pair.1 false) gone) }
     {
         let view = self.view(rt)?;
         self.remove_all_failing(rt, &view, &test)
     }
 
-    // Removes the pairs of the view that fail the test, where those that their keys have now fail too. The answer is how
-    // many they are.
+    // Removes the pairs of the view that fail the test, where those that their keys have now fail too. Returns how many
+    // they are.
     fn remove_all_failing<R: Wait, F: Fn(&K, &V) -> bool>(
         &self,
         rt: &R,
@@ -45,7 +47,7 @@ impl<K: PathKey + Drop, V: Drop, P: Keeps<K, V>> TrieMap<K, V, P> {
         requires callable { F.IsAlwaysCallable test.now }
         ensures few { IfOk result (λ removed. removed ≤ length view.now) }
         ensures means { IfOk result (λ removed. (p : K → V → Bool) → Means (MayAnswer F.Fn test.now) p → removed ≤ length (failing p view.now)) }
-        ensures failed { IfOk result (λ removed. (gone : Map K V) × (length gone ≡ removed) × All (λ pair. P.holds pair.0 pair.1 × MayAnswer F.Fn test.now pair.0 pair.1 false) gone) }
+        ensures failed { IfOk result (λ removed. (gone : Map K V) × (length gone ≡ removed) × AllPairs (λ x y. x.0 ≢ y.0) gone × All (λ pair. P.holds pair.0 pair.1 × MayAnswer F.Fn test.now pair.0 pair.1 false) gone) }
     {
         view.len();
         let mut removed = 0u64;
@@ -56,8 +58,8 @@ impl<K: PathKey + Drop, V: Drop, P: Keeps<K, V>> TrieMap<K, V, P> {
         Ok(removed)
     }
 
-    // Removes the key where the value that was seen fails the test and so does the one that it has now. The answer is
-    // whether it did.
+    // Removes the key where the value that was seen fails the test and so does the one that it has now. Returns whether
+    // it did.
     fn remove_if_both_fail<R: Wait, F: Fn(&K, &V) -> bool>(
         &self,
         rt: &R,
@@ -75,7 +77,7 @@ impl<K: PathKey + Drop, V: Drop, P: Keeps<K, V>> TrieMap<K, V, P> {
         Ok(self.remove_failing(rt, key, test)?.is_some())
     }
 
-    // Removes the key where its value fails the test, and answers what was removed, which is dropped with no lock held.
+    // Removes the key where its value fails the test, and returns what was removed, which is dropped with no lock held.
     fn remove_failing<R: Wait, F: Fn(&K, &V) -> bool>(
         &self,
         rt: &R,
@@ -91,7 +93,7 @@ impl<K: PathKey + Drop, V: Drop, P: Keeps<K, V>> TrieMap<K, V, P> {
     }
 }
 
-// Removes the key from its stripe where its value fails the test, and answers the value that was removed, or none. The
+// Removes the key from its stripe where its value fails the test, and returns the value that was removed, or none. The
 // only error is `NoMemory`, if memory runs out. The stripe is then as before.
 fn remove_failing<K: PathKey + Drop, V: Drop, P: Keeps<K, V>, F: Fn(&K, &V) -> bool>(
     alloc: Global,

@@ -17,6 +17,8 @@ use trie_node::{Always, Change, Condition, NoMemory, root_is_map, writes_keep_st
 
 impl<K: PathKey + Drop, V: Drop> Version<K, V> {
     /// `get`, where the caller has the key's path word already: the key is not hashed again.
+    ///
+    /// Cost: O(log n), no lock. Refused: never.
     pub fn get_along<Q: Sought<K>>(&self, key: Q, path: Path) -> Option<&Arc<V>>
         requires { path.0 ≡ K.path_of (Q.key_of key) }
         ensures { option_map (λ value. value.now.value) result ≡ value_at K.cmp self.now.entries (Q.key_of key) }
@@ -25,6 +27,8 @@ impl<K: PathKey + Drop, V: Drop> Version<K, V> {
     }
 
     /// `put_where`, where the caller has the key's path word already: the key is not hashed again.
+    ///
+    /// Cost: O(log n), no lock. Refused: as `put_where`.
     pub fn put_where_along<C: Condition<V>>(
         &mut self,
         alloc: Global,
@@ -63,6 +67,8 @@ impl<K: PathKey + Drop, V: Drop> Version<K, V> {
     }
 
     /// `remove`, where the caller has the key's path word already: the key is not hashed again.
+    ///
+    /// Cost: O(log n), no lock. Refused: `NoMemory`, if memory runs out.
     pub fn remove_along<Q: Sought<K>>(
         &mut self,
         alloc: Global,
@@ -81,6 +87,8 @@ impl<K: PathKey + Drop, V: Drop> Version<K, V> {
     }
 
     /// `remove_where`, where the caller has the key's path word already: the key is not hashed again.
+    ///
+    /// Cost: O(log n), no lock. Refused: `NoMemory`, if memory runs out.
     pub fn remove_where_along<Q: Sought<K>, C: Condition<V>>(
         &mut self,
         alloc: Global,

@@ -22,14 +22,14 @@ loop-key-init c =
 pub put_if_read-requires : goal.put_if_read-requires
 put_if_read-requires c =
     let is : c.in_ok-image.image ≡ image_of c.args.mapping.now c.in-Some.key.now.value c.in-Some.value.now.value = search rules in
-    let walked = rw c.in-Some.ensures.steps at c.loop-key.invariant.walked in
+    let walked = rw c.in-Some.ensures.steps.steps at c.loop-key.invariant.walked in
     image_there (image_of c.args.mapping.now) c.args.view.now c.args.read.now.entries c.next.new.self.rest c.loop-key.map.entries (c.in-Some.key.now.value, c.in-Some.value.now.value) c.in_ok-image.image walked is
 
 pub loop-key-preserved : goal.loop-key-preserved
 loop-key-preserved c =
     let is : c.in_ok-image.image ≡ image_of c.args.mapping.now c.in-Some.key.now.value c.in-Some.value.now.value = search rules in
     let put : IsPutIfRead c.args.read.now.entries c.in_ok-image.image c.loop-key.map.entries c.put_if_read.new.map.entries = search rules in
-    let walked = rw c.in-Some.ensures.steps at c.loop-key.invariant.walked in
+    let walked = rw c.in-Some.ensures.steps.steps at c.loop-key.invariant.walked in
     record {
       next = tt;
       finite = tt;

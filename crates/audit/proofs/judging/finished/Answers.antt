@@ -1,8 +1,8 @@
 use Rattle.std.proofs.Common.{Bool, refl, sym, subst}
 use Rattle.std.specs.Prelude.{MatchBool}
-use Rattle.bulk_ops.specs.Answers as plain
+use Rattle.bulk_work.specs.Answers as plain
 use Rattle.bulk_ops.specs.Queries.{answer_of}
-use Rattle.bulk_ops.specs.Summaries.{summary_of}
+use Rattle.bulk_work.specs.Summaries.{summary_of}
 use Rattle.handles.specs.Machine.{finish}
 use Rattle.handles.specs.Views.{finished_outcome}
 use Rattle.audit.specs.Answers.{Answers, NoneAnswers}

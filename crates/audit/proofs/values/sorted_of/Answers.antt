@@ -21,5 +21,5 @@ loop-key-preserved c =
     record {
       next = tt;
       finite = tt;
-      listed = rw put (rw c.in-Some.ensures.steps at c.loop-key.invariant.listed);
+      listed = rw put (rw c.in-Some.ensures.steps.steps at c.loop-key.invariant.listed);
     }

@@ -1,5 +1,5 @@
 use Rattle.std.proofs.Common.{rules, ◌≡◌, IfOk, subst, sym}
-use Rattle.bulk_ops.specs.Summaries.{summary_of}
+use Rattle.bulk_work.specs.Summaries.{summary_of}
 use Rattle.handles.specs.Machine.{freeze}
 use Rattle.questions.specs.Program.{summary_reply}
 use Rattle.batch_cli.specs.Filing.{FilesService}

@@ -1,5 +1,5 @@
 use Rattle.std.proofs.lemmas.List.Sorted.{IsPermutation-map}
-use Rattle.bulk_ops.specs.Answers.{items_of}
+use Rattle.bulk_work.specs.Answers.{items_of}
 use Rattle.bulk_ops.proofs.Permutations.{folded-permutation}
 use Rattle.bulk_ops.proofs.laws.law_of_folds.Goals as goal
 

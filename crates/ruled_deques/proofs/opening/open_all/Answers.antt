@@ -14,5 +14,5 @@ loop-preserved g c =
     let e : c.push-in-loop.new.self.items ≡ xs ++ y ∷ [] = c.in_ok-push-2.ensures.items in
     let later : 0 < length xs = search rules in (
       omega (arith, ap length e, length-append xs (y ∷ []), inv.0),
-      push_at (λ i w. IsFresh w × ((worker_view w).pushed ≡ given c.args.first i)) xs _ y e (c.in_ok-owner.ensures.0, c.in_ok-owner.ensures.1 ∙ given_later c.args.first (length xs) later) inv.1,
+      push_at (λ i w. IsFresh w × ((worker_view w).pushed ≡ given c.args.first i)) xs _ y e (c.in_ok-owner.ensures.fresh.0, c.in_ok-owner.ensures.fresh.1 ∙ given_later c.args.first (length xs) later) inv.1,
     )

@@ -1,4 +1,4 @@
-use Rattle.std.proofs.Common.{[], inl, ◌∙◌, rules}
+use Rattle.std.proofs.Common.{[], inl, sym, subst, ◌∙◌, rules}
 use Rattle.iter.specs.Intervals.{Tile, whole}
 use Rattle.task_pool.proofs.Reporting.{counted, listed, made}
 use Rattle.task_pool.proofs.calls.run_sequential.Goals as goal
@@ -7,8 +7,10 @@ pub returns : goal.returns
 returns g c =
     let all = c.in_ok-all.all in
     let tile : Tile all whole = search rules in
-    let e = c.in_ok-push.ensures.items in
-    made g.K.PathKey.path_of (g.B.Bulk.answers c.args.bulk.now) (g.B.Bulk.decides c.args.bulk.now) g.C.OfView.map g.C.OfView.grain c.args.workers c.whole_part-part.result _ all
-    (listed (λ l. l.items) c.in_ok-lists.lists.items c.push.new.self.items c.in_ok-list.list [] e c.in_ok-lists.ensures.none ∙ c.in_ok-list.ensures)
-    (counted (λ l. l.items) c.in_ok-lists.lists.items c.push.new.self.items c.in_ok-list.list c.args.workers e c.in_ok-lists.ensures.len)
-    (c.whole_part-part.ensures c.args.bulk.now c.requires.bulk) c.law.ensures.apart c.law.ensures.uncut (inl tile)
+    let lists = c.in-Ok-empty_lists.lists.items in
+    let list = c.in-Ok-list.list in
+    let report = c.in_ok-report in
+    made g.K.PathKey.path_of (g.B.Bulk.answers c.args.bulk.now) (g.B.Bulk.decides c.args.bulk.now) g.C.OfView.map g.C.OfView.grain c.args.workers report.report.part _ all
+    (listed (λ l. l.items) lists report.report.lists.items list [] report.ensures.lists c.in-Ok-empty_lists.ensures.none ∙ c.in-Ok-list.ensures)
+    (counted (λ l. l.items) lists report.report.lists.items list c.args.workers report.ensures.lists c.in-Ok-empty_lists.ensures.len)
+    (subst (g.B.Bulk.answers c.args.bulk.now g.C.OfView.map) (sym report.ensures.part) (c.whole_part-part.ensures c.args.bulk.now c.requires.bulk)) c.law.ensures.apart c.law.ensures.uncut (inl tile)

@@ -7,8 +7,8 @@ use Rattle.task_pool.proofs.gather.part_all.Given as goal
 
 abbrev pub invariant-loop-one : goal.invariant-loop-one
 invariant-loop-one g l =
-    (length l.all.items + length (into_iter_items l.one-iterator) ≡ length l.fn.done.items)
-    × ((i : ℕ) (d : _) → i < length (into_iter_items l.one-iterator) → IfOk (slice_index_or (into_iter_items l.one-iterator) i d) (λ w. w.state.ends.place ≡ length l.all.items + i))
-    × ((i : ℕ) (d : _) → i < length l.all.items → (slice_index_or l.all.items i d).place ≡ i)
-    × ((p : ℕ) → sum_by (λ e. cover (given whole e.place) p) l.all.items + sum_by (λ e. cover e.taken p) l.all.items ≡ sum_by (λ t. cover t p) l.partials.items + sum_by (λ e. cover e.pushed p) l.all.items + cover l.leftover.items p)
-    × (length l.partials.items ≡ length l.all.items)
+    (length l.parted.ends.items + length (into_iter_items l.one-iterator) ≡ length l.fn.done.items)
+    × ((i : ℕ) (d : _) → i < length (into_iter_items l.one-iterator) → IfOk (slice_index_or (into_iter_items l.one-iterator) i d) (λ w. w.state.ends.place ≡ length l.parted.ends.items + i))
+    × ((i : ℕ) (d : _) → i < length l.parted.ends.items → (slice_index_or l.parted.ends.items i d).place ≡ i)
+    × ((p : ℕ) → sum_by (λ e. cover (given whole e.place) p) l.parted.ends.items + sum_by (λ e. cover e.taken p) l.parted.ends.items ≡ sum_by (λ t. cover t p) l.parted.partials.items + sum_by (λ e. cover e.pushed p) l.parted.ends.items + cover l.parted.leftover.items p)
+    × (length l.parted.partials.items ≡ length l.parted.ends.items)

@@ -42,8 +42,8 @@ work_alone-requires g t c κs within =
     let short = h.first in
     (omega (arith, short, c.decreases), (search rules, (search rules, (search rules, (search rules, (search rules, (search rules, (c.requires.grain, apart_lower c.args.partial task lower c.in-Some.upper h c.requires.apart))))))))
 
-pub work_alone-requires-in-Some : goal.work_alone-requires-in-Some
-work_alone-requires-in-Some g t c κs within =
+pub work_alone-requires-in-Ok-work_alone : goal.work_alone-requires-in-Ok-work_alone
+work_alone-requires-in-Ok-work_alone g t c κs within =
     let path = g.K.PathKey.path_of in
     let m = g.C.OfView.map in
     let grain = g.C.OfView.grain in
@@ -51,14 +51,14 @@ work_alone-requires-in-Some g t c κs within =
     let lower = c.in-Ok.lower in
     let h : Halved task lower c.in-Some.upper = halved path c.law_of_cuts.ensures.divide m grain task lower c.in-Some.upper c.in-Ok.rest c.in-Some.is c.in-Ok.ensures in
     let short = h.second in
-    (omega (arith, short, c.decreases), (search rules, (search rules, (search rules, (search rules, (search rules, (search rules, (c.requires.grain, apart_upper c.args.partial c.in_ok-partial-in-Some.partial task lower c.in-Some.upper h c.requires.apart c.in_ok-partial-in-Some.ensures))))))))
+    (omega (arith, short, c.decreases), (search rules, (search rules, (search rules, (search rules, (search rules, (search rules, (c.requires.grain, apart_upper c.args.partial c.in-Ok-work_alone.partial task lower c.in-Some.upper h c.requires.apart c.in-Ok-work_alone.ensures))))))))
 
-pub returns : goal.returns
-returns g t c =
+pub returns-in-Ok-work_alone : goal.returns-in-Ok-work_alone
+returns-in-Ok-work_alone g t c =
     let path = g.K.PathKey.path_of in
     let m = g.C.OfView.map in
     let grain = g.C.OfView.grain in
     let task = c.args.task in
     let lower = c.in-Ok.lower in
     let h : Halved task lower c.in-Some.upper = halved path c.law_of_cuts.ensures.divide m grain task lower c.in-Some.upper c.in-Ok.rest c.in-Some.is c.in-Ok.ensures in
-    IfOk-weaker c.work_alone-in-Some.result _ _ (λ all rest. both_halves c.args.partial c.in_ok-partial-in-Some.partial all task lower c.in-Some.upper h c.in_ok-partial-in-Some.ensures rest) c.work_alone-in-Some.ensures
+    IfOk-weaker c.work_alone-in-Ok-work_alone.result _ _ (λ all rest. both_halves c.args.partial c.in-Ok-work_alone.partial all task lower c.in-Some.upper h c.in-Ok-work_alone.ensures rest) c.work_alone-in-Ok-work_alone.ensures

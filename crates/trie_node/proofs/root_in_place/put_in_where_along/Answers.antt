@@ -1,6 +1,6 @@
 use Rattle.std.proofs.Common.{sym, ap, ◌∙◌, arith}
 use Rattle.std.proofs.lemmas.Result.{on_err_weaker}
-use Rattle.trie_node.specs.PutInPlace.{is_refusable}
+use Rattle.trie_puts.specs.PutInPlace.{is_refusable}
 use Rattle.trie_shape.specs.View.{tree}
 use Rattle.trie_shape.proofs.Roots.{find_entries, root_is_trie, length_map_of}
 use Rattle.trie_copy.proofs.RootWrites.{write_puts}

@@ -1,6 +1,6 @@
 use Rattle.std.proofs.Common.{◌&&◌, is_some, sym, ap, ◌∙◌, subst}
 use Rattle.trie_shape.specs.View.{tree}
-use Rattle.trie_node.specs.RemovalInPlace.{TakesOut}
+use Rattle.trie_removals.specs.RemovalInPlace.{TakesOut}
 use Rattle.trie_shape.proofs.Roots.{find_entries, root_is_trie}
 use Rattle.trie_copy.proofs.RootWrites.{write_removes}
 use Rattle.trie_copy.proofs.Cases.{at_err}

@@ -4,4 +4,4 @@ use Rattle.bulk_ops.proofs.working.QueryBulk.one.Goals as goal
 
 pub returns : goal.returns
 returns g c =
-    c.in_ok-add.ensures.added [] c.in_ok-part.ensures (apart_from_none g.K.Ord.cmp (c.args.key.now.value, c.args.value.now.value))
+    c.in-Ok.ensures.added [] c.in_ok-part.ensures (apart_from_none g.K.Ord.cmp (c.args.key.now.value, c.args.value.now.value))

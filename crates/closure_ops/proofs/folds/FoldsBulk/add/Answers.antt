@@ -8,4 +8,4 @@ returns-clause-added g c =
     let laws = g.met.M.Monoid in
     one_more (g.M.Monoid.combine monoid) (g.M.Monoid.unit_of monoid) (MayAnswer g.G.Fn c.args.self.now.item) g.K.Ord.cmp g.met.K.Ord.total (g.M.Monoid.is_item monoid)
     (laws.associative monoid) (laws.commutative monoid) (laws.neutral monoid) (laws.closed monoid) (laws.unit_is_item monoid)
-    c.args.key.now.value c.args.value.now.value c.answer_at.result c.args.part.now c.op-all.result c.answer_at.ensures c.op-all.ensures
+    c.args.key.now.value c.args.value.now.value c.answer_at.result c.args.part.now c.op-all.result c.answer_at.ensures c.op-all.ensures.combined

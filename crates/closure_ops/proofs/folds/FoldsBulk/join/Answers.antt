@@ -8,4 +8,4 @@ returns g c =
     let laws = g.met.M.Monoid in
     both_folded (g.M.Monoid.combine monoid) (g.M.Monoid.unit_of monoid) (MayAnswer g.G.Fn c.args.self.now.item) g.K.Ord.cmp g.met.K.Ord.total (g.M.Monoid.is_item monoid)
     (laws.associative monoid) (laws.commutative monoid) (laws.neutral monoid) (laws.closed monoid) (laws.unit_is_item monoid)
-    c.args.a.now c.args.b.now c.op.result c.op.ensures
+    c.args.a.now c.args.b.now c.op.result c.op.ensures.combined

@@ -47,7 +47,7 @@ invariant_of-self-in-Err g c =
 
 pub begin_whole-requires-clause-worker_states : goal.begin_whole-requires-clause-worker_states
 begin_whole-requires-clause-worker_states g c =
-    subst (λ q. All (IsVacant (g.Q.Bulk.answers q)) c.in_ok-board.board) (c.deref-2.ensures ∙ sym c.deref-3.ensures) c.in_ok-board.ensures.vacant
+    subst (λ q. All (IsVacant (g.Q.Bulk.answers q)) c.in-Ok.board) (sym c.in-Ok.ensures.query ∙ sym c.deref-2.ensures) c.in-Ok.ensures.vacant
 
 pub invariant_of-self-2 : goal.invariant_of-self-2
 invariant_of-self-2 g c =
@@ -57,11 +57,11 @@ invariant_of-self-2 g c =
     let cuts = cuts_within path c.law_of_cuts.ensures.divide in
     let t = c.self.inside in
     let ps = t.job_states.items in
-    let p : JobState g.row.K.Denot g.row.V.Denot g.row.Q.Denot g.row.Q-Part.Denot = record { number = c.in-Ok.opened.0; query = c.in_ok-kept.kept; board = c.begin_whole.new.vacant } in
-    let same : arc_value c.in_ok-kept.kept ≡ c.args.query.value = search rules in
+    let p : JobState g.row.K.Denot g.row.V.Denot g.row.Q.Denot g.row.Q-Part.Denot = record { number = c.in-Ok-freeze.opened.0; query = c.in-Ok.kept; board = c.begin_whole.new.vacant } in
+    let same : arc_value c.in-Ok.kept ≡ c.args.query.value = search rules in
     let longer : c.push_reserved.new.self.items ≡ ps ++ p ∷ [] = search rules in
-    let job = subst (λ q. IsJobOn R path (g.Q.Bulk.answers q) c.in-Ok.opened.1 c.begin_whole.new.vacant) c.deref-3.ensures c.begin_whole.ensures.job in
-    let pushed = pushed_whole R path g.Q.Bulk.answers g.Q.Bulk.ready kind g.Q.Bulk.decides cuts t.table ps t.workers t.grain c.self.invariant c.freeze.new.self c.args.handle c.args.query.value c.in-Ok.opened.1 p c.in-Ok.ensures.step same c.requires job (c.begin_whole.ensures.first ∙ ap first_board c.in_ok-board.ensures.count) in
+    let job = subst (λ q. IsJobOn R path (g.Q.Bulk.answers q) c.in-Ok-freeze.opened.1 c.begin_whole.new.vacant) c.deref-2.ensures c.begin_whole.ensures.job in
+    let pushed = pushed_whole R path g.Q.Bulk.answers g.Q.Bulk.ready kind g.Q.Bulk.decides cuts t.table ps t.workers t.grain c.self.invariant c.freeze.new.self c.args.handle c.args.query.value c.in-Ok-freeze.opened.1 p c.in-Ok-freeze.ensures.step same c.requires job (c.begin_whole.ensures.first ∙ ap first_board c.in-Ok.ensures.count) in
     subst (λ qs. IsWhole R path g.Q.Bulk.answers g.Q.Bulk.ready c.freeze.new.self (job_states_of qs) t.workers t.grain) (sym longer) pushed.1
 
 pub returns-clause-step : goal.returns-clause-step
@@ -74,13 +74,13 @@ returns-clause-step g c =
     let ps = t.job_states.items in
     let division = divided path g.Q.Bulk.decides in
     let asks : Asked g.row.K.Denot g.row.V.Denot g.row.Q.Denot = of_client (freeze c.args.handle c.args.query.value) in
-    let p : JobState g.row.K.Denot g.row.V.Denot g.row.Q.Denot g.row.Q-Part.Denot = record { number = c.in-Ok.opened.0; query = c.in_ok-kept.kept; board = c.begin_whole.new.vacant } in
-    let same : arc_value c.in_ok-kept.kept ≡ c.args.query.value = search rules in
+    let p : JobState g.row.K.Denot g.row.V.Denot g.row.Q.Denot g.row.Q-Part.Denot = record { number = c.in-Ok-freeze.opened.0; query = c.in-Ok.kept; board = c.begin_whole.new.vacant } in
+    let same : arc_value c.in-Ok.kept ≡ c.args.query.value = search rules in
     let longer : c.push_reserved.new.self.items ≡ ps ++ p ∷ [] = search rules in
-    let job = subst (λ q. IsJobOn R path (g.Q.Bulk.answers q) c.in-Ok.opened.1 c.begin_whole.new.vacant) c.deref-3.ensures c.begin_whole.ensures.job in
-    let pushed = pushed_whole R path g.Q.Bulk.answers g.Q.Bulk.ready kind g.Q.Bulk.decides cuts t.table ps t.workers t.grain c.self.invariant c.freeze.new.self c.args.handle c.args.query.value c.in-Ok.opened.1 p c.in-Ok.ensures.step same c.requires job (c.begin_whole.ensures.first ∙ ap first_board c.in_ok-board.ensures.count) in
-    subst (λ s. StepsTo kind division s asks (Frozen c.in-Ok.opened.0) (value_of c.freeze.new.self (job_states_of c.push_reserved.new.self.items) t.workers t.grain)) c.self.view_is
-    (subst (λ qs. StepsTo kind division (value_of t.table (job_states_of ps) t.workers t.grain) asks (Frozen c.in-Ok.opened.0) (value_of c.freeze.new.self (job_states_of qs) t.workers t.grain)) (sym longer) pushed.0)
+    let job = subst (λ q. IsJobOn R path (g.Q.Bulk.answers q) c.in-Ok-freeze.opened.1 c.begin_whole.new.vacant) c.deref-2.ensures c.begin_whole.ensures.job in
+    let pushed = pushed_whole R path g.Q.Bulk.answers g.Q.Bulk.ready kind g.Q.Bulk.decides cuts t.table ps t.workers t.grain c.self.invariant c.freeze.new.self c.args.handle c.args.query.value c.in-Ok-freeze.opened.1 p c.in-Ok-freeze.ensures.step same c.requires job (c.begin_whole.ensures.first ∙ ap first_board c.in-Ok.ensures.count) in
+    subst (λ s. StepsTo kind division s asks (Frozen c.in-Ok-freeze.opened.0) (value_of c.freeze.new.self (job_states_of c.push_reserved.new.self.items) t.workers t.grain)) c.self.view_is
+    (subst (λ qs. StepsTo kind division (value_of t.table (job_states_of ps) t.workers t.grain) asks (Frozen c.in-Ok-freeze.opened.0) (value_of c.freeze.new.self (job_states_of qs) t.workers t.grain)) (sym longer) pushed.0)
 
 pub returns-in-Err-clause-due : goal.returns-in-Err-clause-due
 returns-in-Err-clause-due g c =

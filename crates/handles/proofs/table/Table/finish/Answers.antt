@@ -3,9 +3,9 @@ use Rattle.std.specs.Prelude.{Result, Ok, Err, IfOk, Some, is_some}
 use Rattle.std.specs.Ordering.{nat_cmp}
 use Rattle.versions.specs.Map.{value_at, without}
 use Rattle.versions.specs.declared.refusal.Refusal.{Refusal}
-use Rattle.bulk_ops.specs.Answers as plain
-use Rattle.bulk_ops.specs.Summaries.{summary_of}
-use Rattle.bulk_ops.specs.declared.asks.Answer.{Answer}
+use Rattle.bulk_work.specs.Answers as plain
+use Rattle.bulk_work.specs.Summaries.{summary_of}
+use Rattle.bulk_work.specs.declared.asks.Answer.{Answer}
 use Rattle.handles.specs.Jobs.{live_with_answer}
 use Rattle.handles.specs.Machine.{State, finish, is_entry, job_at}
 use Rattle.handles.specs.Views.{IsStep, finished_outcome, machine}

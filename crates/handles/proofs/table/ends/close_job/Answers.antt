@@ -1,7 +1,7 @@
 use Rattle.std.proofs.Common.{rules, ◌≡◌, ◌+◌, Some, ap, sym, subst, ◌∙◌, length}
 use Rattle.std.specs.Ordering.{nat_cmp}
 use Rattle.versions.specs.Map.{value_at}
-use Rattle.bulk_ops.specs.Summaries.{MakesFor}
+use Rattle.bulk_work.specs.Summaries.{MakesFor}
 use Rattle.handles.specs.Machine.{Job}
 use Rattle.handles.specs.Jobs.{IsPlace, job_of, live_with_made, stamps_with_made}
 use Rattle.handles.proofs.JobMaps.{can_finish}

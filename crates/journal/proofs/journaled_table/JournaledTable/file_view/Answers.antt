@@ -17,15 +17,15 @@ invariant_of-self-2 g c =
     let l = c.self.inside in
     let r : Request g.row.K.Denot g.row.V.Denot g.row.Q.Denot = view c.args.handle in
     let sees : Foresees kind l.table r view_outcome c.args.answer = subst (λ x. Foresees kind x.state r view_outcome c.args.answer) (sym c.self.view_is) c.requires.foreseen in
-    let has : lacks_memory c.view.result ≡ false = search rules in
-    let step : Step kind l.table r (answered view_outcome c.args.answer) c.view.new.self = step_as_foreseen kind l.table c.view.new.self r view_outcome c.args.answer c.view.result c.law_of_foresight.ensures refl sees c.requires.counted c.view.ensures.step has in
-    let shows : Shows g.J.JournalName.table c.in_ok-token.mine = search rules in
-    let entry : entry_at c.in_ok-token.mine ≡ record { seat = c.args.caller.seat; request = r; outcome = answered view_outcome c.args.answer } = search rules in
-    let is : c.push_reserved.new.self.items ≡ l.journal.items ++ c.in_ok-token.mine ∷ [] = search rules in
-    let jobs = c.law_of_open_jobs.ensures l.table c.view.new.self r (answered view_outcome c.args.answer) refl refl step in
-    kept_more kind g.J.JournalName.table l.table c.view.new.self l.journal.items c.push_reserved.new.self.items l.freezes.items l.freezes.items c.in_ok-token.mine c.args.caller.seat r (answered view_outcome c.args.answer)
+    let has : lacks_memory c.view-shown.result ≡ false = search rules in
+    let step : Step kind l.table r (answered view_outcome c.args.answer) c.view-shown.new.self = step_as_foreseen kind l.table c.view-shown.new.self r view_outcome c.args.answer c.view-shown.result c.law_of_foresight.ensures refl sees c.requires.counted c.view-shown.ensures.step has in
+    let shows : Shows g.J.JournalName.table c.in-Ok.mine = search rules in
+    let entry : entry_at c.in-Ok.mine ≡ record { seat = c.args.caller.seat; request = r; outcome = answered view_outcome c.args.answer } = search rules in
+    let is : c.push_reserved.new.self.items ≡ l.journal.items ++ c.in-Ok.mine ∷ [] = search rules in
+    let jobs = c.law_of_open_jobs.ensures l.table c.view-shown.new.self r (answered view_outcome c.args.answer) refl refl step in
+    kept_more kind g.J.JournalName.table l.table c.view-shown.new.self l.journal.items c.push_reserved.new.self.items l.freezes.items l.freezes.items c.in-Ok.mine c.args.caller.seat r (answered view_outcome c.args.answer)
     is c.self.invariant shows entry (filed_as_counted kind view_outcome c.args.answer (λ m. refl) c.requires.counted) step
-    (open_still g.J.JournalName.table l.table c.view.new.self l.freezes.items jobs c.self.invariant.beside) (each_still l.table c.view.new.self l.freezes.items jobs c.self.invariant.each)
+    (open_still g.J.JournalName.table l.table c.view-shown.new.self l.freezes.items jobs c.self.invariant.beside) (each_still l.table c.view-shown.new.self l.freezes.items jobs c.self.invariant.each)
 
 pub returns-clause-filed : goal.returns-clause-filed
 returns-clause-filed g c =
@@ -33,10 +33,10 @@ returns-clause-filed g c =
     let l = c.self.inside in
     let r : Request g.row.K.Denot g.row.V.Denot g.row.Q.Denot = view c.args.handle in
     let sees : Foresees kind l.table r view_outcome c.args.answer = subst (λ x. Foresees kind x.state r view_outcome c.args.answer) (sym c.self.view_is) c.requires.foreseen in
-    let has : lacks_memory c.view.result ≡ false = search rules in
-    let step : Step kind l.table r (answered view_outcome c.args.answer) c.view.new.self = step_as_foreseen kind l.table c.view.new.self r view_outcome c.args.answer c.view.result c.law_of_foresight.ensures refl sees c.requires.counted c.view.ensures.step has in
-    let shows : Shows g.J.JournalName.table c.in_ok-token.token = search rules in
-    let entry : entry_at c.in_ok-token.token ≡ record { seat = c.args.caller.seat; request = r; outcome = answered view_outcome c.args.answer } = search rules in
-    let is : c.push_reserved.new.self.items ≡ l.journal.items ++ c.in_ok-token.mine ∷ [] = search rules in
-    files_event kind g.J.JournalName.table l.table c.view.new.self l.journal.items c.push_reserved.new.self.items c.in_ok-token.token c.in_ok-token.mine c.args.caller.seat r (answered view_outcome c.args.answer) _ c.args.self.now (openers_of l.freezes.items) (openers_of l.freezes.items)
-    c.self.view_is is c.in_ok-token.ensures.same shows entry (search rules) (filed_as_counted kind view_outcome c.args.answer (λ m. refl) c.requires.counted) step refl
+    let has : lacks_memory c.view-shown.result ≡ false = search rules in
+    let step : Step kind l.table r (answered view_outcome c.args.answer) c.view-shown.new.self = step_as_foreseen kind l.table c.view-shown.new.self r view_outcome c.args.answer c.view-shown.result c.law_of_foresight.ensures refl sees c.requires.counted c.view-shown.ensures.step has in
+    let shows : Shows g.J.JournalName.table c.in-Ok.token = search rules in
+    let entry : entry_at c.in-Ok.token ≡ record { seat = c.args.caller.seat; request = r; outcome = answered view_outcome c.args.answer } = search rules in
+    let is : c.push_reserved.new.self.items ≡ l.journal.items ++ c.in-Ok.mine ∷ [] = search rules in
+    files_event kind g.J.JournalName.table l.table c.view-shown.new.self l.journal.items c.push_reserved.new.self.items c.in-Ok.token c.in-Ok.mine c.args.caller.seat r (answered view_outcome c.args.answer) _ c.args.self.now (openers_of l.freezes.items) (openers_of l.freezes.items)
+    c.self.view_is is c.in-Ok.ensures.same shows entry (search rules) (filed_as_counted kind view_outcome c.args.answer (λ m. refl) c.requires.counted) step refl

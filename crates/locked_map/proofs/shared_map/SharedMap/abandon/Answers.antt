@@ -1,6 +1,6 @@
 use Rattle.std.proofs.Common.{rules, ◌≡◌, ◌++◌, ◌∷◌, [], refl, subst}
 use Rattle.boxcar.specs.Table.{Shows}
-use Rattle.bulk_ops.specs.Answers as plain
+use Rattle.bulk_work.specs.Answers as plain
 use Rattle.handles.specs.Machine.{Request, abandon, made, refused}
 use Rattle.handles.specs.Views.{machine}
 use Rattle.locked_map.specs.Seats.{Adds, Seated, placed_all}

@@ -1,6 +1,6 @@
 use Rattle.std.proofs.Common.{rules, ◌≡◌, ◌++◌, ◌∷◌, [], refl, ap, subst}
-use Rattle.bulk_ops.specs.Answers as plain
-use Rattle.bulk_ops.specs.Summaries.{summary_of}
+use Rattle.bulk_work.specs.Answers as plain
+use Rattle.bulk_work.specs.Summaries.{summary_of}
 use Rattle.handles.specs.Machine.{Request, finish, finished, refused}
 use Rattle.handles.specs.Views.{machine}
 use Rattle.locked_map.specs.Seats.{Adds, Seated, placed_all}

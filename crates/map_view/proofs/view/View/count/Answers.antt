@@ -1,7 +1,7 @@
 use Rattle.std.proofs.Common.{◌≡◌, ◌+◌, ◌≤◌, List, length, arith, sym, subst}
 use Rattle.std.specs.List.Sorted.{IsPermutation}
 use Rattle.std.proofs.lemmas.List.Sorted.{length_permutation}
-use Rattle.bulk_ops.specs.Answers.{passing}
+use Rattle.bulk_work.specs.Answers.{passing}
 use Rattle.map_view.proofs.Counting.{at_most_one, count_permuted, count_step}
 use Rattle.map_view.proofs.view.View.count.Goals as goal
 

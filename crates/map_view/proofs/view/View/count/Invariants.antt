@@ -1,5 +1,5 @@
 use Rattle.std.proofs.Common.{◌≡◌, ◌+◌, ◌≤◌, Bool, length}
-use Rattle.bulk_ops.specs.Answers.{passing}
+use Rattle.bulk_work.specs.Answers.{passing}
 use Rattle.bulk_ops.specs.Meanings.{MayAnswer, Means}
 use Rattle.map_view.proofs.view.View.count.Given as goal
 

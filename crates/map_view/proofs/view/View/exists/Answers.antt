@@ -2,7 +2,7 @@ use Rattle.std.proofs.Common.{◌≡◌, List, sym, ◌∙◌, subst}
 use Rattle.std.specs.List.{list_any}
 use Rattle.std.specs.List.Sorted.{IsPermutation}
 use Rattle.std.proofs.lemmas.List.Sorted.{list_any-IsPermutation}
-use Rattle.bulk_ops.specs.Answers.{passes}
+use Rattle.bulk_work.specs.Answers.{passes}
 use Rattle.map_view.proofs.Counting.{any_false, any_true}
 use Rattle.map_view.proofs.view.View.exists.Goals as goal
 

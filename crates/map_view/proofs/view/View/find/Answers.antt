@@ -4,7 +4,7 @@ use Rattle.std.specs.List.Sorted.{IsPermutation}
 use Rattle.std.specs.Prelude.{All, Contains, Some}
 use Rattle.std.proofs.lemmas.List.Elements.{All-head, All-tail, Contains-append_right}
 use Rattle.std.proofs.lemmas.List.Sorted.{Contains-permutation, IsPermutation-sym, list_any-IsPermutation}
-use Rattle.bulk_ops.specs.Answers.{passes}
+use Rattle.bulk_work.specs.Answers.{passes}
 use Rattle.map_view.specs.Questions.{IsFound}
 use Rattle.map_view.proofs.Counting.{any_false}
 use Rattle.map_view.proofs.view.View.find.Goals as goal

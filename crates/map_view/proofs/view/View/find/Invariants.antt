@@ -1,7 +1,7 @@
 use Rattle.std.proofs.Common.{◌≡◌, Bool}
 use Rattle.std.specs.List.{list_any}
 use Rattle.std.specs.Prelude.{All, Contains}
-use Rattle.bulk_ops.specs.Answers.{passes}
+use Rattle.bulk_work.specs.Answers.{passes}
 use Rattle.bulk_ops.specs.Meanings.{MayAnswer, Means}
 use Rattle.map_view.proofs.view.View.find.Given as goal
 

@@ -1,6 +1,6 @@
 use Rattle.std.proofs.Common.{◌≡◌, List, sym, ap, ◌∙◌, subst}
 use Rattle.std.specs.List.Sorted.{IsPermutation}
-use Rattle.bulk_ops.specs.Answers.{items_of}
+use Rattle.bulk_work.specs.Answers.{items_of}
 use Rattle.combiner.specs.Monoids.{folded}
 use Rattle.map_view.proofs.Counting.{fold_step}
 use Rattle.map_view.proofs.view.View.fold.Goals as goal
@@ -27,7 +27,7 @@ loop-key-preserved g c =
       callable = c.requires.callable;
       all = λ i means.
           let before = subst (λ (rest : List (g.row.K.Denot × g.row.V.Denot)). folded combine c.loop-key.all (items_of i rest) ≡ folded combine (g.M.Monoid.unit_of c.args.monoid.now) (items_of i c.args.self.now)) c.in-Some.ensures.steps (c.loop-key.invariant.all i means) in
-          ap (λ all. folded combine all (items_of i c.next.new.self)) (c.op-all.ensures ∙ ap (λ item. combine item c.loop-key.all) (means _ _ _ c.answer_at.ensures))
+          ap (λ all. folded combine all (items_of i c.next.new.self)) (c.op-all.ensures.combined ∙ ap (λ item. combine item c.loop-key.all) (means _ _ _ c.answer_at.ensures))
           ∙ fold_step combine (g.met.M.Monoid.associative c.args.monoid.now) (g.met.M.Monoid.commutative c.args.monoid.now) (i pair.0 pair.1) c.loop-key.all (items_of i c.next.new.self)
           ∙ before;
     }

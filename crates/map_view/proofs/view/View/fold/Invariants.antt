@@ -1,5 +1,5 @@
 use Rattle.std.proofs.Common.{◌≡◌}
-use Rattle.bulk_ops.specs.Answers.{items_of}
+use Rattle.bulk_work.specs.Answers.{items_of}
 use Rattle.combiner.specs.Monoids.{folded}
 use Rattle.bulk_ops.specs.Meanings.{MayAnswer, Means}
 use Rattle.map_view.proofs.view.View.fold.Given as goal

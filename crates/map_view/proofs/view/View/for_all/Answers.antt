@@ -1,7 +1,7 @@
 use Rattle.std.proofs.Common.{◌≡◌, List, sym, ◌∙◌, subst}
 use Rattle.std.specs.List.{list_all}
 use Rattle.std.specs.List.Sorted.{IsPermutation}
-use Rattle.bulk_ops.specs.Answers.{passes}
+use Rattle.bulk_work.specs.Answers.{passes}
 use Rattle.map_view.proofs.Counting.{all_false, all_permuted, all_true}
 use Rattle.map_view.proofs.view.View.for_all.Goals as goal
 

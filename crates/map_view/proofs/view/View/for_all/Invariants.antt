@@ -1,6 +1,6 @@
 use Rattle.std.proofs.Common.{◌≡◌, Bool}
 use Rattle.std.specs.List.{list_all}
-use Rattle.bulk_ops.specs.Answers.{passes}
+use Rattle.bulk_work.specs.Answers.{passes}
 use Rattle.bulk_ops.specs.Meanings.{MayAnswer, Means}
 use Rattle.map_view.proofs.view.View.for_all.Given as goal
 

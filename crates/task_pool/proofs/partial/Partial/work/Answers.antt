@@ -5,8 +5,8 @@ use Rattle.task_pool.specs.Worked.{IsPartial, once}
 use Rattle.task_pool.proofs.Partials.{has_worked, may_work}
 use Rattle.task_pool.proofs.partial.Partial.work.Goals as goal
 
-pub work_into-requires-clause-apart : goal.work_into-requires-clause-apart
-work_into-requires-clause-apart g c =
+pub work_into-made-requires-clause-apart : goal.work_into-made-requires-clause-apart
+work_into-made-requires-clause-apart g c =
     let R = g.K.Ord.cmp in
     let path = g.K.PathKey.path_of in
     let answers = g.B.Bulk.answers in
@@ -35,7 +35,7 @@ invariant_of-result g c =
     let apart : AreApart (ws ++ c.args.task ∷ []) = subst (λ xs. AreApart (xs ++ c.args.task ∷ [])) (sym c.self.view_is) c.requires.apart in
     let interval : Interval = record { lo = c.lo.result; hi = c.hi.result } in
     let is : interval ≡ c.args.task = λ k. record { lo = c.lo.ensures.lo k; hi = c.hi.ensures.hi k } in
-    let list : c.push.new.self.items ≡ ws ++ c.args.task ∷ [] = c.in_ok-push.ensures.items ∙ (λ k. ws ++ is k ∷ []) in
-    subst (λ xs. IsPartial R path answers ready m grain named c.self.inside.bulk.now c.in_ok-part.part xs qs) (sym list)
-    (has_worked R path answers ready m grain named laws.one laws.map laws.apart laws.union c.self.inside.bulk.now c.self.inside.part c.in_ok-part.part ws rs qs c.args.task c.self.invariant apart c.requires.uncut c.in_ok-part.ensures
-    (λ x. c.in_ok-add_run.ensures x ∙ ap (λ j. cover rs x + once j x) is))
+    let list : c.push.new.self.items ≡ ws ++ c.args.task ∷ [] = c.in-Ok-push.ensures.items ∙ (λ k. ws ++ is k ∷ []) in
+    subst (λ xs. IsPartial R path answers ready m grain named c.self.inside.bulk.now c.in-Ok.part xs qs) (sym list)
+    (has_worked R path answers ready m grain named laws.one laws.map laws.apart laws.union c.self.inside.bulk.now c.self.inside.part c.in-Ok.part ws rs qs c.args.task c.self.invariant apart c.requires.uncut c.in-Ok.ensures
+    (λ x. c.in-Ok-add_run.ensures.cover x ∙ ap (λ j. cover rs x + once j x) is))

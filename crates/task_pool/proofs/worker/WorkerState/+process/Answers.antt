@@ -36,8 +36,8 @@ process-requires-in-Err-push g t c κs within =
     let short = h.first in
     (omega (arith, short, c.decreases), (search rules, (search rules, (search rules, (search rules, (search rules, (search rules, (search rules, c.requires))))))))
 
-pub process-requires-in-Err-push-2 : goal.process-requires-in-Err-push-2
-process-requires-in-Err-push-2 g t c κs within =
+pub process-requires-in-Ok-process : goal.process-requires-in-Ok-process
+process-requires-in-Ok-process g t c κs within =
     let path = g.K.PathKey.path_of in
     let m = g.C.OfView.map in
     let grain = g.C.OfView.grain in
@@ -60,14 +60,14 @@ returns-in-Ok-push-clause-did g t c =
     let h : Halved task lower c.in-Some.upper = halved path c.law_of_cuts.ensures.divide m grain task lower c.in-Some.upper c.in-Ok.rest c.in-Some.is c.in-Ok.ensures in
     IfOk-weaker c.process.result _ _ (λ done is. ends_pushed self.partial done.partial self.ends.pushed c.push.new.self.pushed done.ends.pushed self.leftover.items done.leftover.items task lower c.in-Some.upper h c.in-Ok-push.ensures.did is) c.process.ensures.did
 
-pub returns-clause-did : goal.returns-clause-did
-returns-clause-did g t c =
+pub returns-in-Ok-process-clause-did : goal.returns-in-Ok-process-clause-did
+returns-in-Ok-process-clause-did g t c =
     let path = g.K.PathKey.path_of in
     let m = g.C.OfView.map in
     let grain = g.C.OfView.grain in
     let task = c.args.task in
     let lower = c.in-Ok.lower in
     let self = c.args.self in
-    let mid = c.in_ok-state-in-Err-push.state in
+    let mid = c.in-Ok-process.state in
     let h : Halved task lower c.in-Some.upper = halved path c.law_of_cuts.ensures.divide m grain task lower c.in-Some.upper c.in-Ok.rest c.in-Some.is c.in-Ok.ensures in
-    IfOk-weaker c.process-in-Err-push-2.result _ _ (λ done is. ends_both self.partial mid.partial done.partial self.ends.pushed c.push.new.self.pushed mid.ends.pushed done.ends.pushed self.leftover.items mid.leftover.items done.leftover.items task lower c.in-Some.upper c.in-Err-push.upper h c.in-Err-push.ensures.did.0 c.in-Err-push.ensures.did.1 c.in_ok-state-in-Err-push.ensures.did is) c.process-in-Err-push-2.ensures.did
+    IfOk-weaker c.process-in-Ok-process.result _ _ (λ done is. ends_both self.partial mid.partial done.partial self.ends.pushed c.push.new.self.pushed mid.ends.pushed done.ends.pushed self.leftover.items mid.leftover.items done.leftover.items task lower c.in-Some.upper c.in-Err-push.upper h c.in-Err-push.ensures.did.0 c.in-Err-push.ensures.did.1 c.in-Ok-process.ensures.did is) c.process-in-Ok-process.ensures.did

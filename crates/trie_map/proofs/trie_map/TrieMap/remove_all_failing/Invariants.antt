@@ -1,8 +1,8 @@
 use Rattle.std.proofs.Common.{◌≡◌, ◌+◌, ◌≤◌, Bool, false, length}
-use Rattle.std.specs.Prelude.{All}
 use Rattle.bulk_ops.specs.Meanings.{MayAnswer, Means}
 use Rattle.map_view.specs.Questions.{failing}
-use Rattle.versions.specs.Map.{Map}
+use Rattle.versions.specs.Map.{IsMap}
+use Rattle.trie_map.proofs.Gone.{AreGone}
 use Rattle.trie_map.proofs.trie_map.TrieMap.remove_all_failing.Given as goal
 
 -- those so far that are gone, and those to come that fail, are no more than those of the view that fail
@@ -13,5 +13,6 @@ invariant-loop-key g l = record {
   callable : goal.F-IsAlwaysCallable g l.test;
   few : l.removed + length l.key-iterator ≤ length l.view;
   gone : (p : g.row.K.Denot → g.row.V.Denot → Bool) → Means (MayAnswer g.F.Fn l.test) p → l.removed + length (failing p l.key-iterator) ≤ length (failing p l.view);
-  failed : (gone : Map g.row.K.Denot g.row.V.Denot) × (length gone ≡ l.removed) × All (λ (x : g.row.K.Denot × g.row.V.Denot). g.P.Keeps.holds x.0 x.1 × MayAnswer g.F.Fn l.test x.0 x.1 false) gone;
+  sorted : IsMap g.K.Ord.cmp l.view;
+  failed : AreGone g.K.Ord.cmp l.view g.P.Keeps.holds (λ k v. MayAnswer g.F.Fn l.test k v false) l.key-iterator l.removed;
 }

@@ -1,0 +1,6 @@
+//! Pairs behind shared pointers.
+
+use std::sync::Arc;
+
+/// A pair of a map.
+pub type Pair<K, V> = (Arc<K>, Arc<V>);

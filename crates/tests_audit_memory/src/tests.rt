@@ -1,0 +1,2 @@
+//! With no memory, with a little, and so on.
+mod memory;

@@ -1,0 +1,23 @@
+use Rattle.std.proofs.Common.{Some, sym, ap, ◌∙◌, subst, true≢false, set}
+use Rattle.std.specs.Arc.{arc_value}
+use Rattle.trie_shape.specs.Tree.{bucket}
+use Rattle.trie_shape.specs.View.{pair_values}
+use Rattle.trie_copy.specs.Writes.{Writes}
+use Rattle.trie_puts.proofs.Placing.{writes_there}
+use Rattle.trie_puts.proofs.bucket_puts.put_in_pair.Goals as goal
+
+pub returns-clause-ok : goal.returns-clause-ok
+returns-clause-ok g c level es i at here trie =
+    let R = g.K.Ord.cmp in
+    let path = g.K.PathKey.path_of in
+    let a = c.args in
+    let k = a.entry.key.value in
+    let s = a.entry.stamp.0 in
+    let found = at.value (pair_values a.pair.now) ∙ ap (λ p. Some p.1) here in
+    record {
+      previous_is = ap (λ v. Some (arc_value v)) c.replace-previous.ensures.value ∙ sym found;
+      written_is = sym c.if-not-holds_of.false ∙ c.holds_of.ensures ∙ ap (g.C.Condition.holds a.condition.now) (sym found);
+      writes = λ e. subst (λ v. Writes R path level s k (Some a.entry.value.value) (bucket a.stamp.now.0 es) (bucket s (set es i (k, arc_value v)))) (sym c.replace-previous.ensures.after)
+          (writes_there R g.met.K.Ord.total path g.met.K.PathKey.exact level s a.stamp.now.0 k a.entry.value.value es i trie at);
+      kept = λ e. absurd (true≢false e);
+    }

@@ -1,0 +1,3 @@
+pub mod PutInPlace
+pub mod PutInside
+pub mod Buckets
