@@ -10,6 +10,7 @@ use std::fmt::Debug;
 use std::process::Abort;
 use std::sync::{Arc, MutexGuard, Wait};
 use stripes::{Anything, Stripe, Stripes, clear_all, empties, empty_maps};
+use write_history::Author;
 
 // The stripes of a map of the tests.
 type TestStripes = Stripes<u64, u64, Anything>;
@@ -50,14 +51,14 @@ fn put<R: AllocGlobal + Wait + Abort>(rt: &R, row: &TestStripes, key: u64, value
     let key = Arc::new(rt.alloc(), key).expect(rt, "no key");
     let value = Arc::new(rt.alloc(), value).expect(rt, "no value");
     let mut stripe = row.stripe_at(rt, path);
-    let done = stripe.put(rt.alloc(), key, path, value);
+    let done = stripe.put(rt.alloc(), key, path, value, &mut Author::nobody());
     assert!(rt; done.is_ok(), "not put");
 }
 
 fn remove<R: AllocGlobal + Wait + Abort>(rt: &R, row: &TestStripes, key: u64) {
     let path = key.path();
     let mut stripe = row.stripe_at(rt, path);
-    let done = stripe.remove(rt.alloc(), &key, path);
+    let done = stripe.remove(rt.alloc(), &key, path, &mut Author::nobody());
     assert!(rt; done.is_ok(), "not removed");
 }
 
@@ -71,6 +72,7 @@ fn update<R: AllocGlobal + Wait + Abort>(rt: &R, row: &TestStripes, key: u64) {
         key,
         path,
         |old: Option<&u64>| old.map(|value| value.wrapping_add(100)),
+        &mut Author::nobody(),
     );
     assert!(rt; done.is_ok(), "not updated");
 }
@@ -78,7 +80,8 @@ fn update<R: AllocGlobal + Wait + Abort>(rt: &R, row: &TestStripes, key: u64) {
 fn clear<R: AllocGlobal + Wait + Abort>(rt: &R, row: &TestStripes) {
     let empty_maps = empty_maps(rt.alloc()).expect(rt, "no empty_maps");
     let held = row.all(rt, rt.alloc()).expect(rt, "not held");
-    clear_all(held, empty_maps);
+    let all = held.first().expect(rt, "none held").gathered();
+    clear_all(held, empty_maps, all, &mut Author::nobody());
 }
 
 // Reads the absent key `times` times.

@@ -1,3 +1,7 @@
 pub mod Crossing
 pub mod Keeping
+pub mod Lending
+pub mod Moments
 pub mod Placing
+pub mod Seeing
+pub mod Telling

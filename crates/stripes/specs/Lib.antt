@@ -1,3 +1,4 @@
+pub mod Told
 pub mod Rules
 pub mod Stripes
 pub mod Updates

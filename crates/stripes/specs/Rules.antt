@@ -1,10 +1,13 @@
 -- Maps whose pairs keep a rule.
-use Rattle.std.specs.Prelude.{◌≡◌, ℕ, Some}
+use Rattle.std.specs.Prelude.{◌≡◌, ℕ, Option, Some}
 use Rattle.std.specs.declared.cmp.Ordering.{Ordering}
 use Rattle.hash_path.specs.Digits.{digit}
+use Rattle.logbook.specs.Pages.{Book}
+use Rattle.stripes.specs.Told.{Tells, as_digit}
 use Rattle.stripes.specs.declared.stripe.TheConstants.{MOST_PAIRS_OF_STRIPE}
 use Rattle.versions.specs.Contents.{Contents}
 use Rattle.versions.specs.Map.{Map, value_at}
+use Rattle.write_history.specs.Rules.{HasHistory, Known}
 use Rattle.versions.specs.declared.refusal.Refusal.{Refusal}
 use Rattle.versions.specs.declared.refusal.Refusal.TheVariants.{Full, NoMemory}
 
@@ -20,9 +23,11 @@ first_digit path k = digit (path k) 0
 abbrev pub Belongs : {K V : Type 0} → (K → ℕ) → (K → V → Type 0) → ℕ → K → V → Type 0
 Belongs path H d k v = H k v × (first_digit path k ≡ d)
 
--- what the pairs and the limit of a stripe keep: it has the limit of a stripe, and each pair belongs there
-abbrev pub IsStripe : {K V : Type 0} → (K → K → Ordering) → (K → ℕ) → (K → V → Type 0) → ℕ → Contents K V → Type 0
-IsStripe R path H d c = (c.limit ≡ MOST_PAIRS_OF_STRIPE) × AllKeep R (Belongs path H d) c.entries
+-- what the pairs, the limit and the history of a stripe keep: it has the limit of a stripe, each pair belongs there, and its part of the history, if there is one, is that of its digit and says what its keys have
+pub record IsStripe {K V : Type 0} (R : K → K → Ordering) (path : K → ℕ) (H : K → V → Type 0) (name : Option Book) (d : ℕ) (c : Contents K V) (part : Known K V) : Type 0 where
+  pub limit : c.limit ≡ MOST_PAIRS_OF_STRIPE
+  pub belongs : AllKeep R (Belongs path H d) c.entries
+  pub told : HasHistory name → (part.digit ≡ as_digit d) × Tells R path d c.entries part.log
 
 -- why a put may be refused: there are as many pairs as there may be, or memory runs out
 abbrev pub IsPutRefusal : Refusal → Type 0

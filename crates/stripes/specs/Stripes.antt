@@ -1,20 +1,18 @@
 -- The stripes of a map: the pairs whose keys' words have one first digit.
-use Rattle.std.specs.Prelude.{◌≡◌, ℕ, zero, suc, Bool, true, not, ◌&&◌, ◌==◌, if◌then◌else◌, List, [], ◌∷◌, ◌++◌, map}
+use Rattle.std.specs.Prelude.{◌≡◌, ℕ, Bool, true, not, ◌&&◌, ◌==◌, if◌then◌else◌, List, [], ◌∷◌, map}
 use Rattle.std.specs.List.{list_any}
 use Rattle.std.specs.declared.cmp.Ordering.{Ordering}
 use Rattle.stripes.specs.declared.stripe.TheConstants.{MOST_PAIRS_OF_STRIPE}
 use Rattle.versions.specs.Contents.{Contents}
 use Rattle.versions.specs.Map.{Map, union}
+use Rattle.write_history.specs.declared.entry.Entry.{Entry}
+pub use Rattle.write_history.specs.Rules.{up_to}
 
--- the pairs of one stripe, and the first digit of the words of their keys
+-- the pairs of one stripe, the first digit of the words of their keys, and the history that was seen last, if there is one
 pub record Content (K V : Type 0) : Type 0 where
   pub entries : Map K V
   pub digit : ℕ
-
--- the numbers below n
-abbrev pub up_to : ℕ → List ℕ
-up_to zero = []
-up_to (suc n) = up_to n ++ n ∷ []
+  pub log : List (Entry K V)
 
 -- whether no two of the numbers are equal
 abbrev pub all_differ : List ℕ → Bool

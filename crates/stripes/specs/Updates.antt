@@ -7,6 +7,8 @@ use Rattle.versions.specs.Commands.{is_full_for}
 use Rattle.versions.specs.Map.{Map, value_at, with_pair, without}
 use Rattle.versions.specs.Puts.{FullExactly}
 use Rattle.versions.specs.declared.refusal.Refusal.{Refusal}
+use Rattle.write_history.specs.declared.entry.Write.{Write}
+use Rattle.write_history.specs.declared.entry.Write.TheVariants.{Put, Remove}
 use denote.Ref.{Bor}
 
 -- a call of the closure f where the key has this value, or none, may answer this
@@ -36,3 +38,8 @@ module _ {K V : Type 0} (R : K → K → Ordering) where
   -- the value of the key where it passes, or none
   abbrev pub value_if : Bool → Map K V → K → Option V
   value_if passes m k = if passes then value_at R m k else None
+
+-- what is written where a closure made this value of the key's, or none
+abbrev pub write_of : {K V : Type 0} → K → Option V → Write K V
+write_of k None = Remove k
+write_of k (Some v) = Put k v

@@ -12,6 +12,7 @@ use hash_path::PathKey;
 use std::alloc::Global;
 use std::sync::{Arc, MutexGuard, Wait};
 use trie_node::NoMemory;
+use write_history::Naming;
 
 /// New marks, with room for the marks that stripes had before: what `Stripes::all_marked` needs.
 ///
@@ -36,9 +37,9 @@ impl Marking {
     }
 
     // Has the stripe's writes marked by the new marks, and ends those before.
-    fn apply<K: PathKey + Drop, V: Drop, P: Keeps<K, V>>(
+    fn apply<K: PathKey + Drop, V: Drop, P: Keeps<K, V>, J: Naming>(
         &mut self,
-        stripe: &mut Stripe<K, V, P>,
+        stripe: &mut Stripe<K, V, P, J>,
     ) -> Result<(), NoMemory>
         ensures { stripe.new ≡ stripe.old }
     {
@@ -51,7 +52,7 @@ impl Marking {
     }
 }
 
-impl<K: PathKey + Drop, V: Drop, P: Keeps<K, V>> Stripes<K, V, P> {
+impl<K: PathKey + Drop, V: Drop, P: Keeps<K, V>, J: Naming> Stripes<K, V, P, J> {
     /// All stripes, as by `all`. Each is marked by the new marks from then on. The marks that it had before have ended
     /// once it is held: they tell of no later write.
     ///
@@ -61,7 +62,7 @@ impl<K: PathKey + Drop, V: Drop, P: Keeps<K, V>> Stripes<K, V, P> {
         rt: &R,
         alloc: Global,
         marking: &mut Marking,
-    ) -> Result<Guards<'_, K, V, P>, NoMemory>
+    ) -> Result<Guards<'_, K, V, P, J>, NoMemory>
         ensures { IfOk result (λ held. digits_of (map mutex_guard_value held.items) ≡ up_to fan_out) }
     {
         let mut held = Vec::with_capacity(alloc, STRIPES as usize)?;
@@ -77,7 +78,7 @@ impl<K: PathKey + Drop, V: Drop, P: Keeps<K, V>> Stripes<K, V, P> {
         rt: &R,
         digit: u32,
         marking: &mut Marking,
-    ) -> Result<MutexGuard<'_, Stripe<K, V, P>>, NoMemory>
+    ) -> Result<MutexGuard<'_, Stripe<K, V, P, J>>, NoMemory>
         requires { digit < fan_out }
         ensures { IfOk result (λ guard. (mutex_guard_value guard).digit ≡ digit) }
     {

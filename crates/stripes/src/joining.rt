@@ -16,6 +16,7 @@ use std::alloc::Global;
 use trie_node::{NoMemory, union_of_maps};
 use united_roots::RootRow;
 use versions::{MOST_PAIRS, Version, law_of_equal_maps};
+use write_history::Naming;
 
 /// The map of the pairs of all stripes that are held. Their locks are released before its root is made. At each key it
 /// has exactly what the stripe of the key's first digit has. Each pair keeps the rule.
@@ -23,10 +24,10 @@ use versions::{MOST_PAIRS, Version, law_of_equal_maps};
 /// Stripes of different digits share no subtrie below the root, so their map's root has the children of their roots:
 /// this makes one branch, however many pairs there are. While the stripes are held it makes no request for memory, since
 /// `room` has it; but the clone of a handle may be refused.
-pub fn joined<K: PathKey + Drop, V: Drop, P: Keeps<K, V>>(
+pub fn joined<K: PathKey + Drop, V: Drop, P: Keeps<K, V>, J: Naming>(
     alloc: Global,
     room: RootRow<K, V>,
-    held: Guards<'_, K, V, P>,
+    held: Guards<'_, K, V, P, J>,
 ) -> Result<Version<K, V>, NoMemory>
     requires empty { room.entries ≡ [] }
     requires few { length held.items ≤ fan_out }
@@ -43,9 +44,9 @@ pub fn joined<K: PathKey + Drop, V: Drop, P: Keeps<K, V>>(
 }
 
 // The children of the roots of all stripes that are held.
-fn children<K: PathKey + Drop, V: Drop, P: Keeps<K, V>>(
+fn children<K: PathKey + Drop, V: Drop, P: Keeps<K, V>, J: Naming>(
     mut row: RootRow<K, V>,
-    held: &Guards<'_, K, V, P>,
+    held: &Guards<'_, K, V, P, J>,
 ) -> Result<RootRow<K, V>, NoMemory>
     requires empty { row.entries ≡ [] }
     requires few { length held.now.items ≤ fan_out }
@@ -58,7 +59,7 @@ fn children<K: PathKey + Drop, V: Drop, P: Keeps<K, V>>(
     union_of_maps::<K, V>();
     law_of_equal_maps::<K, V>();
     for guard in held {
-        let stripe: &Stripe<K, V, P> = &**guard;
+        let stripe: &Stripe<K, V, P, J> = &**guard;
         stripe.law();
         stripe.len();
         row.len();
@@ -69,9 +70,9 @@ fn children<K: PathKey + Drop, V: Drop, P: Keeps<K, V>>(
 }
 
 // The row once it has the stripe's pairs too. A function that drops less than `children` would has less to prove.
-fn with_stripe<K: PathKey + Drop, V: Drop, P: Keeps<K, V>>(
+pub(crate) fn with_stripe<K: PathKey + Drop, V: Drop, P: Keeps<K, V>, J: Naming>(
     mut row: RootRow<K, V>,
-    stripe: &Stripe<K, V, P>,
+    stripe: &Stripe<K, V, P, J>,
 ) -> Result<RootRow<K, V>, NoMemory>
     requires none { NoneHasDigit K.cmp K.path_of stripe.now.digit row.entries }
     requires room { length row.entries + length stripe.now.entries < 2 ^ 63 }
@@ -84,7 +85,7 @@ fn with_stripe<K: PathKey + Drop, V: Drop, P: Keeps<K, V>>(
 }
 
 // The map of the row's pairs.
-fn map_of_row<K: PathKey + Drop, V: Drop>(
+pub(crate) fn map_of_row<K: PathKey + Drop, V: Drop>(
     alloc: Global,
     row: RootRow<K, V>,
 ) -> Result<Version<K, V>, NoMemory>

@@ -5,19 +5,22 @@
 //! takes one of them or all. Each pair of a stripe keeps a rule of the user's (`Keeps`), or `Anything`.
 #![tactic(auto)]
 
+mod clearing;
 mod empty_map;
 mod following;
 mod joining;
 mod keeps;
 mod locks;
 mod marks;
+mod moment;
 mod stripe;
 mod stripes;
 
+pub use clearing::clear_all;
 pub use empty_map::EmptyMap;
 pub use following::Marking;
 pub use joining::joined;
 pub use keeps::{Anything, Keeps};
 pub use marks::Marks;
 pub use stripe::{MOST_PAIRS_OF_STRIPE, STRIPES, Stripe};
-pub use stripes::{Guards, Stripes, clear_all, empties, empty_maps, forks};
+pub use stripes::{Guards, Stripes, empties, empty_maps, forks, told_empties};

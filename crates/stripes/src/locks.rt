@@ -8,20 +8,21 @@ use crossbeam_utils::CachePadded;
 use hash_path::PathKey;
 use std::marker::Model;
 use std::sync::Mutex;
+use write_history::Naming;
 
 /// A lock of a map, on a cache line of its own.
-pub type Lock<K, V, P> = CachePadded<Mutex<Stripe<K, V, P>>>;
+pub type Lock<K, V, P, J> = CachePadded<Mutex<Stripe<K, V, P, J>>>;
 
 /// The locks of a map. A clause sees how many there are.
 ///
 /// That threads may share them, where they may share keys and values, is proved here once, for this type. So the check
 /// of a program that shares a struct of maps does not look into the trie of each.
 #[derive(Drop)]
-pub struct Locks<K: PathKey, V, P: Keeps<K, V>> {
-    list: Vec<Lock<K, V, P>>,
+pub struct Locks<K: PathKey, V, P: Keeps<K, V>, J: Naming> {
+    list: Vec<Lock<K, V, P, J>>,
 }
 
-impl<K: PathKey, V, P: Keeps<K, V>> Model for Locks<K, V, P> {
+impl<K: PathKey, V, P: Keeps<K, V>, J: Naming> Model for Locks<K, V, P, J> {
     ghost Value = { ℕ };
 
     ghost view = { λ locks. length locks.list.items };
@@ -32,20 +33,22 @@ impl<K: PathKey, V, P: Keeps<K, V>> Model for Locks<K, V, P> {
 }
 
 // A struct with `also_owns` has neither by itself. This one owns nothing beside its list.
-unsafe impl<K: PathKey + Send + Sync, V: Send + Sync, P: Keeps<K, V>> Send for Locks<K, V, P> {}
+unsafe impl<K: PathKey + Send + Sync, V: Send + Sync, P: Keeps<K, V>, J: Naming> Send
+    for Locks<K, V, P, J> {}
 
-unsafe impl<K: PathKey + Send + Sync, V: Send + Sync, P: Keeps<K, V>> Sync for Locks<K, V, P> {}
+unsafe impl<K: PathKey + Send + Sync, V: Send + Sync, P: Keeps<K, V>, J: Naming> Sync
+    for Locks<K, V, P, J> {}
 
-impl<K: PathKey, V, P: Keeps<K, V>> Locks<K, V, P> {
+impl<K: PathKey, V, P: Keeps<K, V>, J: Naming> Locks<K, V, P, J> {
     /// The locks of the list.
-    pub fn new(list: Vec<Lock<K, V, P>>) -> Locks<K, V, P>
+    pub fn new(list: Vec<Lock<K, V, P, J>>) -> Locks<K, V, P, J>
         ensures { result ≡ length list.items }
     {
         Locks { list }
     }
 
     /// The locks in their order.
-    pub fn as_slice(&self) -> &[Lock<K, V, P>]
+    pub fn as_slice(&self) -> &[Lock<K, V, P, J>]
         ensures { length result.now ≡ self.now }
     {
         self.list.as_slice()

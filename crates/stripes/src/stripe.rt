@@ -1,17 +1,24 @@
 //! The part of a map that one lock keeps.
-ghost use Rattle.std.specs.Prelude.{◌≡◌, ◌≤◌, ◌&&◌, [], None, IfOk, IfSome, OnErr, OnOk, if◌then◌else◌, is_some, length, option_map};
+ghost use Rattle.std.specs.Prelude.{◌≡◌, ◌<◌, ◌≤◌, ◌&&◌, [], None, Some, IfOk, IfSome, OnErr, OnOk, if◌then◌else◌, is_some, length, option_map, true};
 ghost use Rattle.std.specs.Arc.{arc_value};
+ghost use Rattle.hash_path.specs.Digits.{fan_out};
 ghost use Rattle.stripes.specs.Rules.{AllKeep, Belongs, first_digit as digit_of};
+ghost use Rattle.stripes.specs.Told.{Tells};
 ghost use Rattle.versions.specs.Commands.{is_full_for};
 ghost use Rattle.versions.specs.Map.{value_at, with_pair, without};
 ghost use Rattle.versions.specs.Puts.{FullExactly};
 ghost use Rattle.versions.specs.declared.version.TheConstants.{MOST_PAIRS};
+ghost use Rattle.write_history.specs.declared.entry.Write.TheVariants.{Put, Remove};
+ghost use Rattle.write_history.specs.Rules.{HasHistory};
+ghost use Rattle.write_history.specs.Signers.{WroteIf, signed_if};
 
+mod clearing;
 mod deciding;
+mod following;
 mod marking;
 mod reading;
+mod seeing;
 
-use crate::empty_map::EmptyMap;
 use crate::keeps::{Anything, Keeps};
 use crate::marks::{Marks, mark};
 use hash_path::{FAN_OUT, Path, PathKey, Sought};
@@ -20,6 +27,7 @@ use std::marker::{Model, PhantomData};
 use std::sync::Arc;
 use trie_node::{Always, Condition, NoMemory, Stamp};
 use versions::{Change, MOST_PAIRS, Refusal, Version, law_of_put, law_of_removal};
+use write_history::{Author, Naming, Pair, Part, Unnamed};
 
 /// How many stripes a map has: one for each first digit of a path word.
 pub const STRIPES: u32 = FAN_OUT;
@@ -27,33 +35,40 @@ pub const STRIPES: u32 = FAN_OUT;
 /// The most pairs that one stripe may hold.
 pub const MOST_PAIRS_OF_STRIPE: u64 = 524_288;
 
-/// The pairs of a map whose keys' path words have one first digit. Each pair keeps the rule.
+/// The pairs of a map whose keys' path words have one first digit. Each pair keeps the rule, and where the map has a
+/// history, each key of the digit has the value that the history leaves it.
 ///
 /// A call on a key is given the key's path word, by which its stripe was chosen: the key is hashed once.
 ///
 /// Where it has `Marks`, a call that has written sets the bit of its path word before it returns. No clause sees them.
 #[derive(Drop)]
-pub struct Stripe<K: PathKey, V, P: Keeps<K, V> = Anything> {
+pub struct Stripe<K: PathKey, V, P: Keeps<K, V> = Anything, J: Naming = Unnamed> {
     version: Version<K, V>,
     first_digit: u32,
     marks: Option<Arc<Marks>>,
     rule: PhantomData<P>,
+    part: Part<K, V, J>,
 }
 
-impl<K: PathKey, V, P: Keeps<K, V>> Model for Stripe<K, V, P> {
+impl<K: PathKey, V, P: Keeps<K, V>, J: Naming> Model for Stripe<K, V, P, J> {
     ghost use Rattle.stripes.specs.Rules.{IsStripe};
     ghost use Rattle.stripes.specs.Stripes.{Content};
 
     ghost Value = { Content K V };
 
-    ghost view = { λ s. record { entries = s.version.entries; digit = s.first_digit } };
+    ghost view = { λ s. record { entries = s.version.entries; digit = s.first_digit; log = s.part.log } };
 
-    ghost invariant = { λ s. IsStripe K.cmp K.path_of P.holds s.first_digit s.version };
+    ghost invariant = { λ s. IsStripe K.cmp K.path_of P.holds J.book s.first_digit s.version s.part };
 }
 
-impl<K: PathKey + Drop, V: Drop, P: Keeps<K, V>> Stripe<K, V, P> {
-    /// The stripe of a first digit, with no pairs.
-    pub fn empty(alloc: Global, first_digit: u32) -> Result<Stripe<K, V, P>, NoMemory>
+impl<K: PathKey + Drop, V: Drop, P: Keeps<K, V>, J: Naming> Stripe<K, V, P, J> {
+    /// The stripe of a first digit, with no pairs, where the history has no write yet, if there is one.
+    pub fn empty(
+        alloc: Global,
+        first_digit: u32,
+        part: Part<K, V, J>,
+    ) -> Result<Stripe<K, V, P, J>, NoMemory>
+        requires { HasHistory J.book → (first_digit < fan_out) × (part.digit ≡ Some first_digit) × (part.log ≡ []) }
         ensures entries { IfOk result (λ stripe. stripe.entries ≡ []) }
         ensures digit { IfOk result (λ stripe. stripe.digit ≡ first_digit) }
     {
@@ -62,6 +77,7 @@ impl<K: PathKey + Drop, V: Drop, P: Keeps<K, V>> Stripe<K, V, P> {
             first_digit,
             marks: None,
             rule: PhantomData,
+            part,
         })
     }
 
@@ -102,6 +118,7 @@ impl<K: PathKey + Drop, V: Drop, P: Keeps<K, V>> Stripe<K, V, P> {
         path: Path,
         value: Arc<V>,
         condition: &C,
+        author: &mut Author<J>,
     ) -> Result<Change<V>, Refusal>
         requires rule { P.holds key.value value.value }
         requires path { path.0 ≡ K.path_of key.value }
@@ -113,12 +130,21 @@ impl<K: PathKey + Drop, V: Drop, P: Keeps<K, V>> Stripe<K, V, P> {
         ensures full { FullExactly result (C.holds condition.now None && is_full_for K.cmp MOST_PAIRS_OF_STRIPE self.old.entries key.value) }
         ensures err { OnErr result (self.new ≡ self.old) }
         ensures kept { IfOk result (λ change. IfSome change.previous (λ value. P.holds key.value value.value)) }
+        ensures wrote { HasHistory J.book → IfOk result (λ change. WroteIf K.cmp K.path_of change.written (Put key.value value.value) key.value (option_map arc_value change.previous) author.old self.old.log self.new.log) }
+        ensures author { IfOk result (λ change. author.new ≡ signed_if change.written author.old) }
+        ensures unsigned { OnErr result (author.new ≡ author.old) }
     {
         law_of_put::<K, V>();
+        let pair = Pair { key, value };
+        let intent = self.part.putting(author, &pair);
+        let Pair { key, value } = pair;
         let change = self
             .version
             .put_where_along(alloc, key, path, value, condition)?;
         mark(&self.marks, path, change.written);
+        if change.written {
+            self.part.write(&intent, author);
+        }
         Ok(change)
     }
 
@@ -132,6 +158,7 @@ impl<K: PathKey + Drop, V: Drop, P: Keeps<K, V>> Stripe<K, V, P> {
         key: Q,
         path: Path,
         condition: &C,
+        author: &mut Author<J>,
     ) -> Result<Change<V>, NoMemory>
         requires path { path.0 ≡ K.path_of (Q.key_of key) }
         requires place { digit_of K.path_of (Q.key_of key) ≡ self.old.digit }
@@ -141,12 +168,19 @@ impl<K: PathKey + Drop, V: Drop, P: Keeps<K, V>> Stripe<K, V, P> {
         ensures digit { self.new.digit ≡ self.old.digit }
         ensures err { OnErr result (self.new ≡ self.old) }
         ensures kept { IfOk result (λ change. IfSome change.previous (λ value. P.holds (Q.key_of key) value.value)) }
+        ensures wrote { HasHistory J.book → IfOk result (λ change. WroteIf K.cmp K.path_of change.written (Remove (Q.key_of key)) (Q.key_of key) (option_map arc_value change.previous) author.old self.old.log self.new.log) }
+        ensures author { IfOk result (λ change. author.new ≡ signed_if change.written author.old) }
+        ensures unsigned { OnErr result (author.new ≡ author.old) }
     {
         law_of_removal::<K, V>();
+        let intent = self.part.removing(author, &key);
         let change = self
             .version
             .remove_where_along(alloc, key, path, condition)?;
         mark(&self.marks, path, change.written);
+        if change.written {
+            self.part.write(&intent, author);
+        }
         Ok(change)
     }
 
@@ -158,6 +192,7 @@ impl<K: PathKey + Drop, V: Drop, P: Keeps<K, V>> Stripe<K, V, P> {
         key: Arc<K>,
         path: Path,
         value: Arc<V>,
+        author: &mut Author<J>,
     ) -> Result<Option<Arc<V>>, Refusal>
         requires rule { P.holds key.value value.value }
         requires path { path.0 ≡ K.path_of key.value }
@@ -168,8 +203,14 @@ impl<K: PathKey + Drop, V: Drop, P: Keeps<K, V>> Stripe<K, V, P> {
         ensures full { FullExactly result (is_full_for K.cmp MOST_PAIRS_OF_STRIPE self.old.entries key.value) }
         ensures err { OnErr result (self.new ≡ self.old) }
         ensures kept { IfOk result (λ before. IfSome before (λ value. P.holds key.value value.value)) }
+        ensures wrote { HasHistory J.book → IfOk result (λ before. WroteIf K.cmp K.path_of true (Put key.value value.value) key.value (option_map arc_value before) author.old self.old.log self.new.log) }
+        ensures author { OnOk result (author.new ≡ signed_if true author.old) }
+        ensures unsigned { OnErr result (author.new ≡ author.old) }
     {
-        Ok(self.put_where(alloc, key, path, value, &Always)?.previous)
+        Ok(
+            self.put_where(alloc, key, path, value, &Always, author)?
+                .previous,
+        )
     }
 
     /// Removes the key, and returns the value before, or none. The only error is `NoMemory`, if memory runs out. The
@@ -179,6 +220,7 @@ impl<K: PathKey + Drop, V: Drop, P: Keeps<K, V>> Stripe<K, V, P> {
         alloc: Global,
         key: Q,
         path: Path,
+        author: &mut Author<J>,
     ) -> Result<Option<Arc<V>>, NoMemory>
         requires path { path.0 ≡ K.path_of (Q.key_of key) }
         requires place { digit_of K.path_of (Q.key_of key) ≡ self.old.digit }
@@ -187,33 +229,35 @@ impl<K: PathKey + Drop, V: Drop, P: Keeps<K, V>> Stripe<K, V, P> {
         ensures digit { self.new.digit ≡ self.old.digit }
         ensures err { OnErr result (self.new ≡ self.old) }
         ensures kept { IfOk result (λ before. IfSome before (λ value. P.holds (Q.key_of key) value.value)) }
+        ensures wrote { HasHistory J.book → IfOk result (λ before. WroteIf K.cmp K.path_of (is_some before) (Remove (Q.key_of key)) (Q.key_of key) (option_map arc_value before) author.old self.old.log self.new.log) }
+        ensures author { IfOk result (λ before. author.new ≡ signed_if (is_some before) author.old) }
+        ensures unsigned { OnErr result (author.new ≡ author.old) }
     {
         law_of_removal::<K, V>();
+        let intent = self.part.removing(author, &key);
         let before = self.version.remove_along(alloc, key, path)?;
-        mark(&self.marks, path, before.is_some());
+        let written = before.is_some();
+        mark(&self.marks, path, written);
+        if written {
+            self.part.write(&intent, author);
+        }
         Ok(before)
     }
 
-    /// Removes all pairs. The stripe's marks end before that, and are dropped.
-    pub fn clear(&mut self, empty: EmptyMap<K, V>)
-        ensures entries { self.new.entries ≡ [] }
-        ensures digit { self.new.digit ≡ self.old.digit }
-    {
-        self.end_marks();
-        self.version = empty.into_map();
-    }
-
-    /// What each pair of the stripe keeps: the rule, and the stripe's first digit. It does nothing.
+    /// What each pair of the stripe keeps: the rule, and the stripe's first digit; and that each key of the digit has the
+    /// value that the history leaves it, if there is one. It does nothing.
     pub fn law(&self)
-        ensures { AllKeep K.cmp (Belongs K.path_of P.holds self.now.digit) self.now.entries }
+        ensures pairs { AllKeep K.cmp (Belongs K.path_of P.holds self.now.digit) self.now.entries }
+        ensures tells { HasHistory J.book → Tells K.cmp K.path_of self.now.digit self.now.entries self.now.log }
     {
         let _ = &self.version;
     }
 
-    /// Another stripe with the same pairs and no marks, which shares every node. It makes no request for memory, but the
-    /// clone of a handle may be refused.
-    pub fn fork(&self) -> Result<Stripe<K, V, P>, NoMemory>
-        ensures { IfOk result (λ fork. fork ≡ self.now) }
+    /// Another stripe with the same pairs, no marks and no history, which shares every node. It makes no request for
+    /// memory, but the clone of a handle may be refused.
+    pub fn fork(&self) -> Result<Stripe<K, V, P, Unnamed>, NoMemory>
+        ensures entries { IfOk result (λ fork. fork.entries ≡ self.now.entries) }
+        ensures digit { IfOk result (λ fork. fork.digit ≡ self.now.digit) }
     {
         self.len();
         Ok(Stripe {
@@ -221,6 +265,7 @@ impl<K: PathKey + Drop, V: Drop, P: Keeps<K, V>> Stripe<K, V, P> {
             first_digit: self.first_digit,
             marks: None,
             rule: PhantomData,
+            part: Part::idle(),
         })
     }
 

@@ -1,8 +1,8 @@
 //! The locks of a map.
-ghost use Rattle.std.specs.Prelude.{◌≡◌, ◌<◌, ◌≤◌, ◌*◌, ◌-◌, ◌++◌, ◌∷◌, [], IfOk, map};
+ghost use Rattle.std.specs.Prelude.{◌≡◌, ◌<◌, ◌≤◌, ◌*◌, ◌-◌, ◌++◌, ◌∷◌, [], IfOk, length, map};
 ghost use Rattle.std.specs.Sync.Mutex.{mutex_guard_value};
 ghost use Rattle.hash_path.specs.Digits.{digit, fan_out};
-ghost use Rattle.stripes.specs.Stripes.{digits_of, up_to};
+ghost use Rattle.stripes.specs.Stripes.{digits_of, maps_of, up_to};
 
 use crate::empty_map::EmptyMap;
 use crate::keeps::Keeps;
@@ -13,6 +13,7 @@ use hash_path::{Path, PathKey};
 use std::alloc::Global;
 use std::sync::{Mutex, MutexGuard, Wait};
 use trie_node::NoMemory;
+use write_history::{Authors, Naming, Part, Parts, Unnamed};
 
 // How often a thread that finds a lock taken tries again before it sleeps until the lock is free.
 const TRIES: u32 = 20;
@@ -21,17 +22,20 @@ const TRIES: u32 = 20;
 ///
 /// No lock says which stripe it keeps, so a thread that has taken one looks.
 #[derive(Drop)]
-pub struct Stripes<K: PathKey, V, P: Keeps<K, V>> {
-    locks: Locks<K, V, P>,
+pub struct Stripes<K: PathKey, V, P: Keeps<K, V>, J: Naming = Unnamed> {
+    locks: Locks<K, V, P, J>,
     ghost whole: { locks ≡ fan_out },
 }
 
 /// Stripes that are all locked.
-pub type Guards<'m, K, V, P> = Vec<MutexGuard<'m, Stripe<K, V, P>>>;
+pub type Guards<'m, K, V, P, J> = Vec<MutexGuard<'m, Stripe<K, V, P, J>>>;
 
-impl<K: PathKey + Drop, V: Drop, P: Keeps<K, V>> Stripes<K, V, P> {
+impl<K: PathKey + Drop, V: Drop, P: Keeps<K, V>, J: Naming> Stripes<K, V, P, J> {
     /// The stripes under locks, in the order of their digits.
-    pub fn new(alloc: Global, stripes: Vec<Stripe<K, V, P>>) -> Result<Stripes<K, V, P>, NoMemory>
+    pub fn new(
+        alloc: Global,
+        stripes: Vec<Stripe<K, V, P, J>>,
+    ) -> Result<Stripes<K, V, P, J>, NoMemory>
         requires { digits_of stripes.items ≡ up_to fan_out }
     {
         let mut locks = Vec::with_capacity(alloc, STRIPES as usize)?;
@@ -45,7 +49,7 @@ impl<K: PathKey + Drop, V: Drop, P: Keeps<K, V>> Stripes<K, V, P> {
 
     // What the lock of this place keeps. A lock is mostly held for less time than a thread takes to fall asleep, so a
     // thread that finds it taken tries again, after pauses that grow, before it sleeps.
-    fn lock_at<R: Wait>(&self, rt: &R, place: u32) -> MutexGuard<'_, Stripe<K, V, P>>
+    fn lock_at<R: Wait>(&self, rt: &R, place: u32) -> MutexGuard<'_, Stripe<K, V, P, J>>
         requires { place < fan_out }
     {
         let lock = &self.locks.as_slice()[place as usize];
@@ -60,7 +64,7 @@ impl<K: PathKey + Drop, V: Drop, P: Keeps<K, V>> Stripes<K, V, P> {
     }
 
     /// The stripe of the digit, which no other thread has until the guard is dropped.
-    pub fn locked<R: Wait>(&self, rt: &R, digit: u32) -> MutexGuard<'_, Stripe<K, V, P>>
+    pub fn locked<R: Wait>(&self, rt: &R, digit: u32) -> MutexGuard<'_, Stripe<K, V, P, J>>
         requires { digit < fan_out }
         ensures { (mutex_guard_value result).digit ≡ digit }
     {
@@ -74,14 +78,14 @@ impl<K: PathKey + Drop, V: Drop, P: Keeps<K, V>> Stripes<K, V, P> {
     }
 
     /// The stripe of the keys that have this path word.
-    pub fn stripe_at<R: Wait>(&self, rt: &R, path: Path) -> MutexGuard<'_, Stripe<K, V, P>>
+    pub fn stripe_at<R: Wait>(&self, rt: &R, path: Path) -> MutexGuard<'_, Stripe<K, V, P, J>>
         ensures { (mutex_guard_value result).digit ≡ digit path.0 0 }
     {
         self.locked(rt, path.digit(0))
     }
 
     /// All stripes, in the order of their digits. Each is taken once those before it are held.
-    pub fn all<R: Wait>(&self, rt: &R, alloc: Global) -> Result<Guards<'_, K, V, P>, NoMemory>
+    pub fn all<R: Wait>(&self, rt: &R, alloc: Global) -> Result<Guards<'_, K, V, P, J>, NoMemory>
         ensures { IfOk result (λ held. digits_of (map mutex_guard_value held.items) ≡ up_to fan_out) }
     {
         let mut held = Vec::with_capacity(alloc, STRIPES as usize)?;
@@ -132,50 +136,57 @@ pub(crate) fn pushed<T: Drop>(mut list: Vec<T>, last: T) -> Result<Vec<T>, NoMem
     Ok(list)
 }
 
-/// A stripe of each digit, in order, with no pairs.
+/// A stripe of each digit, in order, with no pairs and no history.
 pub fn empties<K: PathKey + Drop, V: Drop, P: Keeps<K, V>>(
     alloc: Global,
-) -> Result<Vec<Stripe<K, V, P>>, NoMemory>
+) -> Result<Vec<Stripe<K, V, P, Unnamed>>, NoMemory>
     ensures { IfOk result (λ stripes. digits_of stripes.items ≡ up_to fan_out) }
 {
     let mut stripes = Vec::with_capacity(alloc, STRIPES as usize)?;
     for digit in 0..STRIPES {
-        stripes.push(Stripe::empty(alloc, digit)?)?;
+        stripes.push(Stripe::empty(alloc, digit, Part::idle())?)?;
     }
     Ok(stripes)
+}
+
+/// A stripe of each digit, in order, with no pairs and these parts of a history; and the authors of that history.
+pub fn told_empties<K: PathKey + Drop, V: Drop, P: Keeps<K, V>, J: Naming>(
+    alloc: Global,
+    mut parts: Parts<K, V, J>,
+) -> Result<(Vec<Stripe<K, V, P, J>>, Authors<J>), NoMemory>
+    requires { parts.next ≡ 0 }
+    ensures digits { IfOk result (λ both. digits_of both.0.items ≡ up_to fan_out) }
+    ensures authors { IfOk result (λ both. both.1 ≡ parts.authors) }
+{
+    let mut stripes = Vec::with_capacity(alloc, STRIPES as usize)?;
+    for digit in 0..STRIPES {
+        stripes.push(Stripe::empty(alloc, digit, parts.take())?)?;
+    }
+    Ok((stripes, parts.into_authors()))
 }
 
 /// An empty map for each stripe.
 pub fn empty_maps<K: PathKey + Drop, V: Drop>(
     alloc: Global,
-) -> Result<Vec<EmptyMap<K, V>>, NoMemory> {
+) -> Result<Vec<EmptyMap<K, V>>, NoMemory>
+    ensures { IfOk result (λ maps. length maps.items ≡ fan_out) }
+{
     let mut empty_maps = Vec::with_capacity(alloc, STRIPES as usize)?;
-    for _ in 0..STRIPES {
+    for digit in 0..STRIPES {
         empty_maps.push(EmptyMap::new(alloc)?)?;
     }
     Ok(empty_maps)
 }
 
-/// Removes all pairs of stripes that are all held, and lets each go then: an empty map for each.
-pub fn clear_all<K: PathKey + Drop, V: Drop, P: Keeps<K, V>>(
-    held: Guards<'_, K, V, P>,
-    mut empty_maps: Vec<EmptyMap<K, V>>,
-) {
-    for mut stripe in held {
-        if let Some(empty) = empty_maps.pop() {
-            stripe.clear(empty);
-        }
-    }
-}
-
 /// A fork of each stripe, in order. Where `copies` has room for them it makes no request for memory, but the clone of a
 /// handle may be refused.
-pub fn forks<K: PathKey + Drop, V: Drop, P: Keeps<K, V>>(
-    mut copies: Vec<Stripe<K, V, P>>,
-    held: &Guards<'_, K, V, P>,
-) -> Result<Vec<Stripe<K, V, P>>, NoMemory>
+pub fn forks<K: PathKey + Drop, V: Drop, P: Keeps<K, V>, J: Naming>(
+    mut copies: Vec<Stripe<K, V, P, Unnamed>>,
+    held: &Guards<'_, K, V, P, J>,
+) -> Result<Vec<Stripe<K, V, P, Unnamed>>, NoMemory>
     requires { copies.items ≡ [] }
-    ensures { IfOk result (λ stripes. stripes.items ≡ map mutex_guard_value held.now.items) }
+    ensures digits { IfOk result (λ stripes. digits_of stripes.items ≡ digits_of (map mutex_guard_value held.now.items)) }
+    ensures maps { IfOk result (λ stripes. maps_of stripes.items ≡ maps_of (map mutex_guard_value held.now.items)) }
 {
     for stripe in held {
         copies.push(stripe.fork()?)?;

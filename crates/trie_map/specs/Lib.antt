@@ -5,4 +5,6 @@ pub use Rattle.bulk_work.specs.Summaries
 pub use Rattle.stripes.specs.Rules
 pub use Rattle.stripes.specs.Updates
 pub use Rattle.map_view.specs.Questions
+pub mod Fullness
 pub mod Iterables
+pub mod Sessions

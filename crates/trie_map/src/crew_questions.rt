@@ -18,9 +18,15 @@ use stripes::Keeps;
 use task_pool::Crew;
 use top_pairs::Ranked;
 use trie_node::NoMemory;
+use write_history::Naming;
 
 /// Each question takes a view, and a crew works it there: nobody waits for the crew.
-impl<K: PathKey + Drop + Send + Sync, V: Drop + Send + Sync, P: Keeps<K, V>> TrieMap<K, V, P> {
+impl<K: PathKey + Drop + Send + Sync, V: Drop + Send + Sync, P: Keeps<K, V>, J: Naming> TrieMap<
+    K,
+    V,
+    P,
+    J,
+> {
     /// How many pairs pass the test, of the map as it stands at one moment of the call, counted by a crew over a view.
     ///
     /// Cost: O(n), shared out; under all locks for the view alone. Refused: `NoMemory`, if memory runs out.

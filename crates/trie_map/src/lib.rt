@@ -6,6 +6,7 @@
 #![tactic(auto)]
 
 mod crew_questions;
+mod history_law;
 mod origin;
 mod put_error;
 mod shown;
@@ -18,6 +19,7 @@ pub use bulk_work::{Answer, Asks, Pair};
 pub use combiner::{Both, Greatest, Least, Monoid, Sum};
 pub use group_counts::Groups;
 pub use hash_path::PathKey;
+pub use history_law::law_of_last_put;
 pub use iter::{Pairs, pairs_of};
 pub use keys::ByteText;
 pub use map_reader::{Reader, Readers};
@@ -26,6 +28,6 @@ pub use put_error::PutError;
 pub use stripes::{Anything, Keeps, MOST_PAIRS_OF_STRIPE};
 pub use task_pool::Crew;
 pub use top_pairs::{Ranked, Scored};
-pub use trie_map::TrieMap;
+pub use trie_map::{Session, TrieMap};
 pub use trie_node::NoMemory;
 pub use versions::{MOST_PAIRS, Refusal, Version};

@@ -12,11 +12,13 @@ mod many;
 mod reading;
 mod reading_hot;
 mod retaining;
+mod session;
 
 use crate::origin::{Origin, found_or_made, found_or_tried};
 use crate::put_error::PutError;
 use hash_path::{Path, PathKey, Sought};
 use map_view::View;
+pub use session::Session;
 use std::alloc::Global;
 use std::sync::{Arc, Wait};
 use stripes::{
@@ -25,6 +27,7 @@ use stripes::{
 use trie_node::{Always, Condition, IfAbsent, IfEqual, IfPresent, NoMemory};
 use united_roots::RootRow;
 use versions::{Change, Refusal};
+use write_history::{Author, Naming, Unnamed};
 
 /// A map that threads share by reference, for as long as a service runs.
 ///
@@ -39,9 +42,9 @@ use versions::{Change, Refusal};
 /// It has 32 stripes, each under a lock of its own: the pairs whose path words begin with the same digit. Calls of keys
 /// in different stripes do not wait for one another. What a call finds is what other threads left, so a clause says of
 /// it only that its pairs keep the rule. `is_empty`, `len` and `contains_key` return what is there, `clear` removes it,
-/// and `view`, `snapshot` and `query` take all stripes as they stand at one moment. The code and tests show that: no
-/// clause can name what a lock keeps. A call that is refused has changed nothing; `extend` and `retain`, and calls
-/// whose closure has run, say more.
+/// and `view`, `snapshot` and `query` take all stripes as they stand at one moment. The code and tests show that; of a
+/// map that has a history, `J`, the clauses of a [`Session`] say it. A call that is refused has changed nothing;
+/// `extend` and `retain`, and calls whose closure has run, say more.
 ///
 /// # What runs under a lock
 ///
@@ -67,9 +70,9 @@ use versions::{Change, Refusal};
 /// stripes at one moment, for short steps: all other calls wait for these. A view or a snapshot keeps the nodes of its
 /// moment, so a write copies those of its way, and memory grows with what is written meanwhile.
 #[derive(Drop)]
-pub struct TrieMap<K: PathKey, V, P: Keeps<K, V> = Anything> {
+pub struct TrieMap<K: PathKey, V, P: Keeps<K, V> = Anything, J: Naming = Unnamed> {
     alloc: Global,
-    row: Stripes<K, V, P>,
+    row: Stripes<K, V, P, J>,
 }
 
 impl<K: PathKey + Drop, V: Drop, P: Keeps<K, V>> TrieMap<K, V, P> {
@@ -83,7 +86,9 @@ impl<K: PathKey + Drop, V: Drop, P: Keeps<K, V>> TrieMap<K, V, P> {
             row: Stripes::new(alloc, empties(alloc)?)?,
         })
     }
+}
 
+impl<K: PathKey + Drop, V: Drop, P: Keeps<K, V>, J: Naming> TrieMap<K, V, P, J> {
     /// The value of the key, or none.
     ///
     /// Cost: O(log n), under the lock of the key's stripe, and no request for memory. Refused: `NoMemory`, where the
@@ -228,15 +233,18 @@ impl<K: PathKey + Drop, V: Drop, P: Keeps<K, V>> TrieMap<K, V, P> {
         let held = self.row.all(rt, self.alloc)?;
         // The pairs are dropped once the locks are free.
         let before = forks(room, &held)?;
-        clear_all(held, empty_maps);
+        if let Some(stripe) = held.first() {
+            let all = stripe.gathered();
+            clear_all(held, empty_maps, all, &mut Author::nobody());
+        }
         drop(before);
         Ok(())
     }
 
     /// The map as it stands at one moment of the call. The view keeps the nodes of that moment.
     ///
-    /// Its clause says that each pair keeps the rule. That it has the pairs of all stripes, and that no lock was free
-    /// in between, no clause can say: each step of it is proved (`Stripes::all`, `joined`), and tests show it whole.
+    /// Its clause says that each pair keeps the rule; that it has the pairs of one moment, that of [`Session::view`].
+    /// Here each step of it is proved (`Stripes::all`, `joined`), and tests show it whole.
     ///
     /// Cost: O(1), under all locks. Refused: `NoMemory`, if memory runs out.
     pub fn view<R: Wait>(&self, rt: &R) -> Result<View<K, V, P>, NoMemory>
@@ -250,7 +258,7 @@ impl<K: PathKey + Drop, V: Drop, P: Keeps<K, V>> TrieMap<K, V, P> {
 
     /// Another map with the pairs of one moment of the call, and locks of its own: the two go separate ways.
     ///
-    /// That each of its pairs keeps the rule is part of its type. Which pairs it has no clause can say: tests do.
+    /// That each of its pairs keeps the rule is part of its type. Which pairs it has no clause says: tests do.
     ///
     /// Cost: O(1), under all locks. Refused: `NoMemory`, if memory runs out.
     pub fn snapshot<R: Wait>(&self, rt: &R) -> Result<TrieMap<K, V, P>, NoMemory> {
@@ -291,7 +299,14 @@ impl<K: PathKey + Drop, V: Drop, P: Keeps<K, V>> TrieMap<K, V, P> {
         ensures kept { IfOk result (λ change. IfSome change.previous (λ found. P.holds key.value found.value)) }
     {
         let mut stripe = self.row.stripe_at(rt, path);
-        match stripe.put_where(self.alloc, key, path, value, condition) {
+        match stripe.put_where(
+            self.alloc,
+            key,
+            path,
+            value,
+            condition,
+            &mut Author::nobody(),
+        ) {
             Ok(change) => Ok(change),
             Err(refusal) => Err(PutError::of(refusal)),
         }
@@ -313,7 +328,14 @@ impl<K: PathKey + Drop, V: Drop, P: Keeps<K, V>> TrieMap<K, V, P> {
         ensures kept { IfOk result (λ change. IfSome change.previous (λ found. P.holds key.value found.value)) }
     {
         let mut stripe = self.row.stripe_at(rt, path);
-        match stripe.put_where(self.alloc, key, path, value, condition) {
+        match stripe.put_where(
+            self.alloc,
+            key,
+            path,
+            value,
+            condition,
+            &mut Author::nobody(),
+        ) {
             Ok(change) => Ok(change),
             Err(Refusal::NoMemory) => Err(NoMemory),
             Err(_) => unreachable!(),
@@ -331,7 +353,7 @@ impl<K: PathKey + Drop, V: Drop, P: Keeps<K, V>> TrieMap<K, V, P> {
     {
         let path = key.path_sought();
         let mut stripe = self.row.stripe_at(rt, path);
-        stripe.remove_where(self.alloc, key, path, condition)
+        stripe.remove_where(self.alloc, key, path, condition, &mut Author::nobody())
     }
 
     // A fork of each stripe, all as they stand at one moment when all are held.
@@ -345,7 +367,7 @@ impl<K: PathKey + Drop, V: Drop, P: Keeps<K, V>> TrieMap<K, V, P> {
     }
 }
 
-impl<K: PathKey + Drop, V: Eq + Drop, P: Keeps<K, V>> TrieMap<K, V, P> {
+impl<K: PathKey + Drop, V: Eq + Drop, P: Keeps<K, V>, J: Naming> TrieMap<K, V, P, J> {
     /// Maps the key to the value where it is mapped to a value equal to `old`, and returns whether it was.
     ///
     /// Cost: O(log n), under the lock of the key's stripe, where `V::eq` runs. Refused: `NoMemory`, if memory runs out.

@@ -1,11 +1,14 @@
 //! Writes of a stripe that a closure decides on.
-ghost use Rattle.std.specs.Prelude.{◌≡◌, Bool, IfOk, IfSome, OnErr, OnOk, Option, Result, if◌then◌else◌, option_map};
+ghost use Rattle.std.specs.Prelude.{◌≡◌, ◌||◌, Bool, IfOk, IfSome, IsTrue, OnErr, OnOk, Option, Result, if◌then◌else◌, is_some, option_map, true};
 ghost use Rattle.std.specs.Arc.{arc_value};
 ghost use Rattle.stripes.specs.Rules.{first_digit as digit_of};
-ghost use Rattle.stripes.specs.Updates.{MayMake, MayPass, Sets, TriesToSet, value_if};
+ghost use Rattle.stripes.specs.Updates.{MayMake, MayPass, Sets, TriesToSet, value_if, write_of};
 ghost use Rattle.versions.specs.Commands.{is_full_for};
 ghost use Rattle.versions.specs.Map.{value_at, with_pair, without};
 ghost use Rattle.versions.specs.Puts.{FullExactly};
+ghost use Rattle.write_history.specs.declared.entry.Write.TheVariants.{Put, Remove};
+ghost use Rattle.write_history.specs.Rules.{HasHistory};
+ghost use Rattle.write_history.specs.Signers.{WroteIf};
 
 use super::{MOST_PAIRS_OF_STRIPE, Stripe};
 use crate::keeps::Keeps;
@@ -14,8 +17,9 @@ use std::alloc::Global;
 use std::sync::Arc;
 use trie_node::NoMemory;
 use versions::Refusal;
+use write_history::{Author, Naming};
 
-impl<K: PathKey + Drop, V: Drop, P: Keeps<K, V>> Stripe<K, V, P> {
+impl<K: PathKey + Drop, V: Drop, P: Keeps<K, V>, J: Naming> Stripe<K, V, P, J> {
     /// Calls `change` at the value that the key has, or at none. The key has then what it made: a value is stored, and
     /// for none the key is removed. It returns the value before, or none.
     ///
@@ -27,19 +31,20 @@ impl<K: PathKey + Drop, V: Drop, P: Keeps<K, V>> Stripe<K, V, P> {
         key: Arc<K>,
         path: Path,
         change: F,
+        author: &mut Author<J>,
     ) -> Result<Option<Arc<V>>, Refusal>
         requires path { path.0 ≡ K.path_of key.value }
         requires place { digit_of K.path_of key.value ≡ self.old.digit }
         requires callable { (old : _) → IfSome old (λ value. P.holds key.value value.now) → F.pre change old }
         requires rule { (old : _) (made : _) → IfSome old (λ value. P.holds key.value value.now) → F.post change old made → IfSome made (P.holds key.value) }
         ensures before { IfOk result (λ before. option_map arc_value before ≡ value_at K.cmp self.old.entries key.value) }
-        ensures made { (made : Option V) × MayMake F.FnOnce change (value_at K.cmp self.old.entries key.value) made × Sets K.cmp self.old.entries key.value made result self.new.entries }
+        ensures made { (made : Option V) × MayMake F.FnOnce change (value_at K.cmp self.old.entries key.value) made × Sets K.cmp self.old.entries key.value made result self.new.entries × (HasHistory J.book → IfOk result (λ before. WroteIf K.cmp K.path_of (is_some made || is_some before) (write_of key.value made) key.value (option_map arc_value before) author.old self.old.log self.new.log)) }
         ensures digit { self.new.digit ≡ self.old.digit }
         ensures err { OnErr result (self.new ≡ self.old) }
         ensures kept { IfOk result (λ before. IfSome before (λ value. P.holds key.value value.value)) }
     {
         let made = self.read(&key, path, change);
-        self.set(alloc, key, path, made)
+        self.set(alloc, key, path, made, author)
     }
 
     /// What `update` does, where `change` returns something beside what it made: that is returned.
@@ -49,19 +54,20 @@ impl<K: PathKey + Drop, V: Drop, P: Keeps<K, V>> Stripe<K, V, P> {
         key: Arc<K>,
         path: Path,
         change: F,
+        author: &mut Author<J>,
     ) -> Result<(Option<Arc<V>>, T), Refusal>
         requires path { path.0 ≡ K.path_of key.value }
         requires place { digit_of K.path_of key.value ≡ self.old.digit }
         requires callable { (old : _) → IfSome old (λ value. P.holds key.value value.now) → F.pre change old }
         requires rule { (old : _) (made : _) → IfSome old (λ value. P.holds key.value value.now) → F.post change old made → IfSome made.0 (P.holds key.value) }
         ensures before { IfOk result (λ both. option_map arc_value both.0 ≡ value_at K.cmp self.old.entries key.value) }
-        ensures made { (made : Option V) × (answer : T) × MayMake F.FnOnce change (value_at K.cmp self.old.entries key.value) (made, answer) × Sets K.cmp self.old.entries key.value made result self.new.entries × IfOk result (λ both. both.1 ≡ answer) }
+        ensures made { (made : Option V) × (answer : T) × MayMake F.FnOnce change (value_at K.cmp self.old.entries key.value) (made, answer) × Sets K.cmp self.old.entries key.value made result self.new.entries × IfOk result (λ both. both.1 ≡ answer) × (HasHistory J.book → IfOk result (λ both. WroteIf K.cmp K.path_of (is_some made || is_some both.0) (write_of key.value made) key.value (option_map arc_value both.0) author.old self.old.log self.new.log)) }
         ensures digit { self.new.digit ≡ self.old.digit }
         ensures err { OnErr result (self.new ≡ self.old) }
         ensures kept { IfOk result (λ both. IfSome both.0 (λ value. P.holds key.value value.value)) }
     {
         let (made, answer) = self.read(&key, path, change);
-        match self.set(alloc, key, path, made) {
+        match self.set(alloc, key, path, made, author) {
             Ok(before) => Ok((before, answer)),
             Err(refusal) => Err(refusal),
         }
@@ -74,6 +80,7 @@ impl<K: PathKey + Drop, V: Drop, P: Keeps<K, V>> Stripe<K, V, P> {
         key: Arc<K>,
         path: Path,
         change: F,
+        author: &mut Author<J>,
     ) -> Result<Result<Option<Arc<V>>, E>, Refusal>
         requires path { path.0 ≡ K.path_of key.value }
         requires place { digit_of K.path_of key.value ≡ self.old.digit }
@@ -86,7 +93,7 @@ impl<K: PathKey + Drop, V: Drop, P: Keeps<K, V>> Stripe<K, V, P> {
         ensures kept { IfOk result (λ done. IfOk done (λ before. IfSome before (λ value. P.holds key.value value.value))) }
     {
         match self.read(&key, path, change) {
-            Ok(made) => Ok(Ok(self.set(alloc, key, path, made)?)),
+            Ok(made) => Ok(Ok(self.set(alloc, key, path, made, author)?)),
             Err(error) => Ok(Err(error)),
         }
     }
@@ -100,17 +107,19 @@ impl<K: PathKey + Drop, V: Drop, P: Keeps<K, V>> Stripe<K, V, P> {
         key: Q,
         path: Path,
         test: F,
+        author: &mut Author<J>,
     ) -> Result<Option<Arc<V>>, NoMemory>
         requires path { path.0 ≡ K.path_of (Q.key_of key) }
         requires place { digit_of K.path_of (Q.key_of key) ≡ self.old.digit }
         requires callable { (value : _) → P.holds (Q.key_of key) value.now → F.pre test value }
         ensures removed { (passes : Bool) × MayPass F.FnOnce test (value_at K.cmp self.old.entries (Q.key_of key)) passes × OnOk result (self.new.entries ≡ (if passes then without K.cmp self.old.entries (Q.key_of key) else self.old.entries)) × IfOk result (λ removed. option_map arc_value removed ≡ value_if K.cmp passes self.old.entries (Q.key_of key)) }
+        ensures wrote { HasHistory J.book → IfOk result (λ removed. IsTrue (is_some removed) → WroteIf K.cmp K.path_of true (Remove (Q.key_of key)) (Q.key_of key) (option_map arc_value removed) author.old self.old.log self.new.log) }
         ensures digit { self.new.digit ≡ self.old.digit }
         ensures err { OnErr result (self.new ≡ self.old) }
         ensures kept { IfOk result (λ removed. IfSome removed (λ value. P.holds (Q.key_of key) value.value)) }
     {
         if self.passes(key, path, test) {
-            self.remove(alloc, key, path)
+            self.remove(alloc, key, path, author)
         } else {
             Ok(None)
         }
@@ -123,19 +132,21 @@ impl<K: PathKey + Drop, V: Drop, P: Keeps<K, V>> Stripe<K, V, P> {
         key: Arc<K>,
         path: Path,
         made: Option<V>,
+        author: &mut Author<J>,
     ) -> Result<Option<Arc<V>>, Refusal>
         requires rule { IfSome made (P.holds key.value) }
         requires path { path.0 ≡ K.path_of key.value }
         requires place { digit_of K.path_of key.value ≡ self.old.digit }
         ensures before { IfOk result (λ before. option_map arc_value before ≡ value_at K.cmp self.old.entries key.value) }
         ensures sets { Sets K.cmp self.old.entries key.value made result self.new.entries }
+        ensures wrote { HasHistory J.book → IfOk result (λ before. WroteIf K.cmp K.path_of (is_some made || is_some before) (write_of key.value made) key.value (option_map arc_value before) author.old self.old.log self.new.log) }
         ensures digit { self.new.digit ≡ self.old.digit }
         ensures err { OnErr result (self.new ≡ self.old) }
         ensures kept { IfOk result (λ before. IfSome before (λ value. P.holds key.value value.value)) }
     {
         match made {
-            Some(value) => self.store(alloc, key, path, value),
-            None => Ok(self.remove(alloc, &key, path)?),
+            Some(value) => self.store(alloc, key, path, value, author),
+            None => Ok(self.remove(alloc, &key, path, author)?),
         }
     }
 
@@ -147,6 +158,7 @@ impl<K: PathKey + Drop, V: Drop, P: Keeps<K, V>> Stripe<K, V, P> {
         key: Arc<K>,
         path: Path,
         value: V,
+        author: &mut Author<J>,
     ) -> Result<Option<Arc<V>>, Refusal>
         requires rule { P.holds key.value value }
         requires path { path.0 ≡ K.path_of key.value }
@@ -155,6 +167,7 @@ impl<K: PathKey + Drop, V: Drop, P: Keeps<K, V>> Stripe<K, V, P> {
         ensures entries { OnOk result (self.new.entries ≡ with_pair K.cmp self.old.entries key.value value) }
         ensures digit { self.new.digit ≡ self.old.digit }
         ensures full { FullExactly result (is_full_for K.cmp MOST_PAIRS_OF_STRIPE self.old.entries key.value) }
+        ensures wrote { HasHistory J.book → IfOk result (λ before. WroteIf K.cmp K.path_of true (Put key.value value) key.value (option_map arc_value before) author.old self.old.log self.new.log) }
         ensures err { OnErr result (self.new ≡ self.old) }
         ensures kept { IfOk result (λ before. IfSome before (λ value. P.holds key.value value.value)) }
     {
@@ -162,7 +175,7 @@ impl<K: PathKey + Drop, V: Drop, P: Keeps<K, V>> Stripe<K, V, P> {
             return Err(Refusal::Full);
         }
         let value = Arc::new(alloc, value)?;
-        self.put(alloc, key, path, value)
+        self.put(alloc, key, path, value, author)
     }
 
     // Whether the key is new and there are as many pairs as there may be.

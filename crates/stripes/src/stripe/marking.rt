@@ -7,8 +7,9 @@ use crate::marks::Marks;
 use hash_path::PathKey;
 use std::mem;
 use std::sync::Arc;
+use write_history::Naming;
 
-impl<K: PathKey + Drop, V: Drop, P: Keeps<K, V>> Stripe<K, V, P> {
+impl<K: PathKey + Drop, V: Drop, P: Keeps<K, V>, J: Naming> Stripe<K, V, P, J> {
     /// Has the stripe's writes marked there from now on, and returns where they were marked before. The pairs stay as
     /// they are.
     ///

@@ -7,8 +7,9 @@ ghost use Rattle.versions.specs.Map.{value_at};
 use super::Stripe;
 use crate::keeps::Keeps;
 use hash_path::{Path, PathKey, Sought};
+use write_history::Naming;
 
-impl<K: PathKey + Drop, V: Drop, P: Keeps<K, V>> Stripe<K, V, P> {
+impl<K: PathKey + Drop, V: Drop, P: Keeps<K, V>, J: Naming> Stripe<K, V, P, J> {
     /// What `look` returns of the value of the key, or of none. No handle is cloned.
     pub fn read<T, Q: Sought<K>, F: FnOnce(Option<&V>) -> T>(
         &self,

@@ -20,9 +20,10 @@ use stripes::Keeps;
 use task_pool::Crew;
 use trie_node::NoMemory;
 use versions::Version;
+use write_history::Naming;
 
 /// Each question takes a view and works it, so that nobody waits for the work.
-impl<K: PathKey + Drop, V: Drop, P: Keeps<K, V>> TrieMap<K, V, P> {
+impl<K: PathKey + Drop, V: Drop, P: Keeps<K, V>, J: Naming> TrieMap<K, V, P, J> {
     /// How many pairs pass the test, of the map as it stands at one moment of the call: a view is taken and walked.
     ///
     /// Cost: O(n), under all locks for the view alone. Refused: `NoMemory`, if memory runs out for the view.
@@ -137,7 +138,12 @@ impl<K: PathKey + Drop, V: Drop, P: Keeps<K, V>> TrieMap<K, V, P> {
     }
 }
 
-impl<K: PathKey + Drop + Send + Sync, V: Drop + Send + Sync, P: Keeps<K, V>> TrieMap<K, V, P> {
+impl<K: PathKey + Drop + Send + Sync, V: Drop + Send + Sync, P: Keeps<K, V>, J: Naming> TrieMap<
+    K,
+    V,
+    P,
+    J,
+> {
     /// What `query` returns, of the map as it stands at one moment of the call, worked by a crew of threads over a
     /// view.
     ///

@@ -6,8 +6,9 @@ use super::TrieMap;
 use hash_path::PathKey;
 use std::sync::Wait;
 use stripes::Keeps;
+use write_history::Naming;
 
-impl<K: PathKey + Drop, V: Drop, P: Keeps<K, V>> TrieMap<K, V, P> {
+impl<K: PathKey + Drop, V: Drop, P: Keeps<K, V>, J: Naming> TrieMap<K, V, P, J> {
     /// How many pairs there are at one moment of the call. Each stripe is taken once those before it are held, in
     /// rising order of digits, as `view` takes them.
     ///

@@ -9,8 +9,9 @@ use hash_path::{PathKey, Sought};
 use std::sync::{Arc, Wait};
 use stripes::Keeps;
 use trie_node::NoMemory;
+use write_history::{Author, Naming};
 
-impl<K: PathKey + Drop, V: Drop, P: Keeps<K, V>> TrieMap<K, V, P> {
+impl<K: PathKey + Drop, V: Drop, P: Keeps<K, V>, J: Naming> TrieMap<K, V, P, J> {
     /// Calls `change` at the value that the key has, or at none, and stores what it makes of it, as one step: no other
     /// call writes the key between the two. Where it makes none, the key is removed, or stays absent. It returns the
     /// value before, at which `change` was called, or none.
@@ -39,7 +40,7 @@ impl<K: PathKey + Drop, V: Drop, P: Keeps<K, V>> TrieMap<K, V, P> {
         let path = key.path();
         let key = Arc::new(self.alloc, key)?;
         let mut stripe = self.row.stripe_at(rt, path);
-        match stripe.update(self.alloc, key, path, change) {
+        match stripe.update(self.alloc, key, path, change, &mut Author::nobody()) {
             Ok(before) => Ok(before),
             Err(refusal) => Err(PutError::of(refusal)),
         }
@@ -66,7 +67,7 @@ impl<K: PathKey + Drop, V: Drop, P: Keeps<K, V>> TrieMap<K, V, P> {
         let path = key.path();
         let key = Arc::new(self.alloc, key)?;
         let mut stripe = self.row.stripe_at(rt, path);
-        let done = stripe.update_with(self.alloc, key, path, change);
+        let done = stripe.update_with(self.alloc, key, path, change, &mut Author::nobody());
         drop(stripe);
         match done {
             Ok((_, answer)) => Ok(answer),
@@ -95,7 +96,7 @@ impl<K: PathKey + Drop, V: Drop, P: Keeps<K, V>> TrieMap<K, V, P> {
         let key = Arc::new(self.alloc, key)?;
         let mut stripe = self.row.stripe_at(rt, path);
         stripe.law();
-        match stripe.try_update(self.alloc, key, path, change) {
+        match stripe.try_update(self.alloc, key, path, change, &mut Author::nobody()) {
             Ok(done) => Ok(done),
             Err(refusal) => Err(PutError::of(refusal)),
         }
@@ -120,6 +121,6 @@ impl<K: PathKey + Drop, V: Drop, P: Keeps<K, V>> TrieMap<K, V, P> {
         let path = key.path_sought();
         let mut stripe = self.row.stripe_at(rt, path);
         stripe.law();
-        stripe.remove_passing(self.alloc, key, path, test)
+        stripe.remove_passing(self.alloc, key, path, test, &mut Author::nobody())
     }
 }

@@ -8,6 +8,7 @@ use crate::put_error::PutError;
 use hash_path::PathKey;
 use std::sync::Wait;
 use stripes::Keeps;
+use write_history::Naming;
 
 impl<K: PathKey + Drop, V: Drop, P: Keeps<K, V>> TrieMap<K, V, P> {
     /// A map of the pairs, which are put in order: of several with one key the last stays. The iterator has to end.
@@ -24,7 +25,9 @@ impl<K: PathKey + Drop, V: Drop, P: Keeps<K, V>> TrieMap<K, V, P> {
         map.extend_from(rt, pairs)?;
         Ok(map)
     }
+}
 
+impl<K: PathKey + Drop, V: Drop, P: Keeps<K, V>, J: Naming> TrieMap<K, V, P, J> {
     /// Puts each of the pairs, in order. Where one is refused, those before it are in the map.
     ///
     /// Cost: O(k log n) for k pairs, a lock each. Refused: as `put`.

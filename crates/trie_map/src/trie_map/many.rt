@@ -9,8 +9,9 @@ use std::alloc::Global;
 use std::sync::{Arc, Wait};
 use stripes::Keeps;
 use trie_node::NoMemory;
+use write_history::Naming;
 
-impl<K: PathKey + Drop, V: Drop, P: Keeps<K, V>> TrieMap<K, V, P> {
+impl<K: PathKey + Drop, V: Drop, P: Keeps<K, V>, J: Naming> TrieMap<K, V, P, J> {
     /// The values of keys, in the order of the keys, of the map as it stands at one moment of the call: for each its
     /// value, or none. A view is taken and asked by its `get_many`, so nobody waits for the look-ups. So it is for more
     /// than a few keys, or where their values have to be of one moment; who has a view already asks that.

@@ -5,8 +5,9 @@ use super::TrieMap;
 use hash_path::{PathKey, Sought};
 use std::sync::Wait;
 use stripes::Keeps;
+use write_history::Naming;
 
-impl<K: PathKey + Drop, V: Drop, P: Keeps<K, V>> TrieMap<K, V, P> {
+impl<K: PathKey + Drop, V: Drop, P: Keeps<K, V>, J: Naming> TrieMap<K, V, P, J> {
     /// What `look` returns of the value of the key, or of none: a value is read where it is, and no handle on it is
     /// cloned. So it costs less than `get`.
     ///
@@ -29,7 +30,7 @@ impl<K: PathKey + Drop, V: Drop, P: Keeps<K, V>> TrieMap<K, V, P> {
     }
 }
 
-impl<K: PathKey + Drop, V: Copy + Drop, P: Keeps<K, V>> TrieMap<K, V, P> {
+impl<K: PathKey + Drop, V: Copy + Drop, P: Keeps<K, V>, J: Naming> TrieMap<K, V, P, J> {
     /// A copy of the value of the key, or none. No handle on it is cloned, so it costs less than `get`.
     ///
     /// Cost: O(log n), under the lock of the key's stripe. Refused: never.

@@ -13,8 +13,9 @@ use std::alloc::Global;
 use std::sync::{Arc, Wait};
 use stripes::{Keeps, Stripe};
 use trie_node::NoMemory;
+use write_history::{Author, Naming};
 
-impl<K: PathKey + Drop, V: Drop, P: Keeps<K, V>> TrieMap<K, V, P> {
+impl<K: PathKey + Drop, V: Drop, P: Keeps<K, V>, J: Naming> TrieMap<K, V, P, J> {
     /// Removes the pairs that fail the test, and returns how many it removed.
     ///
     /// A view is taken and walked, so that nobody waits for the walk. Where a pair of the view fails the test, the
@@ -95,9 +96,9 @@ impl<K: PathKey + Drop, V: Drop, P: Keeps<K, V>> TrieMap<K, V, P> {
 
 // Removes the key from its stripe where its value fails the test, and returns the value that was removed, or none. The
 // only error is `NoMemory`, if memory runs out. The stripe is then as before.
-fn remove_failing<K: PathKey + Drop, V: Drop, P: Keeps<K, V>, F: Fn(&K, &V) -> bool>(
+fn remove_failing<K: PathKey + Drop, V: Drop, P: Keeps<K, V>, J: Naming, F: Fn(&K, &V) -> bool>(
     alloc: Global,
-    stripe: &mut Stripe<K, V, P>,
+    stripe: &mut Stripe<K, V, P, J>,
     key: &Arc<K>,
     path: Path,
     test: &F,
@@ -114,12 +115,12 @@ fn remove_failing<K: PathKey + Drop, V: Drop, P: Keeps<K, V>, F: Fn(&K, &V) -> b
     if passes(stripe, key, path, test) {
         return Ok(None);
     }
-    stripe.remove(alloc, key, path)
+    stripe.remove(alloc, key, path, &mut Author::nobody())
 }
 
 // Whether the key is absent, or its value passes the test.
-fn passes<K: PathKey + Drop, V: Drop, P: Keeps<K, V>, F: Fn(&K, &V) -> bool>(
-    stripe: &Stripe<K, V, P>,
+fn passes<K: PathKey + Drop, V: Drop, P: Keeps<K, V>, J: Naming, F: Fn(&K, &V) -> bool>(
+    stripe: &Stripe<K, V, P, J>,
     key: &Arc<K>,
     path: Path,
     test: &F,

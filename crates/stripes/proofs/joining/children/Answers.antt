@@ -23,7 +23,7 @@ loop-guard-preserved g c =
     let next = ap (map mutex_guard_value) (drop_more guards i c.guard-item.result lt ∙ ap (λ x. x ∷ drop (i + 1) guards) (sym (c.guard-item.is ∙ ap (λ gs. get_or gs i c.guard-item.result) c.deref-guard-items.ensures.value))) ∙ ap (λ x. x ∷ rest) (sym c.deref-stripe.ensures) in
     let joins = subst (λ (ss : List (Content _ _)). Joins R path H row ss all) next c.loop-guard.invariant.joins in
     record {
-      joins = joins_more R path H row s rest all joins c.law.ensures c.union_of_maps.ensures.value new is;
+      joins = joins_more R path H row s rest all joins c.law.ensures.pairs c.union_of_maps.ensures.value new is;
       few = omega (arith, c.loop-guard.invariant.few, c.len.ensures.few, ap (λ (m : Map _ _). length m) is, c.union_of_maps.ensures.size s.entries row c.len-in-loop-guard.ensures.sorted);
     }
 

@@ -8,7 +8,7 @@ use Rattle.stripes.proofs.joining.with_stripe.Goals as goal
 pub take-requires-clause-each : goal.take-requires-clause-each
 take-requires-clause-each g c =
     let part = map_of g.K.Ord.cmp (tree c.root.result.now) in
-    each_has_digit g.K.Ord.cmp g.K.PathKey.path_of g.P.Keeps.holds c.args.stripe.now.digit c.first_digit.result c.args.stripe.now.entries part c.first_digit.ensures (c.root.ensures.entries ∙ c.whole-part.ensures) c.law.ensures
+    each_has_digit g.K.Ord.cmp g.K.PathKey.path_of g.P.Keeps.holds c.args.stripe.now.digit c.first_digit.result c.args.stripe.now.entries part c.first_digit.ensures (c.root.ensures.entries ∙ c.whole-part.ensures) c.law.ensures.pairs
 
 pub take-requires-clause-newest : goal.take-requires-clause-newest
 take-requires-clause-newest g c =

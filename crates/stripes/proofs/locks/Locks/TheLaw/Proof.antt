@@ -11,25 +11,27 @@ use Rattle.stripes.proofs.stripe.Stripe.TheLaws as stripe
 use Rattle.std.specs.contracts.alloc.Global as Heap
 use Rattle.std.specs.contracts.impls.GlobalAllocator.TheImpl as allocator
 use Rattle.std.specs.contracts.sync.Mutex as Mutex
+use Rattle.std.specs.declared.cmp.Eq as Eq
 use Rattle.std.specs.declared.cmp.Ord as Ord
 use Rattle.std.specs.declared.cmp.PartialEq as PartialEq
 use Rattle.std.specs.declared.cmp.PartialOrd as PartialOrd
 use Rattle.hash_path.specs.declared.key.PathKey as PathKey
 use Rattle.stripes.specs.declared.keeps.Keeps as Keeps
+use Rattle.write_history.specs.declared.book.Naming as Naming
 use Rattle.crossbeam_utils.specs.contracts.cache_padded.CachePadded as CachePadded
 use Rattle.stripes.specs.contracts.locks.Locks.TheInside as Inside
 use Rattle.stripes.specs.contracts.stripe.Stripe as Stripe
 use Rattle.stripes.proofs.locks.Locks.TheLaw.Statement.{statement}
 
-module _ (K V P : RattleType) (key : PathKey.Ghosts K.Denot) (order : Ord.Ghosts K.Denot) (keq : PartialEq.Ghosts K.Denot) (kord : PartialOrd.Ghosts K.Denot) (keeps : Keeps.Ghosts P.Denot K.Denot V.Denot) (LK : Laws K) (LV : Laws V) (LP : Laws P) where
+module _ (K V P J : RattleType) (key : PathKey.Ghosts K.Denot) (order : Ord.Ghosts K.Denot) (equal : Eq.Ghosts K.Denot) (keq : PartialEq.Ghosts K.Denot) (kord : PartialOrd.Ghosts K.Denot) (keeps : Keeps.Ghosts P.Denot K.Denot V.Denot) (naming : Naming.Ghosts J.Denot) (LK : Laws K) (LV : Laws V) (LP : Laws P) (LJ : Laws J) where
   abbrev Lock : RattleType
-  Lock = CachePadded.the_row (Mutex.the_row (Stripe.the_row K V P key order keq kord keeps))
+  Lock = CachePadded.the_row (Mutex.the_row (Stripe.the_row K V P J key order equal keq kord keeps naming))
 
   lock_laws : Laws Lock
-  lock_laws = padded.the_row_laws (Mutex.the_row (Stripe.the_row K V P key order keq kord keeps)) (mutex.the_row_laws (Stripe.the_row K V P key order keq kord keeps) (stripe.the_row_laws K V P key order keq kord keeps LK LV LP))
+  lock_laws = padded.the_row_laws (Mutex.the_row (Stripe.the_row K V P J key order equal keq kord keeps naming)) (mutex.the_row_laws (Stripe.the_row K V P J key order equal keq kord keeps naming) (stripe.the_row_laws K V P J key order equal keq kord keeps naming LK LV LP LJ))
 
-  pub shares : statement K V P key order keq kord keeps LK LV LP
+  pub shares : statement K V P J key order equal keq kord keeps naming LK LV LP LJ
   shares =
-      of_Lends (Inside.struct K V P key order keq kord keeps) (Inside.the_codes K.Denot V.Denot P.Denot K.coded V.coded P.coded) (Inside.the_heap K V P key order keq kord keeps) (Inside.the_lent K V P key order keq kord keeps) (λ d p. nothing_shr_laws)
+      of_Lends (Inside.struct K V P J key order equal keq kord keeps naming) (Inside.the_codes K.Denot V.Denot P.Denot J.Denot K.coded V.coded P.coded J.coded) (Inside.the_heap K V P J key order equal keq kord keeps naming) (Inside.the_lent K V P J key order equal keq kord keeps naming) (λ d p. nothing_shr_laws)
       (vec.the_field_shared Lock Heap.the_row allocator.ghosts lock_laws global.the_row_laws, tt)
-      (λ M 𝓤 𝓛 d p. Lends-nothing 𝓛 (Inside.the_heap K V P key order keq kord keeps d) (Inside.the_row K V P key order keq kord keeps).lives)
+      (λ M 𝓤 𝓛 d p. Lends-nothing 𝓛 (Inside.the_heap K V P J key order equal keq kord keeps naming d) (Inside.the_row K V P J key order equal keq kord keeps naming).lives)

@@ -17,7 +17,7 @@ returns-clause-tested g c =
     let stripe = c.deref_mut.result.now in
     let here = value_at R stripe.entries key in
     let law : AllKeep R (Belongs g.K.PathKey.path_of H stripe.digit) stripe.entries =
-    subst (λ (s : Content g.row.K.Denot g.row.V.Denot). AllKeep R (Belongs g.K.PathKey.path_of H s.digit) s.entries) (c.deref.ensures ∙ sym c.deref_mut.ensures.value) c.law.ensures
+    subst (λ (s : Content g.row.K.Denot g.row.V.Denot). AllKeep R (Belongs g.K.PathKey.path_of H s.digit) s.entries) (c.deref.ensures ∙ sym c.deref_mut.ensures.value) c.law.ensures.pairs
     in
     let told = c.remove_passing.ensures.removed in
     IfOk-weaker c.remove_passing.result _ _
