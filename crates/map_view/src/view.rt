@@ -9,6 +9,7 @@ ghost use Rattle.versions.specs.declared.version.TheConstants.{MOST_PAIRS};
 mod equality;
 mod making;
 mod many;
+mod together;
 mod walking;
 
 use crate::crew::within_limits;
@@ -42,10 +43,12 @@ use versions::Version;
 pub struct View<K: PathKey, V, P: Keeps<K, V> = Anything> {
     alloc: Global,
     plain: versions::View<K, V>,
+    whole: Version<K, V>,
     rule: PhantomData<P>,
 }
 
 impl<K: PathKey, V, P: Keeps<K, V>> Model for View<K, V, P> {
+    ghost use Rattle.std.specs.Prelude.{◌≡◌};
     ghost use Rattle.stripes.specs.Rules.{AllKeep};
     ghost use Rattle.versions.specs.Map.{Map};
 
@@ -53,22 +56,23 @@ impl<K: PathKey, V, P: Keeps<K, V>> Model for View<K, V, P> {
 
     ghost view = { λ v. v.plain };
 
-    ghost invariant = { λ v. AllKeep K.cmp P.holds v.plain };
+    ghost invariant = { λ v. AllKeep K.cmp P.holds v.plain × (v.whole.entries ≡ v.plain) };
 }
 
 impl<K: PathKey + Drop, V: Drop, P: Keeps<K, V>> View<K, V, P> {
     /// The view of a map whose pairs keep the rule.
     ///
-    /// Cost: O(1), no lock. Refused: never.
-    pub fn new(alloc: Global, plain: versions::View<K, V>) -> View<K, V, P>
-        requires { AllKeep K.cmp P.holds plain }
-        ensures { result ≡ plain }
+    /// Cost: O(1), no lock. Refused: `NoMemory`, where the handle on the map cannot be cloned.
+    pub fn of(alloc: Global, whole: Version<K, V>) -> Result<View<K, V, P>, NoMemory>
+        requires { AllKeep K.cmp P.holds whole.entries }
+        ensures { IfOk result (λ view. view ≡ whole.entries) }
     {
-        View {
+        Ok(View {
             alloc,
-            plain,
+            plain: whole.view()?,
+            whole,
             rule: PhantomData,
-        }
+        })
     }
 
     /// The value of the key, or none.
@@ -181,12 +185,27 @@ impl<K: PathKey + Drop, V: Drop, P: Keeps<K, V>> View<K, V, P> {
     pub fn try_clone(&self) -> Result<View<K, V, P>, NoMemory>
         ensures { IfOk result (λ view. view ≡ self.now) }
     {
-        Ok(View {
-            alloc: self.alloc,
-            plain: self.plain.try_clone()?,
-            rule: PhantomData,
-        })
+        View::of(self.alloc, shared(&self.whole)?)
     }
+
+    /// The same view as a map of one owner, for calls that put its pairs into another map with the nodes that they have.
+    ///
+    /// Cost: O(1), no lock. Refused: never.
+    pub fn whole(&self) -> &Version<K, V>
+        ensures entries { result.now.entries ≡ self.now }
+        ensures kept { AllKeep K.cmp P.holds result.now.entries }
+    {
+        &self.whole
+    }
+}
+
+// Another handle on the same map.
+fn shared<K: PathKey + Drop, V: Drop>(whole: &Version<K, V>) -> Result<Version<K, V>, NoMemory>
+    ensures { IfOk result (λ map. map.entries ≡ whole.now.entries) }
+{
+    whole.len();
+    let root = whole.root().try_clone()?;
+    Ok(Version::from_root(root, whole.limit(), whole.stamp()))
 }
 
 impl<K: PathKey + Drop + Send + Sync, V: Drop + Send + Sync, P: Keeps<K, V>> View<K, V, P> {

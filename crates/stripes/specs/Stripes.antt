@@ -1,10 +1,11 @@
 -- The stripes of a map: the pairs whose keys' words have one first digit.
-use Rattle.std.specs.Prelude.{◌≡◌, ℕ, Bool, true, not, ◌&&◌, ◌==◌, if◌then◌else◌, List, [], ◌∷◌, map}
+use Rattle.std.specs.Prelude.{◌≡◌, ℕ, zero, suc, Bool, true, not, ◌&&◌, ◌==◌, if◌then◌else◌, None, List, [], ◌∷◌, ◌++◌, map}
 use Rattle.std.specs.List.{list_any}
 use Rattle.std.specs.declared.cmp.Ordering.{Ordering}
+use Rattle.hash_path.specs.Digits.{digit}
 use Rattle.stripes.specs.declared.stripe.TheConstants.{MOST_PAIRS_OF_STRIPE}
 use Rattle.versions.specs.Contents.{Contents}
-use Rattle.versions.specs.Map.{Map, union}
+use Rattle.versions.specs.Map.{Map, union, value_at}
 use Rattle.write_history.specs.declared.entry.Entry.{Entry}
 pub use Rattle.write_history.specs.Rules.{up_to}
 
@@ -41,3 +42,7 @@ module _ {K V : Type 0} where
   abbrev pub map_of_digit : ℕ → List (Content K V) → Map K V
   map_of_digit d [] = []
   map_of_digit d (s ∷ ss) = if d == s.digit then s.entries else map_of_digit d ss
+
+  -- the stripe has, at the keys of its digit, what the map has, and no other key
+  abbrev pub IsPart : (K → K → Ordering) → (K → ℕ) → Map K V → Content K V → Type 0
+  IsPart R path m s = (k : K) → value_at R s.entries k ≡ (if digit (path k) 0 == s.digit then value_at R m k else None)

@@ -43,8 +43,8 @@ pub fn joined<K: PathKey + Drop, V: Drop, P: Keeps<K, V>, J: Naming>(
     map_of_row(alloc, row)
 }
 
-// The children of the roots of all stripes that are held.
-fn children<K: PathKey + Drop, V: Drop, P: Keeps<K, V>, J: Naming>(
+/// The children of the roots of all stripes that are held.
+pub(crate) fn children<K: PathKey + Drop, V: Drop, P: Keeps<K, V>, J: Naming>(
     mut row: RootRow<K, V>,
     held: &Guards<'_, K, V, P, J>,
 ) -> Result<RootRow<K, V>, NoMemory>
@@ -84,7 +84,7 @@ pub(crate) fn with_stripe<K: PathKey + Drop, V: Drop, P: Keeps<K, V>, J: Naming>
     Ok(row)
 }
 
-// The map of the row's pairs.
+/// The map of the row's pairs.
 pub(crate) fn map_of_row<K: PathKey + Drop, V: Drop>(
     alloc: Global,
     row: RootRow<K, V>,

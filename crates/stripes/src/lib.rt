@@ -13,6 +13,7 @@ mod keeps;
 mod locks;
 mod marks;
 mod moment;
+mod parting;
 mod stripe;
 mod stripes;
 
@@ -22,5 +23,6 @@ pub use following::Marking;
 pub use joining::joined;
 pub use keeps::{Anything, Keeps};
 pub use marks::Marks;
+pub use parting::{exchange_all, joined_while_held, parted};
 pub use stripe::{MOST_PAIRS_OF_STRIPE, STRIPES, Stripe};
 pub use stripes::{Guards, Stripes, empties, empty_maps, forks, told_empties};

@@ -16,6 +16,7 @@ mod clearing;
 mod deciding;
 mod following;
 mod marking;
+mod parting;
 mod reading;
 mod seeing;
 

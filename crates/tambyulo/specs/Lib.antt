@@ -10,3 +10,4 @@ pub use Rattle.trie_map.specs.Questions
 pub use Rattle.trie_map.specs.Rules
 pub use Rattle.trie_map.specs.Summaries
 pub use Rattle.trie_map.specs.Updates
+pub use Rattle.view_sets.specs.Sets

@@ -17,3 +17,4 @@ pub use trie_map::{
     PutError, Query, Ranked, Reader, Readers, Refusal, Scored, Session, Stored, StoredItem,
     StoredMap, StoredPairs, StoredTest, Sum, TrieMap, Values, Version, View, pairs_of,
 };
+pub use view_sets::Changes;

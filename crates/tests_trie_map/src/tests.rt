@@ -12,8 +12,10 @@ mod races;
 mod ranks;
 mod reads;
 mod reentry;
+mod restored;
 mod retained;
 mod texts;
+mod together;
 mod updates;
 mod walks;
 

@@ -13,6 +13,9 @@ use trie_map::{TrieMap, View};
 // A map of the tests.
 type Map = TrieMap<ChosenKey, u64>;
 
+// A view of such a map.
+type Seen = View<ChosenKey, u64>;
+
 // A key whose word has this first digit, among others with the same.
 fn key(digit: u32, id: u32) -> ChosenKey {
     ChosenKey {
@@ -46,6 +49,6 @@ fn at<R: Wait + Abort>(rt: &R, map: &Map, key: ChosenKey) -> Option<u64> {
     plain(map.get(rt, &key).expect(rt, "not read"))
 }
 
-fn view_of<R: Wait + Abort>(rt: &R, map: &Map) -> View<ChosenKey, u64> {
+fn view_of<R: Wait + Abort>(rt: &R, map: &Map) -> Seen {
     map.view(rt).expect(rt, "no view")
 }

@@ -11,6 +11,8 @@ mod filling;
 mod many;
 mod reading;
 mod reading_hot;
+mod replacing;
+mod restoring;
 mod retaining;
 mod session;
 
@@ -253,7 +255,7 @@ impl<K: PathKey + Drop, V: Drop, P: Keeps<K, V>, J: Naming> TrieMap<K, V, P, J> 
         let room = RootRow::new(self.alloc)?;
         let held = self.row.all(rt, self.alloc)?;
         let map = joined(self.alloc, room, held)?;
-        Ok(View::new(self.alloc, map.view()?))
+        View::of(self.alloc, map)
     }
 
     /// Another map with the pairs of one moment of the call, and locks of its own: the two go separate ways.

@@ -1,3 +1,4 @@
 pub mod FirstDigit
 pub mod OneMore
+pub mod OnlyChild
 pub mod Taking

@@ -42,8 +42,11 @@ impl<K: PathKey, V> Model for RootRow<K, V> {
     ghost invariant = { λ r. IsRoot K.cmp K.path_of (branch r.newest.0 r.pairs r.bitmap (trees (map tree r.children.items))) × NoneAbove r.newest.0 (nodes (word_of K.path_of) (branch r.newest.0 r.pairs r.bitmap (trees (map tree r.children.items)))) };
 }
 
-// The child of a root that has the digit, or none.
-fn child_of<K: PathKey + Drop, V: Drop>(root: &Node<K, V>, digit: u32) -> Option<&Node<K, V>>
+/// The child of a root that has the digit, or none.
+pub(crate) fn child_of<K: PathKey + Drop, V: Drop>(
+    root: &Node<K, V>,
+    digit: u32,
+) -> Option<&Node<K, V>>
     requires { IsRoot K.cmp K.path_of (tree root.now) }
     ensures child { option_map (λ n. tree n.now) result ≡ child_at (tree root.now) digit }
     ensures digit { IfSome result (λ _. digit < fan_out) }

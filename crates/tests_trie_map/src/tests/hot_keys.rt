@@ -1,9 +1,9 @@
 //! Readers of a map: keys of their base while these are locked, and each kind of write.
 use super::{Map, assert_is, empty, key, put};
 use std::process::Abort;
-use std::sync::Wait;
+use std::sync::{Arc, Wait};
 use test_keys::ChosenKey;
-use trie_map::Reader;
+use trie_map::{PutError, Reader, TrieMap};
 
 // What one thread reads such a map by.
 type OwnReader<'r> = Reader<'r, ChosenKey, u64>;
@@ -55,8 +55,10 @@ fn keys_of_a_base_are_read_while_they_are_locked(rt: HostRuntime) {
 #[derive(Clone, Copy, Debug)]
 enum Write {
     Put,
+    PutShared,
     Replace,
     ReplaceIf,
+    ReplaceAll,
     Update,
     PutIfAbsent,
     Remove,
@@ -65,6 +67,7 @@ enum Write {
     RemoveWhereNot,
     Retain,
     Clear,
+    Restore,
 }
 
 // Makes the call, and answers whether it was granted.
@@ -72,12 +75,25 @@ fn make_write<R: AllocGlobal + Wait>(rt: &R, map: &Map, call: Write) -> bool {
     let third = key(3, 0);
     match call {
         Write::Put => map.put(rt, third, 70).is_ok(),
+        Write::PutShared => put_shared(rt, map, 70).is_ok(),
         Write::Replace => map.replace(rt, third, 70).is_ok(),
         Write::ReplaceIf => map.replace_if(rt, third, &3, 70).is_ok(),
+        Write::ReplaceAll => map.replace_all(rt, |_, _| 70).is_ok(),
         Write::Update => map.update(rt, third, |_| Some(70)).is_ok(),
         Write::PutIfAbsent => map.put_if_absent(rt, third, 70).is_ok(),
         _ => remove(rt, map, call),
     }
+}
+
+fn put_shared<R: AllocGlobal + Wait>(rt: &R, map: &Map, value: u64) -> Result<(), PutError> {
+    map.put_shared(rt, key(3, 0), Arc::new(rt.alloc(), value)?)?;
+    Ok(())
+}
+
+fn restore_none<R: AllocGlobal + Wait>(rt: &R, map: &Map) -> Result<(), PutError> {
+    let none: Map = TrieMap::new(rt)?;
+    map.restore(rt, &none.view(rt)?)?;
+    Ok(())
 }
 
 fn remove<R: AllocGlobal + Wait>(rt: &R, map: &Map, call: Write) -> bool {
@@ -88,6 +104,7 @@ fn remove<R: AllocGlobal + Wait>(rt: &R, map: &Map, call: Write) -> bool {
         Write::RemoveWhere => map.remove_where(rt, &third, |value| *value == 3).is_ok(),
         Write::RemoveWhereNot => map.remove_where(rt, &third, |value| *value != 3).is_ok(),
         Write::Retain => map.retain(rt, |_, value| *value != 3).is_ok(),
+        Write::Restore => restore_none(rt, map).is_ok(),
         _ => map.clear(rt).is_ok(),
     }
 }
@@ -104,7 +121,14 @@ fn seen_after<R: AllocGlobal + Wait + Abort>(rt: &R, call: Write) -> (bool, Opti
 
 #[test]
 fn a_reader_with_a_base_sees_each_kind_of_write(rt: HostRuntime) {
-    for call in [Write::Put, Write::Replace, Write::ReplaceIf, Write::Update] {
+    for call in [
+        Write::Put,
+        Write::PutShared,
+        Write::Replace,
+        Write::ReplaceIf,
+        Write::ReplaceAll,
+        Write::Update,
+    ] {
         assert_is(&rt, seen_after(&rt, call), (true, Some(70)));
     }
     for call in [
@@ -113,6 +137,7 @@ fn a_reader_with_a_base_sees_each_kind_of_write(rt: HostRuntime) {
         Write::RemoveWhere,
         Write::Retain,
         Write::Clear,
+        Write::Restore,
     ] {
         assert_is(&rt, seen_after(&rt, call), (true, None));
     }

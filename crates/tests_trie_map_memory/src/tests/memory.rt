@@ -1,5 +1,5 @@
 //! Calls with requests for memory refused.
-use super::{Map, assert_is, at, empty, key, plain, put, view_of};
+use super::{Map, Seen, assert_is, at, empty, key, plain, put, view_of};
 use std::alloc::{AllocError, Global};
 use std::process::Abort;
 use std::sync::Wait;
@@ -25,7 +25,7 @@ const STEP: usize = 256;
 
 // Whether each call on a map of two pairs answers as it has to where every request is refused: reads as ever, and the
 // others that there is no memory.
-fn without_memory<R: Wait>(rt: &R, map: &Map) -> [bool; 10] {
+fn without_memory<R: Wait>(rt: &R, map: &Map, view: &Seen) -> [bool; 12] {
     [
         map.get(rt, &key(1, 0))
             .is_ok_and(|found| plain(found) == Some(1)),
@@ -39,6 +39,9 @@ fn without_memory<R: Wait>(rt: &R, map: &Map) -> [bool; 10] {
         map.clear(rt).is_err(),
         map.view(rt).is_err(),
         map.snapshot(rt).is_err(),
+        map.restore(rt, view)
+            .is_err_and(|e| e == PutError::NoMemory),
+        map.replace_all(rt, |_, value| *value).is_err(),
     ]
 }
 
@@ -47,10 +50,11 @@ fn reads_make_no_request_and_writes_are_refused(rt: HostRuntime) {
     let map = empty(&rt);
     put(&rt, &map, key(1, 0), 1);
     put(&rt, &map, key(1, 1), 2);
+    let view = view_of(&rt, &map);
     let taken = take_all(rt.alloc()).expect(&rt, "no list");
-    let answers = without_memory(&rt, &map);
+    let answers = without_memory(&rt, &map, &view);
     drop(taken);
-    assert_is(&rt, answers, [true; 10]);
+    assert_is(&rt, answers, [true; 12]);
     assert_is(&rt, map.len(&rt), 2);
 }
 

@@ -282,7 +282,7 @@ impl<'m, K: PathKey + Drop, V: Drop, P: Keeps<K, V>, J: Naming> Session<'m, K, V
             .map
             .row
             .moment(rt, self.map.alloc, room, &mut self.front)?;
-        Ok(View::new(self.map.alloc, map.view()?))
+        View::of(self.map.alloc, map)
     }
 
     // A write of a pair that keeps the rule, where the condition holds.

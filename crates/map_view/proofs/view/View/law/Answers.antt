@@ -10,7 +10,7 @@ use Rattle.map_view.proofs.view.View.law.Goals as goal
 
 pub returns-clause-walked : goal.returns-clause-walked
 returns-clause-walked g c =
-    let here : AllKeep g.K.Ord.cmp g.P.Keeps.holds c.args.self.now = subst (AllKeep g.K.Ord.cmp g.P.Keeps.holds) c.self.view_is c.self.invariant in
+    let here : AllKeep g.K.Ord.cmp g.P.Keeps.holds c.args.self.now = subst (AllKeep g.K.Ord.cmp g.P.Keeps.holds) c.self.view_is c.self.invariant.0 in
     kept_listing g.K.Ord.cmp g.P.Keeps.holds g.met.K.Ord.total g.met.K.PathKey.exact (walked g.K.Ord.cmp g.K.PathKey.path_of c.args.self.now) (c.walk_lists_map.ensures.once c.args.self.now)
     (λ k v found. here k v (sym (c.walk_lists_map.ensures.finds c.args.self.now k) ∙ found))
 

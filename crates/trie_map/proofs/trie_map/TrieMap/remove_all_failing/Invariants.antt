@@ -1,4 +1,4 @@
-use Rattle.std.proofs.Common.{◌≡◌, ◌+◌, ◌≤◌, Bool, false, length}
+use Rattle.std.proofs.Common.{◌+◌, ◌≤◌, Bool, false, length}
 use Rattle.bulk_ops.specs.Meanings.{MayAnswer, Means}
 use Rattle.map_view.specs.Questions.{failing}
 use Rattle.versions.specs.Map.{IsMap}
