@@ -3,3 +3,4 @@ pub mod OneRun
 pub mod Assembled
 pub mod OneClient
 pub mod LegalTexts
+pub mod Merging

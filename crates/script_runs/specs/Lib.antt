@@ -1,3 +1,4 @@
+pub mod ReplyOrder
 pub mod Events
 pub mod Runs
 pub mod Legality

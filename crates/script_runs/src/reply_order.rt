@@ -1,7 +1,7 @@
 //! The replies of all lines, from those of each client.
 
 ghost use Rattle.std.specs.Prelude.{◌≡◌, ◌≢◌, ◌<◌, IfOk, Ok, [], map, slice_index_or, vec_len};
-ghost use Rattle.reply_order.specs.Order.{AreMerged, AreRepliesTo, IsNext};
+ghost use Rattle.script_runs.specs.ReplyOrder.{AreMerged, AreRepliesTo, IsNext};
 
 use script::{CommandLine, LineReply, push_line};
 use std::alloc::{AllocError, Global};

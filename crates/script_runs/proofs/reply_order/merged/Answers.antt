@@ -1,7 +1,7 @@
 use Rattle.std.proofs.Common.{rules, arith, ◌≡◌, ◌++◌, map}
 use Rattle.script.specs.Replies.{line_text}
-use Rattle.reply_order.proofs.Merging.{merged_none, merged_more, merged_all, next_left}
-use Rattle.reply_order.proofs.merge.merged.Goals as goal
+use Rattle.script_runs.proofs.Merging.{merged_none, merged_more, merged_all, next_left}
+use Rattle.script_runs.proofs.reply_order.merged.Goals as goal
 
 pub loop-line-init : goal.loop-line-init
 loop-line-init c = rw c.new-text.ensures.items (merged_none c.args.lines.now (map (λ replies. replies.now) c.args.starts.items) c.requires)

@@ -1,5 +1,5 @@
 use Rattle.std.proofs.Common.{◌≡◌, map, take}
-use Rattle.reply_order.proofs.merge.starts_of.Given as goal
+use Rattle.script_runs.proofs.reply_order.starts_of.Given as goal
 
 abbrev pub invariant-loop-replies : goal.invariant-loop-replies
 invariant-loop-replies l = map (λ replies. replies.now) l.starts.items ≡ map (λ replies. replies.items) (take l.replies-index l.clients)

@@ -7,7 +7,7 @@ use Rattle.std.proofs.lemmas.List.Elements.{All-head, All-tail}
 use Rattle.script.specs.Replies.{line_text}
 use Rattle.script.specs.declared.statement.CommandLine.{CommandLine}
 use Rattle.script.specs.declared.reply.LineReply.{LineReply}
-use Rattle.reply_order.specs.Order.{AreMerged, AreRepliesTo, IsNext, beside, lines_by}
+use Rattle.script_runs.specs.ReplyOrder.{AreMerged, AreRepliesTo, IsNext, beside, lines_by}
 
 -- what was left of each client's is what is left once the first of one's was taken, with that before it if it is the client's
 left_before : (left : List (List LineReply)) (c k : ℕ) (reply : LineReply) (rest : List LineReply) → c < length left → get_or left c [] ≡ reply ∷ rest

@@ -1,6 +1,6 @@
 use Rattle.std.proofs.Common.{arith, ◌≡◌, ◌<◌, [], ◌∷◌, length, map, get_or, sym, ap, ◌∙◌}
 use Rattle.std.proofs.lemmas.List.{get_or-map, map-set}
-use Rattle.reply_order.proofs.merge.next_of.Goals as goal
+use Rattle.script_runs.proofs.reply_order.next_of.Goals as goal
 
 pub returns : goal.returns
 returns c =
