@@ -1,6 +1,6 @@
 pub use Rattle.script_runs.specs.Events
 pub mod Filing
 pub use Rattle.script_runs.specs.Runs
-pub use Rattle.command_line.specs.CommandLine
+pub use Rattle.program_io.specs.CommandLine
 pub mod Audits
 pub use Rattle.script_runs.specs.Legality

@@ -1,9 +1,9 @@
 //! The run of a script of clients, each on a thread of its own over one map.
 //!
 //! The crate `script` reads a script; [`run_script`] runs it, writes the replies and gives the journal, and [`execute`]
-//! reads and runs it, or audits a journal, and gives the status of the program. [`options`], of the crate `command_line`,
-//! reads the words of the command line, and of the crate `program_io` [`read_script`] and [`read_journal`] read the bytes
-//! that it names, and [`write_journal`] writes a journal's.
+//! reads and runs it, or audits a journal, and gives the status of the program. Of the crate `program_io` [`options`] reads
+//! the words of the command line, [`read_script`] and [`read_journal`] read the bytes that it names, and [`write_journal`]
+//! writes a journal's.
 #![tactic(auto)]
 
 mod auditing;
@@ -16,9 +16,10 @@ mod status;
 
 pub use arguments::{Folding, Key, MapKey, Mapping, Test};
 pub use client::ScriptClient;
-pub use command_line::{ArgFault, Options, options};
 pub use gate::{Free, LineGate};
-pub use program_io::{RunFault, read_journal, read_script, write_journal};
+pub use program_io::{
+    ArgFault, Options, RunFault, options, read_journal, read_script, write_journal,
+};
 pub use questions::ScriptQuery;
 pub use run::{Journal, run_script};
 pub use script::{

@@ -3,7 +3,7 @@
 ghost use Rattle.std.specs.Prelude.{◌≡◌};
 ghost use Rattle.program_io.specs.Faults.{IsShownBy};
 
-use command_line::ArgFault;
+use crate::arguments::ArgFault;
 use std::fmt::Display;
 use std::io;
 use std::io::Write;

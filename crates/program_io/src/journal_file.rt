@@ -2,8 +2,8 @@
 
 ghost use Rattle.std.specs.Prelude.{◌≡◌, ◌≤◌, ◌⊎◌, IfErr, None};
 
+use crate::arguments::Options;
 use crate::faults::{DONE, RunFault, failed, failed_by};
-use command_line::Options;
 use std::alloc::{AllocError, Global};
 use std::fs::{File, Files, Metadata, OpenFile};
 use std::io::Write;

@@ -2,9 +2,9 @@
 
 ghost use Rattle.std.specs.Prelude.{◌≡◌, ◌≤◌, IfErr, IfOk, IfSome, take};
 
+use crate::arguments::Options;
 use crate::faults::{RunFault, failed, failed_by, refused};
 use crate::journal_file::{fault_of_names, file_of};
-use command_line::Options;
 use std::alloc::Global;
 use std::fs::{File, Files};
 use std::io;

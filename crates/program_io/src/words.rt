@@ -1,9 +1,10 @@
-//! The words of the command line.
+//! The words of the process.
 
 ghost use Rattle.std.specs.Prelude.{IfOk};
-ghost use Rattle.command_line.specs.CommandLine.{AreInRange};
+ghost use Rattle.program_io.specs.CommandLine.{AreInRange};
 
-use command_line::{ArgFault, Options, options};
+use crate::arguments::{ArgFault, Options};
+use crate::parsing::options;
 use std::alloc::AllocError;
 use std::rt::Runtime;
 use std::{env, io};

@@ -1,11 +1,12 @@
 //! Runs a script of clients on a table of maps, and prints the reply to each line; or audits the journal of a run.
 #![tactic(auto)]
 
-ghost use Rattle.command_line.specs.CommandLine.{AreInRange};
+ghost use Rattle.program_io.specs.CommandLine.{AreInRange};
 
 use batch_cli::execute;
-use command_line::Options;
-use program_io::{JournalFile, StandardError, given_options, input, keep, opened_journal, shown};
+use program_io::{
+    JournalFile, Options, StandardError, given_options, input, keep, opened_journal, shown,
+};
 use std::io;
 use std::process::ExitCode;
 use std::rt::Runtime;

@@ -2,7 +2,7 @@
 
 ghost use Rattle.std.specs.Prelude.{◌≡◌, IfOk, false};
 ghost use Rattle.clap.specs.Words.{app_of, rule_of};
-ghost use Rattle.command_line.specs.CommandLine.{audit_rule, command_line, file_rule, grain_rule, journal_rule, workers_rule};
+ghost use Rattle.program_io.specs.CommandLine.{audit_rule, command_line, file_rule, grain_rule, journal_rule, workers_rule};
 
 use clap::{Arg, ArgAction, Command, value_parser};
 use std::alloc::{AllocError, Global};

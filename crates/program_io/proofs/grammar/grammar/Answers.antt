@@ -1,8 +1,8 @@
 use Rattle.std.proofs.Common.{rules, ap₂, ◌≡◌, ◌∙◌}
 use Rattle.std.proofs.lemmas.Result.{IfOk-weaker}
 use Rattle.clap.specs.Words.{app_of, with_rule}
-use Rattle.command_line.specs.CommandLine.{trierun}
-use Rattle.command_line.proofs.grammar.grammar.Goals as goal
+use Rattle.program_io.specs.CommandLine.{trierun}
+use Rattle.program_io.proofs.grammar.grammar.Goals as goal
 
 pub returns : goal.returns
 returns c =

@@ -1,10 +1,10 @@
-//! Reading a command line.
+//! The options that the words of a command line give, by the grammar.
 
 ghost use Rattle.std.specs.Prelude.{◌≡◌, ◌<◌, ◌^◌, ◌≤◌, [], ◌∷◌, IfErr, IfOk, List, None, OnOk, Some, codes, false, map, option_map, pos, string_bytes, true, ℕ};
 ghost use Rattle.std.specs.Option.{option_map_or};
 ghost use Rattle.std.specs.Str.{bytes_eq};
 ghost use Rattle.clap.specs.Words.{FailsBy, IsSignedIn, found_of, kind_of, one_text, without_minus};
-ghost use Rattle.command_line.specs.CommandLine.{AreInRange, IsArgFaultOf, IsGiven, Tells, faults_in, number_of};
+ghost use Rattle.program_io.specs.CommandLine.{AreInRange, IsArgFaultOf, IsGiven, Tells, faults_in, number_of};
 
 use crate::arguments::{ArgFault, Options};
 use crate::grammar::{DEFAULT_GRAIN, DEFAULT_WORKERS, grammar};

@@ -9,9 +9,9 @@ use Rattle.clap.specs.declared.builder.action.ArgAction.TheVariants.{SetTrue}
 use Rattle.clap.specs.declared.builder.value_parser.ValueParser.TheVariants.{Signed}
 use Rattle.clap.specs.declared.error.kind.ErrorKind.{ErrorKind}
 use Rattle.clap.specs.declared.error.kind.ErrorKind.TheVariants.{DisplayHelp, DisplayVersion, OutOfMemory}
-use Rattle.command_line.specs.declared.arguments.ArgFault.{ArgFault}
-use Rattle.command_line.specs.declared.arguments.ArgFault.TheVariants.{Help, Parser, NotText, AuditJournal, Memory}
-use Rattle.command_line.specs.declared.arguments.Options.{Options}
+use Rattle.program_io.specs.declared.arguments.ArgFault.{ArgFault}
+use Rattle.program_io.specs.declared.arguments.ArgFault.TheVariants.{Help, Parser, NotText, AuditJournal, Memory}
+use Rattle.program_io.specs.declared.arguments.Options.{Options}
 
 -- an option that takes a whole number from 1 to `most`, with what stands for it where it is left out
 abbrev pub number_rule : Text → ℕ → Text → Rule

@@ -3,10 +3,10 @@ use Rattle.std.specs.Borrow.{Bor}
 use Rattle.std.specs.Option.{option_map_or}
 use Rattle.std.specs.Str.{bytes_eq}
 use Rattle.clap.specs.Words.{Text, found_of, one_text}
-use Rattle.command_line.specs.CommandLine.{number_of}
-use Rattle.command_line.proofs.CommandLineLemmas.{fails_by, rows_are, text_found, value_found}
-use Rattle.command_line.proofs.OptionLemmas.{grain_read, number_given, workers_read}
-use Rattle.command_line.proofs.words.read.Goals as goal
+use Rattle.program_io.specs.CommandLine.{number_of}
+use Rattle.program_io.proofs.CommandLineLemmas.{fails_by, rows_are, text_found, value_found}
+use Rattle.program_io.proofs.OptionLemmas.{grain_read, number_given, workers_read}
+use Rattle.program_io.proofs.parsing.read.Goals as goal
 
 pub returns-clause-given : goal.returns-clause-given
 returns-clause-given c =

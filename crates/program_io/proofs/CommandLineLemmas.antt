@@ -5,9 +5,9 @@ use Rattle.clap.specs.declared.error.Error.{Error}
 use Rattle.clap.specs.declared.parser.matches.ArgMatches.{ArgMatches}
 use Rattle.clap.proofs.WalkLemmas.{first_value-rows, one_text-rows}
 use Rattle.clap.proofs.OnLiterals.{clap_on_literals}
-use Rattle.command_line.specs.CommandLine.{audit_in, command_line, file_in, given_in, grain_in, journal_in, workers_in, faults_in, IsArgFaultOf, Tells}
-use Rattle.command_line.specs.declared.arguments.ArgFault.{ArgFault}
-use Rattle.command_line.specs.declared.arguments.ArgFault.TheVariants.{Help, Parser, NotText, AuditJournal, Memory}
+use Rattle.program_io.specs.CommandLine.{audit_in, command_line, file_in, given_in, grain_in, journal_in, workers_in, faults_in, IsArgFaultOf, Tells}
+use Rattle.program_io.specs.declared.arguments.ArgFault.{ArgFault}
+use Rattle.program_io.specs.declared.arguments.ArgFault.TheVariants.{Help, Parser, NotText, AuditJournal, Memory}
 use Rattle.clap.specs.declared.error.kind.ErrorKind.TheVariants.{UnknownArgument, DisplayHelp, DisplayVersion, ValueValidation}
 
 -- what the matches have is what the words give

@@ -21,7 +21,7 @@ use Rattle.clap.specs.declared.parser.matches.ArgMatches.{ArgMatches}
 use Rattle.clap.specs.declared.parser.matches.MatchedArg.{MatchedArg}
 use Rattle.clap.proofs.CallerLemmas.{entry_by_id, same_rules_by_id}
 use Rattle.clap.proofs.SimpleLemmas.{all_simple, plain_fields, simple_groups}
-use Rattle.command_line.specs.CommandLine.{command_line, number_of, number_rule}
+use Rattle.program_io.specs.CommandLine.{command_line, number_of, number_rule}
 
 -- the rules of the program's options and of its file
 abbrev rules : List Rule
