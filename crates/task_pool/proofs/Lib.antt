@@ -1,3 +1,4 @@
+pub mod Asked
 pub mod Covering
 pub mod Partials
 pub mod Halving

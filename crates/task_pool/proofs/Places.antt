@@ -1,28 +1,31 @@
 -- Workers by their places.
-use Rattle.std.proofs.Common.{◌≡◌, ℕ, suc, ◌+◌, ◌<◌, IfOk, Ok, Err, Result, List, [], ◌∷◌, length, get_or, refl, ap, subst, arith}
+use Rattle.std.proofs.Common.{◌≡◌, ℕ, suc, ◌+◌, ◌<◌, IfOk, Ok, Err, Result, List, [], ◌∷◌, length, get_or, refl, sym, ap, subst, arith}
 use Rattle.std.proofs.lemmas.List.Sums.{sum_by-cons}
 use Rattle.std.specs.List.{sum_by}
+use Rattle.ruled_deques.proofs.Steps.{rest_at}
 
 pub ifok_map : {T E : Type 0} (r : Result T E) (P Q : T → Type 0) → ((t : T) → P t → Q t) → IfOk r P → IfOk r Q
 ifok_map (Ok t) P Q f p = f t p
 ifok_map (Err e) P Q f p = p
 
-pub rest_places : {T E : Type 0} (f : T → ℕ) (xs ys : List (Result T E)) (x : Result T E) (n m : ℕ) → xs ≡ x ∷ ys → m ≡ n + 1
-    → ((i : ℕ) (d : Result T E) → i < length xs → IfOk (get_or xs i d) (λ t. f t ≡ n + i))
-    → (i : ℕ) (d : Result T E) → i < length ys → IfOk (get_or ys i d) (λ t. f t ≡ m + i)
-rest_places {T} {E} f xs ys x n m e s h i d lt =
-    let P : List (Result T E) → Type 0 = λ zs. (i : ℕ) (d : Result T E) → i < length zs → IfOk (get_or zs i d) (λ t. f t ≡ n + i) in
-    let k : IfOk (get_or ys i d) (λ t. f t ≡ n + suc i) = subst P e h (suc i) d (omega arith) in
-    ifok_map (get_or ys i d) (λ t. f t ≡ n + suc i) (λ t. f t ≡ m + i) (λ t q. omega (arith, q)) k
+-- what holds of those that are there, by their places, as a walk of them starts
+pub from_start : {T : Type 0} (P : ℕ → T → Type 0) (xs ys : List T) (n : ℕ) → xs ≡ ys → n ≡ 0
+    → ((i : ℕ) (d : T) → i < length ys → P i (get_or ys i d))
+    → (i : ℕ) (d : T) → i < length xs → P (n + i) (get_or xs i d)
+from_start {T} P xs ys n same none h i d lt =
+    let at : i ≡ n + i = omega (arith, none) in
+    subst (λ k. P k (get_or xs i d)) at (subst (λ zs. (j : ℕ) (e : T) → j < length zs → P j (get_or zs j e)) (sym same) h i d lt)
 
-pub first_place : {T E : Type 0} (f : T → ℕ) (xs ys : List (Result T E)) (x : Result T E) (t : T) (n : ℕ) → xs ≡ x ∷ ys → x ≡ Ok t
-    → ((i : ℕ) (d : Result T E) → i < length xs → IfOk (get_or xs i d) (λ t. f t ≡ n + i))
-    → f t ≡ n
-first_place {T} {E} f xs ys x t n e is h =
-    let P : List (Result T E) → Type 0 = λ zs. (i : ℕ) (d : Result T E) → i < length zs → IfOk (get_or zs i d) (λ t. f t ≡ n + i) in
-    let k : IfOk x (λ t. f t ≡ n + 0) = subst P e h 0 x (omega arith) in
-    let Q : Result T E → Type 0 = λ r. IfOk r (λ t. f t ≡ n + 0) in
-    let l : f t ≡ n + 0 = subst Q is k in omega arith
+-- and as the first leaves
+pub rest_ok : {T E : Type 0} (P : ℕ → T → Type 0) (xs ys : List (Result T E)) (x : Result T E) (n m : ℕ) → xs ≡ x ∷ ys → m ≡ n + 1
+    → ((i : ℕ) (d : Result T E) → i < length xs → IfOk (get_or xs i d) (P (n + i)))
+    → (i : ℕ) (d : Result T E) → i < length ys → IfOk (get_or ys i d) (P (m + i))
+rest_ok P xs ys x n m e s h = (rest_at (λ k r. IfOk r (P k)) xs ys x n m e s h).1
+
+pub first_ok : {T E : Type 0} (P : ℕ → T → Type 0) (xs ys : List (Result T E)) (x : Result T E) (t : T) (n : ℕ) → xs ≡ x ∷ ys → x ≡ Ok t
+    → ((i : ℕ) (d : Result T E) → i < length xs → IfOk (get_or xs i d) (P (n + i)))
+    → P n t
+first_ok P xs ys x t n e is h = subst (λ r. IfOk r (P n)) is (rest_at (λ k r. IfOk r (P k)) xs ys x n (n + 1) e refl h).0
 
 -- a list with places has a first
 pub first_of : {T : Type 0} (xs : List T) (i : ℕ) → i < length xs → T

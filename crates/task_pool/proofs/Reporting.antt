@@ -5,6 +5,7 @@ use Rattle.std.proofs.lemmas.List.Concat.{flat_map-append}
 use Rattle.trie_shape.specs.Map.{Map}
 use Rattle.iter.specs.declared.interval.Interval.{Interval}
 use Rattle.iter.specs.Intervals.{AreApart, Tile, parts, whole}
+use Rattle.task_pool.specs.Asked.{EachAsked}
 use Rattle.task_pool.specs.Worked.{Uncut}
 use Rattle.task_pool.specs.Reports.{IsReport, all_of}
 use Rattle.task_pool.proofs.Covering.{all_of_push}
@@ -18,14 +19,15 @@ pub counted : {X : Type 0} (f : X → List Interval) (ls ms : List X) (l : X) (n
 counted f ls ms l n e is = length-map ms f ∙ ap length e ∙ length-append ls (l ∷ []) ∙ ap (λ k. k + 1) is
 
 -- the report of what was worked
-pub made : {K V P : Type 0} (path : K → ℕ) (answers : Map K V → P → Type 0) (decides : Map K V → Type 0) (m : Map K V) (grain workers : ℕ) (part : P) (lists : List (List Interval)) (all : List Interval)
-    → all_of lists ≡ all → length lists ≡ workers + 1 → answers m part → AreApart all → Uncut path m grain all → Tile all whole ⊎ (decides (parts path m all) × decides m)
-    → IsReport path answers decides m grain workers part lists
-made path answers decides m grain workers part lists all is count has apart uncut ended = record {
+pub made : {K V P : Type 0} (path : K → ℕ) (Asked : ℕ → Interval → Type 0) (answers : Map K V → P → Type 0) (decides : Map K V → Type 0) (m : Map K V) (grain workers : ℕ) (part : P) (lists : List (List Interval)) (all : List Interval)
+    → all_of lists ≡ all → length lists ≡ workers + 1 → answers m part → AreApart all → Uncut path m grain all → EachAsked Asked lists → Tile all whole ⊎ (decides (parts path m all) × decides m)
+    → IsReport path Asked answers decides m grain workers part lists
+made path Asked answers decides m grain workers part lists all is count has apart uncut asked ended = record {
   answered = has;
   count = count;
   apart = subst AreApart (sym is) apart;
   uncut = subst (Uncut path m grain) (sym is) uncut;
+  asked = asked;
   ended = subst (λ xs. Tile xs whole ⊎ (decides (parts path m xs) × decides m)) (sym is) ended;
 }
 

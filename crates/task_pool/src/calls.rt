@@ -1,9 +1,11 @@
 //! The call of a crew.
-ghost use Rattle.std.specs.Prelude.{◌≡◌, ◌+◌, ◌<◌, ◌≤◌, ◌++◌, ◌∷◌, [], ℕ, IfOk, Some, length, map, slice_index_or};
+ghost use Rattle.std.specs.Prelude.{◌≡◌, ◌+◌, ◌<◌, ◌≤◌, ◌++◌, ◌∷◌, [], ℕ, All, IfOk, List, Some, length, map, slice_index_or};
 ghost use Rattle.std.specs.List.{sum_by};
 ghost use Rattle.iter.specs.Intervals.{AreApart, Tile, cover, whole};
 ghost use Rattle.ruled_deques.specs.Counts.{IsOpened};
 ghost use Rattle.ruled_deques.specs.EndsView.{given};
+ghost use Rattle.iter.specs.declared.interval.Interval.{Interval};
+ghost use Rattle.task_pool.specs.Asked.{EachAsked};
 ghost use Rattle.task_pool.specs.Reports.{IsReport, all_of};
 
 use crate::crew::Crew;
@@ -50,7 +52,7 @@ where
     requires least_grain { 1 ≤ crew.grain }
     requires most_grain { crew.grain ≤ MOST_GRAIN }
     requires ready { B.ready bulk.now }
-    ensures { IfOk result (λ report. IsReport K.path_of (B.answers bulk.now) (B.decides bulk.now) view.now crew.grain crew.workers report.part (map (λ list. list.items) report.lists.items)) }
+    ensures { IfOk result (λ report. IsReport K.path_of (G.asked gate.now) (B.answers bulk.now) (B.decides bulk.now) view.now crew.grain crew.workers report.part (map (λ list. list.items) report.lists.items)) }
 {
     run_branded::<Brand, K, V, B, G, R>(rt, alloc, view, bulk, crew, gate)
 }
@@ -79,7 +81,7 @@ where
     requires view { view.now ≡ C.map }
     requires bulk { Some bulk.now ≡ C.bulk }
     requires ready { B.ready bulk.now }
-    ensures { IfOk result (λ report. IsReport K.path_of (B.answers bulk.now) (B.decides bulk.now) C.map C.grain crew.workers report.part (map (λ list. list.items) report.lists.items)) }
+    ensures { IfOk result (λ report. IsReport K.path_of (G.asked gate.now) (B.answers bulk.now) (B.decides bulk.now) C.map C.grain crew.workers report.part (map (λ list. list.items) report.lists.items)) }
 {
     let pairs = view.len();
     let shared = Shared::new(alloc, crew, pairs, gate);
@@ -122,11 +124,12 @@ where
     requires each { (i : ℕ) (d : _) → i < length owners.items → IsOpened (D.deque i) (given whole i) (slice_index_or owners.items i d) }
     ensures len { IfOk result (λ r. length r.partials.items ≡ length owners.items) }
     ensures balance { IfOk result (λ r. (p : ℕ) → cover (given whole 0) p ≡ sum_by (λ t. cover t p) r.partials.items + cover r.leftover.items p) }
+    ensures asked { IfOk result (λ r. EachAsked (G.asked shared.now.gate.now) r.partials.items) }
 {
     let all = share_out::<Task<C, K, V>, D>(shared.alloc, owners, first)?;
     let workers = make_workers(shared.alloc, view, bulk, all)?;
     let done = run_workers(rt, shared, workers)?;
-    gather(shared.alloc, done)
+    gather(shared.alloc, shared.gate, done)
 }
 
 // The report of what the workers have worked, and of what the caller works of the rest.
@@ -149,7 +152,8 @@ where
     requires ready { B.ready bulk.now }
     requires partials { length gathered.partials.items ≤ workers }
     requires tile { Tile (all_of gathered.partials.items ++ gathered.leftover.items) whole }
-    ensures { IfOk result (λ report. IsReport K.path_of (B.answers bulk.now) (B.decides bulk.now) C.map C.grain workers report.part (map (λ list. list.items) report.lists.items)) }
+    requires asked { EachAsked (G.asked shared.now.gate.now) gathered.partials.items }
+    ensures { IfOk result (λ report. IsReport K.path_of (G.asked shared.now.gate.now) (B.answers bulk.now) (B.decides bulk.now) C.map C.grain workers report.part (map (λ list. list.items) report.lists.items)) }
 {
     let Gathered { partials, leftover } = gathered;
     let Ok((all, lists)) = merge_padded(shared.alloc, view, bulk, workers, partials) else {
@@ -188,6 +192,7 @@ where
     ensures all { IfOk result (λ both. both.0 ≡ all_of partials.entry.items) }
     ensures lists { IfOk result (λ both. all_of (map (λ list. list.items) both.1.items) ≡ both.0) }
     ensures count { IfOk result (λ both. length both.1.items ≡ workers) }
+    ensures behind { IfOk result (λ both. (rest : List (List Interval)) × (all_of rest ≡ []) × (map (λ list. list.items) both.1.items ≡ partials.entry.items ++ rest)) }
 {
     let Ok(mut rest) = empty_lists(alloc, (workers as usize).saturating_sub(partials.len())) else {
         drop(partials);
@@ -230,7 +235,8 @@ where
     requires lists { all_of (map (λ list. list.items) lists.items) ≡ all }
     requires count { length lists.items ≡ workers }
     requires tile { Tile (all ++ leftover.items) whole }
-    ensures { IfOk result (λ report. IsReport K.path_of (B.answers bulk.now) (B.decides bulk.now) C.map C.grain workers report.part (map (λ list. list.items) report.lists.items)) }
+    requires asked { EachAsked (G.asked shared.now.gate.now) (map (λ list. list.items) lists.items) }
+    ensures { IfOk result (λ report. IsReport K.path_of (G.asked shared.now.gate.now) (B.answers bulk.now) (B.decides bulk.now) C.map C.grain workers report.part (map (λ list. list.items) report.lists.items)) }
 {
     let Ok((mine, list)) = work_rest(shared, view, bulk, workers, leftover) else {
         drop(all);
@@ -269,6 +275,7 @@ where
     requires apart { AreApart leftover.items }
     ensures mine { IfOk result (λ both. (p : ℕ) → cover both.0 p ≡ cover leftover.items p) }
     ensures list { IfOk result (λ both. both.1.items ≡ both.0) }
+    ensures asked { IfOk result (λ both. All (G.asked shared.now.gate.now workers) both.1.items) }
 {
     let Ok(none) = Partial::new(shared.alloc, view, bulk) else {
         drop(leftover);
@@ -316,7 +323,7 @@ where
     requires view { view.now ≡ C.map }
     requires bulk { Some bulk.now ≡ C.bulk }
     requires ready { B.ready bulk.now }
-    ensures { IfOk result (λ report. IsReport K.path_of (B.answers bulk.now) (B.decides bulk.now) C.map C.grain workers report.part (map (λ list. list.items) report.lists.items)) }
+    ensures { IfOk result (λ report. IsReport K.path_of (G.asked shared.now.gate.now) (B.answers bulk.now) (B.decides bulk.now) C.map C.grain workers report.part (map (λ list. list.items) report.lists.items)) }
 {
     let alloc = shared.alloc;
     let task = Task::new(whole(alloc, view.try_clone()?));

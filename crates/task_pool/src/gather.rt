@@ -1,10 +1,12 @@
 //! What the caller gathers from workers that have ended.
-ghost use Rattle.std.specs.Prelude.{◌≡◌, ◌+◌, ◌<◌, ◌++◌, ◌∷◌, [], ℕ, IfOk, OnOk, Some, length, map, slice_index_or};
+ghost use Rattle.std.specs.Prelude.{◌≡◌, ◌+◌, ◌<◌, ◌++◌, ◌∷◌, [], ℕ, All, IfOk, OnOk, Some, length, map, slice_index_or};
 ghost use Rattle.std.specs.List.{sum_by};
 ghost use Rattle.iter.specs.Intervals.{AreApart, cover, whole};
 ghost use Rattle.ruled_deques.specs.EndsView.{given};
+ghost use Rattle.task_pool.specs.Asked.{EachAsked};
 ghost use Rattle.task_pool.specs.Reports.{all_of};
 
+use crate::gate::Gate;
 use crate::partial::{OfBulk, Partial};
 use crate::task::{OfView, Task};
 use crate::worker::{IdleWorker, WorkerState};
@@ -62,8 +64,9 @@ where
 }
 
 // Takes the workers apart, and adds their balances.
-fn part_all<'a, C, K, V, B, D>(
+fn part_all<'a, C, K, V, B, D, G>(
     alloc: Global,
+    gate: &G,
     done: Vec<Result<IdleWorker<'a, C, K, V, B, D>, NoMemory>>,
 ) -> Result<Parted<'a, C, K, V, B, D>, NoMemory>
 where
@@ -72,11 +75,15 @@ where
     V: Drop,
     B: Bulk<K, V>,
     D: Deques,
-    requires { (i : ℕ) (d : _) → i < length done.items → IfOk (slice_index_or done.items i d) (λ w. w.state.ends.place ≡ i) }
+    G: Gate,
+    requires places { (i : ℕ) (d : _) → i < length done.items → IfOk (slice_index_or done.items i d) (λ w. w.state.ends.place ≡ i) }
+    requires asked { (i : ℕ) (d : _) → i < length done.items → IfOk (slice_index_or done.items i d) (λ w. All (G.asked gate.now i) w.state.partial) }
     ensures len { IfOk result (λ r. (length r.ends.items ≡ length done.entry.items) × (length r.partials.items ≡ length done.entry.items)) }
     ensures places { IfOk result (λ r. (i : ℕ) (d : _) → i < length r.ends.items → (slice_index_or r.ends.items i d).place ≡ i) }
     ensures balance { IfOk result (λ r. (p : ℕ) → sum_by (λ e. cover (given whole e.place) p) r.ends.items + sum_by (λ e. cover e.taken p) r.ends.items ≡ sum_by (λ t. cover t p) r.partials.items + sum_by (λ e. cover e.pushed p) r.ends.items + cover r.leftover.items p) }
+    ensures asked { IfOk result (λ r. EachAsked (G.asked gate.now) r.partials.items) }
 {
+    let _ = gate;
     let mut parted = Parted {
         ends: Vec::new(alloc),
         partials: Vec::new(alloc),
@@ -90,8 +97,9 @@ where
 }
 
 /// Closes the deques: what was given is what was worked and what is left over, each position as often.
-pub fn gather<'a, C, K, V, B, D>(
+pub fn gather<'a, C, K, V, B, D, G>(
     alloc: Global,
+    gate: &G,
     done: Vec<Result<IdleWorker<'a, C, K, V, B, D>, NoMemory>>,
 ) -> Result<Gathered<'a, C, K, V, B>, NoMemory>
 where
@@ -100,16 +108,19 @@ where
     V: Drop,
     B: Bulk<K, V>,
     D: Deques,
+    G: Gate,
     requires count { (length done.items ≡ D.count) × (0 < D.count) }
     requires places { (i : ℕ) (d : _) → i < length done.items → IfOk (slice_index_or done.items i d) (λ w. w.state.ends.place ≡ i) }
+    requires asked { (i : ℕ) (d : _) → i < length done.items → IfOk (slice_index_or done.items i d) (λ w. All (G.asked gate.now i) w.state.partial) }
     ensures len { IfOk result (λ r. length r.partials.items ≡ length done.entry.items) }
     ensures balance { IfOk result (λ r. (p : ℕ) → cover (given whole 0) p ≡ sum_by (λ t. cover t p) r.partials.items + cover r.leftover.items p) }
+    ensures asked { IfOk result (λ r. EachAsked (G.asked gate.now) r.partials.items) }
 {
     let Parted {
         ends,
         partials,
         mut leftover,
-    } = part_all(alloc, done)?;
+    } = part_all(alloc, gate, done)?;
     let mut rest = close(alloc, ends)?;
     leftover.append(&mut rest)?;
     Ok(Gathered { partials, leftover })

@@ -31,7 +31,8 @@ where
     requires ready { B.ready bulk.now }
     requires pushed { ends.pushed ≡ given whole ends.place }
     requires taken { ends.taken ≡ [] }
-    ensures { IfOk result (λ worker. worker.state.ends.place ≡ ends.place) }
+    ensures place { IfOk result (λ worker. worker.state.ends.place ≡ ends.place) }
+    ensures fresh { IfOk result (λ worker. worker.state.partial ≡ []) }
 {
     let partial = Partial::new(alloc, view, bulk)?;
     let leftover = Vec::new(alloc);
@@ -63,6 +64,7 @@ where
     requires each { (i : ℕ) (d : _) → i < length all.items → slice_index_or all.items i d ≡ record { place = i; pushed = given whole i; taken = [] } }
     ensures len { IfOk result (λ workers. length workers.items ≡ length all.items) }
     ensures places { IfOk result (λ workers. (i : ℕ) (d : _) → i < length workers.items → (slice_index_or workers.items i d).state.ends.place ≡ i) }
+    ensures fresh { IfOk result (λ workers. (i : ℕ) (d : _) → i < length workers.items → (slice_index_or workers.items i d).state.partial ≡ []) }
 {
     let mut workers = Vec::new(alloc);
     for ends in all {

@@ -1,5 +1,5 @@
 //! The work of the caller.
-ghost use Rattle.std.specs.Prelude.{◌≡◌, ◌+◌, ◌++◌, ◌∷◌, [], ℕ, IfOk};
+ghost use Rattle.std.specs.Prelude.{◌≡◌, ◌+◌, ◌++◌, ◌∷◌, [], ℕ, All, IfOk};
 ghost use Rattle.iter.specs.Intervals.{AreApart, cover};
 ghost use Rattle.task_pool.specs.Worked.{once};
 
@@ -27,7 +27,8 @@ where
     G: Gate,
     requires grain { shared.now.grain ≡ C.grain }
     requires apart { AreApart (partial ++ task ∷ []) }
-    ensures { IfOk result (λ all. (p : ℕ) → cover all p ≡ cover partial.entry p + once task p) }
+    ensures did { IfOk result (λ all. (p : ℕ) → cover all p ≡ cover partial.entry p + once task p) }
+    ensures asked { IfOk result (λ all. All (G.asked shared.now.gate.now number) partial.entry → All (G.asked shared.now.gate.now number) all) }
 {
     law_of_cuts::<K, V>();
     match task.halves(shared.grain) {
@@ -67,7 +68,8 @@ where
     G: Gate,
     requires grain { shared.now.grain ≡ C.grain }
     requires apart { AreApart (partial ++ leftover.items) }
-    ensures { IfOk result (λ all. (p : ℕ) → cover all p ≡ cover partial.entry p + cover leftover.items p) }
+    ensures did { IfOk result (λ all. (p : ℕ) → cover all p ≡ cover partial.entry p + cover leftover.items p) }
+    ensures asked { IfOk result (λ all. All (G.asked shared.now.gate.now number) partial.entry → All (G.asked shared.now.gate.now number) all) }
 {
     let mut all = partial;
     for task in leftover {

@@ -27,6 +27,7 @@ impl<'g, G: Gate> Shared<'g, G> {
         requires grain { 1 ≤ crew.grain }
         requires workers { 1 ≤ crew.workers }
         ensures grain { result.grain ≡ crew.grain }
+        ensures gate { result.gate.now ≡ gate.now }
         ensures least { 1 ≤ result.started }
         ensures most { result.started ≤ crew.workers }
     {

@@ -1,5 +1,6 @@
 //! The threads of a crew.
-ghost use Rattle.std.specs.Prelude.{◌≡◌, ◌<◌, ℕ, IfOk, length, slice_index_or};
+ghost use Rattle.std.specs.Prelude.{◌≡◌, ◌<◌, ◌≤◌, ◌^◌, [], ℕ, All, IfOk, length, slice_index_or};
+ghost use Rattle.task_pool.specs.Asked.{KeepsAsked};
 
 use crate::gate::Gate;
 use crate::partial::OfBulk;
@@ -40,7 +41,7 @@ where
 
     ghost needs = { λ w _. w.shared.now.grain ≡ C.grain };
 
-    ghost gives = { λ _ job result. IfOk result (λ done. done.state.ends.place ≡ job.state.ends.place) };
+    ghost gives = { λ w job result. IfOk result (λ done. (done.state.ends.place ≡ job.state.ends.place) × KeepsAsked (G.asked w.shared.now.gate.now) job.state.ends.place job.state.partial done.state.partial) };
 
     fn run(
         &self,
@@ -69,9 +70,12 @@ where
     G: Gate + Sync,
     R: Threads + Wait + Sync,
     requires grain { shared.now.grain ≡ C.grain }
+    requires few { length workers.items ≤ 2 ^ 32 }
     requires places { (i : ℕ) (d : _) → i < length workers.items → (slice_index_or workers.items i d).state.ends.place ≡ i }
+    requires fresh { (i : ℕ) (d : _) → i < length workers.items → (slice_index_or workers.items i d).state.partial ≡ [] }
     ensures len { IfOk result (λ done. length done.items ≡ length workers.entry.items) }
     ensures each { IfOk result (λ done. (i : ℕ) (d : _) → i < length done.items → IfOk (slice_index_or done.items i d) (λ w. w.state.ends.place ≡ i)) }
+    ensures asked { IfOk result (λ done. (i : ℕ) (d : _) → i < length done.items → IfOk (slice_index_or done.items i d) (λ w. All (G.asked shared.now.gate.now i) w.state.partial)) }
 {
     let run = RunWorker {
         shared,

@@ -3,6 +3,7 @@ ghost use Rattle.std.specs.Prelude.{◌≡◌, ◌+◌, ℕ, IfOk, None};
 ghost use Rattle.iter.specs.Intervals.{cover, whole};
 ghost use Rattle.ruled_deques.specs.EndsView.{given};
 ghost use Rattle.splitter.specs.Cuts.{cut_point};
+ghost use Rattle.task_pool.specs.Asked.{KeepsAsked};
 ghost use Rattle.task_pool.specs.Worked.{once};
 
 use crate::gate::Gate;
@@ -50,6 +51,7 @@ where
         requires { shared.now.grain ≡ C.grain }
         ensures same { IfOk result (λ done. (done.ends.place ≡ self.entry.ends.place) × (done.ends.taken ≡ self.entry.ends.taken)) }
         ensures did { IfOk result (λ done. (p : ℕ) → cover done.partial p + cover done.ends.pushed p + cover done.leftover.items p ≡ cover self.entry.partial p + cover self.entry.ends.pushed p + cover self.entry.leftover.items p + once task p) }
+        ensures asked { IfOk result (λ done. KeepsAsked (G.asked shared.now.gate.now) self.entry.ends.place self.entry.partial done.partial) }
     {
         law_of_cuts::<K, V>();
         match task.halves(shared.grain) {
@@ -86,6 +88,7 @@ where
         requires { cut_point K.path_of C.map task C.grain ≡ None }
         ensures same { IfOk result (λ done. done.ends ≡ self.entry.ends) }
         ensures did { IfOk result (λ done. (p : ℕ) → cover done.partial p + cover done.leftover.items p ≡ cover self.entry.partial p + cover self.entry.leftover.items p + once task p) }
+        ensures asked { IfOk result (λ done. KeepsAsked (G.asked shared.now.gate.now) self.entry.ends.place self.entry.partial done.partial) }
     {
         let WorkerState {
             ends,
@@ -126,7 +129,8 @@ where
         shared: &Shared<'_, G>,
     ) -> Result<IdleWorker<'a, C, K, V, B, D>, NoMemory>
         requires { shared.now.grain ≡ C.grain }
-        ensures { IfOk result (λ done. done.state.ends.place ≡ self.entry.state.ends.place) }
+        ensures place { IfOk result (λ done. done.state.ends.place ≡ self.entry.state.ends.place) }
+        ensures asked { IfOk result (λ done. KeepsAsked (G.asked shared.now.gate.now) self.entry.state.ends.place self.entry.state.partial done.state.partial) }
     {
         let IdleWorker { mut state } = self;
         let mut failed = 0u32;

@@ -6,4 +6,4 @@ pub work_leftovers-requires-clause-apart : goal.work_leftovers-requires-clause-a
 work_leftovers-requires-clause-apart g c = subst (λ xs. AreApart (xs ++ c.args.leftover.items)) (sym c.in-Ok.ensures) c.requires.apart
 
 pub returns-clause-mine : goal.returns-clause-mine
-returns-clause-mine g c = λ p. omega (arith, c.in_ok-mine.ensures p, ap (λ x. cover x p) c.in-Ok.ensures)
+returns-clause-mine g c = λ p. omega (arith, c.in_ok-mine.ensures.did p, ap (λ x. cover x p) c.in-Ok.ensures)

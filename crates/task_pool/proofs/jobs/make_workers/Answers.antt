@@ -25,5 +25,6 @@ loop-ends-preserved g c =
     let r = rest_at (λ n e. e ≡ record { place = n; pushed = given whole n; taken = [] }) _ _ _ (length c.loop-ends.workers.items) _ it ll c.loop-ends.invariant.1 in (
       (let l = ap length it in let h = c.loop-ends.invariant.0 in omega arith),
       r.1,
-      push_at (λ i w. w.state.ends.place ≡ i) _ _ _ more (c.in_ok-worker.ensures ∙ ap (λ e. e.place) r.0) c.loop-ends.invariant.2,
+      push_at (λ i w. w.state.ends.place ≡ i) _ _ _ more (c.in_ok-worker.ensures.place ∙ ap (λ e. e.place) r.0) c.loop-ends.invariant.2,
+      push_at (λ i w. w.state.partial ≡ []) _ _ _ more c.in_ok-worker.ensures.fresh c.loop-ends.invariant.3,
     )

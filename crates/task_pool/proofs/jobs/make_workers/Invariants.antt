@@ -9,3 +9,4 @@ invariant-loop-ends g l =
     (length l.workers.items + length (into_iter_items l.ends-iterator) ≡ length l.fn.all.items)
     × ((i : ℕ) (d : _) → i < length (into_iter_items l.ends-iterator) → slice_index_or (into_iter_items l.ends-iterator) i d ≡ record { place = length l.workers.items + i; pushed = given whole (length l.workers.items + i); taken = [] })
     × ((i : ℕ) (d : _) → i < length l.workers.items → (slice_index_or l.workers.items i d).state.ends.place ≡ i)
+    × ((i : ℕ) (d : _) → i < length l.workers.items → (slice_index_or l.workers.items i d).state.partial ≡ [])

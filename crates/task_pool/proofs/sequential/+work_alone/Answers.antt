@@ -1,4 +1,6 @@
 use Rattle.std.proofs.Common.{rules, ◌∷◌, [], ◌++◌, sym, subst, arith}
+use Rattle.std.specs.Prelude.{All}
+use Rattle.std.proofs.lemmas.List.Elements.{All-push}
 use Rattle.std.proofs.lemmas.Result.{IfOk-weaker}
 use Rattle.iter.specs.Intervals.{AreApart}
 use Rattle.task_pool.proofs.Halving.{Halved, apart_lower, apart_upper, both_halves, halved, one_piece, same, uncut}
@@ -22,8 +24,8 @@ work-requires-clause-uncut g t c =
     let lower = c.in-Ok.lower in
     uncut path m grain task lower c.in-Ok.rest c.in-None.is c.in-Ok.ensures
 
-pub returns-in-None : goal.returns-in-None
-returns-in-None g t c =
+pub returns-in-None-clause-did : goal.returns-in-None-clause-did
+returns-in-None-clause-did g t c =
     let path = g.K.PathKey.path_of in
     let m = g.C.OfView.map in
     let grain = g.C.OfView.grain in
@@ -51,14 +53,25 @@ work_alone-requires-in-Ok-work_alone g t c κs within =
     let lower = c.in-Ok.lower in
     let h : Halved task lower c.in-Some.upper = halved path c.law_of_cuts.ensures.divide m grain task lower c.in-Some.upper c.in-Ok.rest c.in-Some.is c.in-Ok.ensures in
     let short = h.second in
-    (omega (arith, short, c.decreases), (search rules, (search rules, (search rules, (search rules, (search rules, (search rules, (c.requires.grain, apart_upper c.args.partial c.in-Ok-work_alone.partial task lower c.in-Some.upper h c.requires.apart c.in-Ok-work_alone.ensures))))))))
+    (omega (arith, short, c.decreases), (search rules, (search rules, (search rules, (search rules, (search rules, (search rules, (c.requires.grain, apart_upper c.args.partial c.in-Ok-work_alone.partial task lower c.in-Some.upper h c.requires.apart c.in-Ok-work_alone.ensures.did))))))))
 
-pub returns-in-Ok-work_alone : goal.returns-in-Ok-work_alone
-returns-in-Ok-work_alone g t c =
+pub returns-in-Ok-work_alone-clause-did : goal.returns-in-Ok-work_alone-clause-did
+returns-in-Ok-work_alone-clause-did g t c =
     let path = g.K.PathKey.path_of in
     let m = g.C.OfView.map in
     let grain = g.C.OfView.grain in
     let task = c.args.task in
     let lower = c.in-Ok.lower in
     let h : Halved task lower c.in-Some.upper = halved path c.law_of_cuts.ensures.divide m grain task lower c.in-Some.upper c.in-Ok.rest c.in-Some.is c.in-Ok.ensures in
-    IfOk-weaker c.work_alone-in-Ok-work_alone.result _ _ (λ all rest. both_halves c.args.partial c.in-Ok-work_alone.partial all task lower c.in-Some.upper h c.in-Ok-work_alone.ensures rest) c.work_alone-in-Ok-work_alone.ensures
+    IfOk-weaker c.work_alone-in-Ok-work_alone.result _ _ (λ all rest. both_halves c.args.partial c.in-Ok-work_alone.partial all task lower c.in-Some.upper h c.in-Ok-work_alone.ensures.did rest) c.work_alone-in-Ok-work_alone.ensures.did
+
+pub returns-in-None-clause-asked : goal.returns-in-None-clause-asked
+returns-in-None-clause-asked g t c =
+    let Asked = g.G.Gate.asked c.args.shared.now.gate.now c.args.number in
+    let lower = c.in-Ok.lower in
+    let ask : Asked lower = subst Asked (λ i. record { lo = c.lo.ensures.lo i; hi = c.hi.ensures.hi i }) c.before-in-None.ensures in
+    IfOk-weaker c.work.result _ _ (λ all is was. subst (All Asked) (sym is) (All-push Asked c.args.partial lower was ask)) c.work.ensures
+
+pub returns-in-Ok-work_alone-clause-asked : goal.returns-in-Ok-work_alone-clause-asked
+returns-in-Ok-work_alone-clause-asked g t c =
+    IfOk-weaker c.work_alone-in-Ok-work_alone.result _ _ (λ all is was. is (c.in-Ok-work_alone.ensures.asked was)) c.work_alone-in-Ok-work_alone.ensures.asked

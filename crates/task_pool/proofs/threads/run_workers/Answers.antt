@@ -4,7 +4,8 @@ use denote.Exit.{no}
 use denote.Ref.{NamedLft}
 use mir.Syntax.{named}
 use Rattle.task_pool.proofs.Crossing.{came_send, worker_send}
-use Rattle.std.proofs.Common.{rules, ◌<◌, length, slice_index_or, ◌∙◌, vec_len}
+use Rattle.std.proofs.Common.{rules, ◌<◌, length, slice_index_or, ◌∙◌, vec_len, arith}
+use Rattle.task_pool.proofs.Asked.{all_asked}
 use Rattle.task_pool.proofs.Places.{ifok_map, first_of}
 use Rattle.task_pool.proofs.threads.run_workers.Goals as goal
 
@@ -14,7 +15,16 @@ returns-clause-each g c = λ i d lt.
     let lt' : i < length c.args.workers.items = search rules in
     let lt'' : i < vec_len c.args.workers = search rules in
     let job = first_of c.args.workers.items i lt' in
-    ifok_map (slice_index_or c.in_ok-done.done.items i d) _ _ (λ w e. e ∙ c.requires.places i job lt') (c.in_ok-done.ensures.each i job d lt'')
+    ifok_map (slice_index_or c.in_ok-done.done.items i d) _ _ (λ w e. e.0 ∙ c.requires.places i job lt') (c.in_ok-done.ensures.each i job d lt'')
+
+pub returns-clause-asked : goal.returns-clause-asked
+returns-clause-asked g c = λ i d lt.
+    let Asked = g.G.Gate.asked c.args.shared.now.gate.now in
+    let len = c.in_ok-done.ensures.len in
+    let lt' : i < length c.args.workers.items = search rules in
+    let lt'' : i < vec_len c.args.workers = search rules in
+    let job = first_of c.args.workers.items i lt' in
+    ifok_map (slice_index_or c.in_ok-done.done.items i d) _ _ (λ w e. all_asked Asked _ i _ w.state.partial (c.requires.places i job lt') (omega (arith, lt', c.requires.few)) (c.requires.fresh i job lt') e.1) (c.in_ok-done.ensures.each i job d lt'')
 
 pub map_vec-requires-send-W-Job : goal.map_vec-requires-send-W-Job
 map_vec-requires-send-W-Job g c κs within =

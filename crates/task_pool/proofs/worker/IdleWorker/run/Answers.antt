@@ -1,12 +1,16 @@
-use Rattle.std.proofs.Common.{ap, ◌∙◌, arith}
+use Rattle.std.proofs.Common.{ap, sym, subst, ◌∙◌, arith}
 use Rattle.iter.specs.Intervals.{cover, whole}
 use Rattle.ruled_deques.specs.EndsView.{given}
+use Rattle.task_pool.specs.Asked.{KeepsAsked}
 use Rattle.task_pool.specs.Worked.{once}
+use Rattle.task_pool.proofs.Asked.{kept_at, kept_both}
 use Rattle.task_pool.proofs.worker.IdleWorker.run.Goals as goal
 use Rattle.task_pool.proofs.worker.IdleWorker.run.Goals.{in-Some+in_ok-state-in-Some+then-is_settled, in-Some+in_ok-state-in-Some+else-is_settled, in-None+else-failed-shared, else-loop-test, then-loop-test+then-is_stopped, then-loop-test+else-is_stopped+in-None+then-failed-shared}
 
 pub loop-preserved : goal.loop-preserved
 loop-preserved g c =
+    let Asked = g.G.Gate.asked c.args.shared.now.gate.now in
+    let first = c.args.self.state in
     elim c.match-take.branch [
       | in-Some+in_ok-state-in-Some+then-is_settled w ↦ (
         ap (λ s. s.ends.place) w.state-is ∙ w.in_ok-state-in-Some.ensures.same.0 ∙ w.in-Some.ensures.same.0 ∙ c.loop.invariant.0,
@@ -23,6 +27,8 @@ loop-preserved g c =
           ap (λ xs. cover xs p) w.in-Some.ensures.same.1,
           c.loop.invariant.1 p,
         ),
+        subst (λ s. KeepsAsked Asked first.ends.place first.partial s.partial) (sym w.state-is)
+            (kept_both Asked first.ends.place first.partial c.loop.state.partial w.in_ok-state-in-Some.state.partial c.loop.invariant.2 (kept_at Asked _ _ _ _ (w.in-Some.ensures.same.0 ∙ c.loop.invariant.0) w.in_ok-state-in-Some.ensures.asked)),
       )
       | in-Some+in_ok-state-in-Some+else-is_settled w ↦ (
         ap (λ s. s.ends.place) w.state-is ∙ w.in_ok-state-in-Some.ensures.same.0 ∙ w.in-Some.ensures.same.0 ∙ c.loop.invariant.0,
@@ -39,6 +45,8 @@ loop-preserved g c =
           ap (λ xs. cover xs p) w.in-Some.ensures.same.1,
           c.loop.invariant.1 p,
         ),
+        subst (λ s. KeepsAsked Asked first.ends.place first.partial s.partial) (sym w.state-is)
+            (kept_both Asked first.ends.place first.partial c.loop.state.partial w.in_ok-state-in-Some.state.partial c.loop.invariant.2 (kept_at Asked _ _ _ _ (w.in-Some.ensures.same.0 ∙ c.loop.invariant.0) w.in_ok-state-in-Some.ensures.asked)),
       )
       | in-None+else-failed-shared w ↦ (
         ap (λ s. s.ends.place) w.state-is ∙ w.in-None.ensures.same.0 ∙ c.loop.invariant.0,
@@ -53,6 +61,7 @@ loop-preserved g c =
           ap (λ xs. cover xs p) w.in-None.ensures.same.1,
           c.loop.invariant.1 p,
         ),
+        subst (λ s. KeepsAsked Asked first.ends.place first.partial s.partial) (sym w.state-is) c.loop.invariant.2,
       )
     ]
 

@@ -1,6 +1,7 @@
-use Rattle.std.proofs.Common.{rules, ap, arith}
+use Rattle.std.proofs.Common.{rules, ap, ◌∙◌, arith}
 use Rattle.std.proofs.lemmas.Result.{IfOk-weaker}
 use Rattle.iter.specs.declared.interval.Interval.{Interval}
+use Rattle.task_pool.proofs.Asked.{kept_at, kept_both}
 use Rattle.task_pool.proofs.Halving.{Halved, halved, uncut}
 use Rattle.task_pool.proofs.Balances.{ends_both, ends_pushed}
 use Rattle.task_pool.proofs.worker.WorkerState.+process.Goals as goal
@@ -71,3 +72,17 @@ returns-in-Ok-process-clause-did g t c =
     let mid = c.in-Ok-process.state in
     let h : Halved task lower c.in-Some.upper = halved path c.law_of_cuts.ensures.divide m grain task lower c.in-Some.upper c.in-Ok.rest c.in-Some.is c.in-Ok.ensures in
     IfOk-weaker c.process-in-Ok-process.result _ _ (λ done is. ends_both self.partial mid.partial done.partial self.ends.pushed c.push.new.self.pushed mid.ends.pushed done.ends.pushed self.leftover.items mid.leftover.items done.leftover.items task lower c.in-Some.upper c.in-Err-push.upper h c.in-Err-push.ensures.did.0 c.in-Err-push.ensures.did.1 c.in-Ok-process.ensures.did is) c.process-in-Ok-process.ensures.did
+
+pub returns-in-Ok-push-clause-asked : goal.returns-in-Ok-push-clause-asked
+returns-in-Ok-push-clause-asked g t c =
+    let Asked = g.G.Gate.asked c.args.shared.now.gate.now in
+    IfOk-weaker c.process.result _ _ (λ done is. kept_at Asked _ _ _ _ c.push.ensures.same.0 is) c.process.ensures.asked
+
+pub returns-in-Ok-process-clause-asked : goal.returns-in-Ok-process-clause-asked
+returns-in-Ok-process-clause-asked g t c =
+    let Asked = g.G.Gate.asked c.args.shared.now.gate.now in
+    let state = c.in-Ok-process in
+    let self = c.args.self in
+    IfOk-weaker c.process-in-Ok-process.result _ _ (λ done is. kept_both Asked self.ends.place self.partial state.state.partial done.partial
+    (kept_at Asked _ _ _ _ c.push.ensures.same.0 state.ensures.asked)
+    (kept_at Asked _ _ _ _ (state.ensures.same.0 ∙ c.push.ensures.same.0) is)) c.process-in-Ok-process.ensures.asked
