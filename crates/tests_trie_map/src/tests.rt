@@ -1,6 +1,7 @@
 //! What the calls answer, by hand and by several threads at once.
 mod asked;
 mod calls;
+mod clears;
 mod crews;
 mod drops;
 mod equality;
