@@ -1,4 +1,5 @@
 pub mod Counting
 pub mod Equality
+pub mod Finding
 pub mod Keeping
 pub mod Walks

@@ -1,8 +1,9 @@
 -- What questions about a map may be answered.
-use Rattle.std.specs.Prelude.{◌≡◌, ◌&&◌, ℕ, Bool, true, false, not, Option, Some, None, Contains, map}
+use Rattle.std.specs.Prelude.{◌≡◌, ◌&&◌, ℕ, Bool, true, false, not, Option, Some, None, Contains, IfSome, map}
 use Rattle.std.specs.List.{list_any}
 use Rattle.std.specs.declared.cmp.Ordering.{Ordering}
 use Rattle.bulk_work.specs.Answers as plain
+use Rattle.bulk_ops.specs.Meanings.{Means}
 use Rattle.bulk_work.specs.Summaries.{IsAnswered}
 use Rattle.bulk_work.specs.declared.asks.Answer.{Answer}
 use Rattle.stripes.specs.Rules.{AllKeep}
@@ -13,6 +14,11 @@ use Rattle.versions.specs.Map.{Map}
 abbrev pub IsFound : {K V : Type 0} → (K → V → Bool) → Map K V → Option (K × V) → Type 0
 IsFound p m None = list_any (plain.passes p) m ≡ false
 IsFound p m (Some x) = Contains m x × (plain.passes p x ≡ true)
+
+-- what is found is a pair of the map; for each meaning of the closure it passes, and where none is found none passes
+pub record IsFoundBy {K V : Type 0} (gives : K → V → Bool → Type 0) (m : Map K V) (found : Option (K × V)) : Type 0 where
+  pub there : IfSome found (Contains m)
+  pub exact : (p : K → V → Bool) → Means gives p → IsFound p m found
 
 -- the pairs that fail the test
 abbrev pub failing : {K V : Type 0} → (K → V → Bool) → Map K V → Map K V

@@ -5,7 +5,9 @@
 #![tactic(auto)]
 
 mod crew;
+mod crew_finds;
 mod crew_questions;
+mod finds;
 mod keys_and_values;
 mod questions;
 mod shown;

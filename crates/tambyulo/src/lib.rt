@@ -6,6 +6,7 @@
 mod test;
 #[cfg(test)]
 mod tests;
+mod trie_set;
 
 pub use hash_path::{Path, Sought};
 pub use key_parts::{Parts, ThreeParts};
@@ -17,4 +18,5 @@ pub use trie_map::{
     PutError, Query, Ranked, Reader, Readers, Refusal, Scored, Session, Stored, StoredItem,
     StoredMap, StoredPairs, StoredTest, Sum, TrieMap, Values, Version, View, pairs_of,
 };
+pub use trie_set::TrieSet;
 pub use view_sets::Changes;

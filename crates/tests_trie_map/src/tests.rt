@@ -15,6 +15,7 @@ mod reads;
 mod reentry;
 mod restored;
 mod retained;
+mod sets;
 mod texts;
 mod together;
 mod updates;

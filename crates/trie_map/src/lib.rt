@@ -5,6 +5,7 @@
 //! it is read with no lock. Each pair keeps a rule of the user's (`Keeps`), or `Anything`.
 #![tactic(auto)]
 
+mod crew_finds;
 mod crew_questions;
 mod history_law;
 mod origin;

@@ -1,6 +1,6 @@
 //! Questions by closures that a crew works.
 
-use super::{Map, empty, put, view_of};
+use super::{Map, assert_is, empty, put, view_of};
 use combiner::Sum;
 use std::process::Abort;
 use std::sync::Wait;
@@ -45,4 +45,61 @@ fn a_crew_folds_by_a_plain_closure(rt: HostRuntime) {
     assert!(rt; matches!(of_map, Ok(300)));
     let of_view = view_of(&rt, &map).par_fold(&rt, &Sum, |_, value| i128::from(*value), four());
     assert!(rt; matches!(of_view, Ok(300)));
+}
+
+#[test]
+fn a_crew_finds_a_pair_by_a_plain_closure(rt: HostRuntime) {
+    let map = in_thirds(&rt);
+    let found = map.par_find(&rt, |key, _| key.id == 299, four());
+    let found = found
+        .expect(&rt, "not searched")
+        .map(|pair| (pair.0.id, *pair.1));
+    assert_is(&rt, found, Some((299, 2)));
+    let view = view_of(&rt, &map);
+    let absent = view.par_find(&rt, |_, value| *value == 3, four());
+    assert_is(&rt, absent.expect(&rt, "not searched").is_none(), true);
+}
+
+#[test]
+fn a_crew_says_whether_some_pass_and_whether_all(rt: HostRuntime) {
+    let map = in_thirds(&rt);
+    let view = view_of(&rt, &map);
+    assert_is(
+        &rt,
+        map.par_exists(&rt, |_, value| *value == 2, four()),
+        Ok(true),
+    );
+    assert_is(
+        &rt,
+        view.par_exists(&rt, |_, value| *value == 3, four()),
+        Ok(false),
+    );
+    assert_is(
+        &rt,
+        map.par_for_all(&rt, |_, value| *value < 3, four()),
+        Ok(true),
+    );
+    assert_is(
+        &rt,
+        view.par_for_all(&rt, |_, value| *value < 2, four()),
+        Ok(false),
+    );
+    let none = view_of(&rt, &empty(&rt));
+    assert_is(&rt, none.par_exists(&rt, |_, _| true, four()), Ok(false));
+    assert_is(&rt, none.par_for_all(&rt, |_, _| false, four()), Ok(true));
+}
+
+#[test]
+fn a_crew_calls_a_closure_at_each_pair(rt: HostRuntime) {
+    let map = in_thirds(&rt);
+    let sum: Map = empty(&rt);
+    let done = map.par_for_each(
+        &rt,
+        |key, _| {
+            sum.put(&rt, *key, 1).is_ok();
+        },
+        four(),
+    );
+    assert_is(&rt, done, Ok(()));
+    assert_is(&rt, sum.len(&rt), 300);
 }
