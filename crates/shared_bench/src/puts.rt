@@ -52,7 +52,7 @@ fn write<R: Clock + AllocGlobal + Wait>(rt: &R, map: &Map, pairs: u32) -> Result
     Ok(Written { spread, sum })
 }
 
-/// Makes one put, counts its time, and answers the value that was replaced, 0 where there was none.
+/// Makes one put, counts its time, and returns the value that was replaced, 0 where there was none.
 fn put<R: Clock + Wait>(
     rt: &R,
     map: &Map,

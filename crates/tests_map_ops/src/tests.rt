@@ -67,7 +67,7 @@ fn plainly(value: Option<Arc<i64>>) -> Option<i64> {
     }
 }
 
-// Maps the key to the value, and answers the value before, or none.
+// Maps the key to the value, and returns the value before, or none.
 fn put<K: PathKey + Drop>(
     rt: &impl Abort,
     alloc: Global,
@@ -80,7 +80,7 @@ fn put<K: PathKey + Drop>(
     Ok(plainly(version.put(alloc, key, value)?))
 }
 
-// Maps the text to the value, and answers the value before, or none.
+// Maps the text to the value, and returns the value before, or none.
 fn put_text(
     rt: &impl Abort,
     alloc: Global,
@@ -93,7 +93,7 @@ fn put_text(
     Ok(plainly(version.put(alloc, key, value)?))
 }
 
-// Removes the key, and answers the value before, or none.
+// Removes the key, and returns the value before, or none.
 fn remove<K: PathKey + Drop>(
     rt: &impl Abort,
     alloc: Global,

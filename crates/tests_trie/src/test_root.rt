@@ -135,7 +135,7 @@ impl<K: PathKey + Drop, V: Drop> TestRoot<K, V> {
         })
     }
 
-    /// What a put under the condition answers.
+    /// What a put under the condition returns.
     pub fn put_where<C: Condition<V>>(
         &self,
         alloc: Global,
@@ -150,7 +150,7 @@ impl<K: PathKey + Drop, V: Drop> TestRoot<K, V> {
         trie_node::put_where(alloc, &self.root, key, value, stamp, condition)
     }
 
-    /// What a removal under the condition answers.
+    /// What a removal under the condition returns.
     pub fn removed_where<C: Condition<V>>(
         &self,
         alloc: Global,

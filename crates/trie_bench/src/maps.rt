@@ -21,7 +21,7 @@ pub fn empty<K: PathKey + Drop>(alloc: Global, source: &mut Source) -> Result<Ma
     Ok(Version::empty(alloc, MOST_PAIRS, source.next())?)
 }
 
-/// Maps each key to its number plus `more`, and answers the sum of the values before.
+/// Maps each key to its number plus `more`, and returns the sum of the values before.
 pub fn put_all<K: PathKey + Drop>(
     alloc: Global,
     map: &mut Map<K>,
@@ -53,7 +53,7 @@ pub fn get_all<K: PathKey + Drop>(map: &Map<K>, keys: &[Arc<K>]) -> i64 {
     sum
 }
 
-/// Removes each key, and answers the sum of the values that were removed.
+/// Removes each key, and returns the sum of the values that were removed.
 pub fn remove_all<K: PathKey + Drop>(
     alloc: Global,
     map: &mut Map<K>,
@@ -68,7 +68,7 @@ pub fn remove_all<K: PathKey + Drop>(
     Ok(sum)
 }
 
-/// Takes a snapshot and then puts a value, at each of the keys, and answers the sum of the values
+/// Takes a snapshot and then puts a value, at each of the keys, and returns the sum of the values
 /// that the snapshots have there.
 pub fn snapshot_all<K: PathKey + Drop>(
     alloc: Global,

@@ -18,7 +18,7 @@ pub fn walk_all(alloc: Global, view: &View<ByteText, i64>) -> Result<i64, Fault>
 }
 
 /// Cuts the piece of all pairs, and each piece that comes of it, until no piece is larger than the grain or can be cut.
-/// It answers how many pieces are left.
+/// It returns how many pieces are left.
 pub fn cut_all(alloc: Global, view: &View<ByteText, i64>, grain: u64) -> Result<u64, Fault> {
     let mut uncut = Vec::new(alloc);
     uncut.push(whole(alloc, view.try_clone()?))?;

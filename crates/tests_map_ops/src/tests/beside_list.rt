@@ -84,7 +84,7 @@ impl Both {
         }
     }
 
-    // Puts the value at the key in both, and answers what each answers.
+    // Puts the value at the key in both, and returns what each returns.
     fn put(&mut self, rt: &impl Abort, alloc: Global, key: ChosenKey, value: i64) -> Answers {
         let before = listed(&self.list, &key);
         let key = Arc::new(alloc, key).expect(rt, "no key");
@@ -94,7 +94,7 @@ impl Both {
         (before, plainly(put.expect(rt, "not put")))
     }
 
-    // Removes the key from both, and answers what each answers.
+    // Removes the key from both, and returns what each returns.
     fn remove(&mut self, rt: &impl Abort, alloc: Global, key: &ChosenKey) -> Answers {
         let before = listed(&self.list, key);
         self.list = without_pair(alloc, &self.list, key).expect(rt, "no list");
@@ -109,7 +109,7 @@ impl Both {
         }
     }
 
-    // A put, or else a removal, which a number picks. It answers what each answers.
+    // A put, or else a removal, which a number picks. It returns what each returns.
     fn write(&mut self, rt: &impl Abort, alloc: Global, number: u32) -> Answers {
         let key = key_of(number / 2);
         if number % 2 == 0 {

@@ -7,7 +7,7 @@ use test_keys::ChosenKey;
 use trie_node::{Condition, IfAbsent, IfEqual, IfPresent, Stamp};
 use versions::Refusal;
 
-// Maps the text to the value where the condition holds. It answers the value before and whether it was done.
+// Maps the text to the value where the condition holds. It returns the value before and whether it was done.
 fn put_text_where<C: Condition<i64>>(
     rt: &impl Abort,
     alloc: Global,
@@ -21,7 +21,7 @@ fn put_text_where<C: Condition<i64>>(
     Ok((plainly(change.previous), change.written))
 }
 
-// Removes the text where the condition holds. It answers the value before and whether it was done.
+// Removes the text where the condition holds. It returns the value before and whether it was done.
 fn remove_text_where<C: Condition<i64>>(
     rt: &impl Abort,
     alloc: Global,

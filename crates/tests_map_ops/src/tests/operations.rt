@@ -21,7 +21,7 @@ enum Call {
     GetOrElseUpdate(i64),
 }
 
-// What an operation answers.
+// What an operation returns.
 #[derive(Clone, Copy, Debug, PartialEq, Eq)]
 enum Answer {
     // The value before, or none.
@@ -32,10 +32,10 @@ enum Answer {
     Is(i64, bool),
 }
 
-// A call, its key, and what it answers.
+// A call, its key, and what it returns.
 type Case<'a> = (Call, &'a str, Result<Answer, Refusal>);
 
-// Puts the value, and answers the one before.
+// Puts the value, and returns the one before.
 fn put_at(
     rt: &impl Abort,
     alloc: Global,
@@ -47,7 +47,7 @@ fn put_at(
     Ok(plainly(put(map, alloc, key, shared(rt, alloc, value))?))
 }
 
-// Puts the value where there is none, and answers the one before.
+// Puts the value where there is none, and returns the one before.
 fn add_at(
     rt: &impl Abort,
     alloc: Global,
@@ -59,7 +59,7 @@ fn add_at(
     Ok(plainly(put_if_absent(map, alloc, key, shared(rt, alloc, value))?))
 }
 
-// Puts the value where there is one, and answers the one before.
+// Puts the value where there is one, and returns the one before.
 fn replace_at(
     rt: &impl Abort,
     alloc: Global,
@@ -71,7 +71,7 @@ fn replace_at(
     Ok(plainly(replace(map, alloc, key, shared(rt, alloc, value))?))
 }
 
-// Puts the new value where the old one is, and answers whether it was.
+// Puts the new value where the old one is, and returns whether it was.
 fn swap_at(
     rt: &impl Abort,
     alloc: Global,
@@ -83,7 +83,7 @@ fn swap_at(
     replace_if(map, alloc, key, &old, shared(rt, alloc, new))
 }
 
-// Removes the key, and answers the value before.
+// Removes the key, and returns the value before.
 fn remove_at(
     rt: &impl Abort,
     alloc: Global,
@@ -94,7 +94,7 @@ fn remove_at(
     Ok(remove(map, alloc, &*key).map(plainly)?)
 }
 
-// Removes the key where the value is this one, and answers whether it was.
+// Removes the key where the value is this one, and returns whether it was.
 fn remove_value_at(
     rt: &impl Abort,
     alloc: Global,
@@ -123,7 +123,7 @@ fn get_or_put(
     Ok((*found, ran))
 }
 
-// What the call on the key answers.
+// What the call on the key returns.
 fn answer_of(
     rt: &impl Abort,
     alloc: Global,

@@ -33,7 +33,7 @@ fn plainly(
     }
 }
 
-// What a put of 6 at the key answers, if it is absent.
+// What a put of 6 at the key returns, if it is absent.
 fn put_if_absent(
     rt: &impl Abort,
     alloc: Global,
@@ -45,7 +45,7 @@ fn put_if_absent(
     plainly(rt, trie.put_where(alloc, key, value, Stamp(2), &IfAbsent))
 }
 
-// What a removal of the key answers, if it has this value.
+// What a removal of the key returns, if it has this value.
 fn removed_if(
     rt: &impl Abort,
     alloc: Global,

@@ -107,7 +107,7 @@ fn counted(count: &AtomicU32, answer: bool) -> bool {
     answer
 }
 
-// How often a test that answers so of each pair is called by an exists, by a for-all and by a search.
+// How often a test that returns so of each pair is called by an exists, by a for-all and by a search.
 fn calls(view: &Seen, answer: bool) -> [u32; 3] {
     let (some, all, found) = (AtomicU32::new(0), AtomicU32::new(0), AtomicU32::new(0));
     view.exists(|_, _| counted(&some, answer));

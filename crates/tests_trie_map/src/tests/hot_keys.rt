@@ -70,7 +70,7 @@ enum Write {
     Restore,
 }
 
-// Makes the call, and answers whether it was granted.
+// Makes the call, and returns whether it was granted.
 fn make_write<R: AllocGlobal + Wait>(rt: &R, map: &Map, call: Write) -> bool {
     let third = key(3, 0);
     match call {
@@ -109,7 +109,7 @@ fn remove<R: AllocGlobal + Wait>(rt: &R, map: &Map, call: Write) -> bool {
     }
 }
 
-// Makes the call on a map whose reader has a base, and answers whether it was granted, and what the reader finds then.
+// Makes the call on a map whose reader has a base, and returns whether it was granted, and what the reader finds then.
 fn seen_after<R: AllocGlobal + Wait + Abort>(rt: &R, call: Write) -> (bool, Option<u64>) {
     let map = filled(rt);
     let readers = map.readers();

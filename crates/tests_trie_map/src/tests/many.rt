@@ -90,7 +90,7 @@ fn is_torn<R: Wait>(
     Ok(1 < first.wrapping_sub(second))
 }
 
-// Looks until the writer is done, and answers how often what was seen was torn.
+// Looks until the writer is done, and returns how often what was seen was torn.
 fn look<R: Wait>(
     rt: &R,
     map: &Map,
@@ -110,7 +110,7 @@ fn look<R: Wait>(
     unreachable!()
 }
 
-// What the thread of this number does: it answers how often what it saw was torn.
+// What the thread of this number does: it returns how often what it saw was torn.
 fn work<R: Wait>(
     rt: &R,
     map: &Map,

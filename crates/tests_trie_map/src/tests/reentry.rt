@@ -5,7 +5,7 @@ use std::sync::Wait;
 use std::thread::Threads;
 use trie_map::{Crew, NoMemory, PutError, Sum};
 
-// Puts a key of each first digit, and answers whether each was put.
+// Puts a key of each first digit, and returns whether each was put.
 fn puts_everywhere<R: Wait>(rt: &R, map: &Map) -> bool {
     let mut done = true;
     for digit in 0..32 {

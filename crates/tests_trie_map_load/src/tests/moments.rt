@@ -128,7 +128,7 @@ fn is_wrong<R: Wait>(
     }
 }
 
-// Looks until the writer is done, and answers how often what was seen was wrong.
+// Looks until the writer is done, and returns how often what was seen was wrong.
 fn look<R: Wait>(
     rt: &R,
     map: &Map,
@@ -160,7 +160,7 @@ fn watch<R: Clock + Abort>(rt: &R, done: &AtomicU32) {
     assert!(rt; false, "the threads wait for one another");
 }
 
-// What the thread of this number does: it answers how often what it saw was wrong.
+// What the thread of this number does: it returns how often what it saw was wrong.
 fn work<R: Wait + Clock + Abort>(
     rt: &R,
     map: &Map,

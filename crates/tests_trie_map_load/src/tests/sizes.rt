@@ -21,7 +21,7 @@ fn in_first_stripe(number: u64) -> ChosenKey {
     numbered(number.wrapping_mul(32))
 }
 
-// Puts many keys, and answers how many were there before.
+// Puts many keys, and returns how many were there before.
 fn put_many<R: Wait>(rt: &R, map: &Map) -> Result<u64, PutError> {
     let mut there = 0u64;
     for number in 0..MANY {
@@ -54,7 +54,7 @@ fn viewed(view: &Seen) -> (u64, u64) {
     (view.len(), right)
 }
 
-// Removes the keys, and answers how many had their number.
+// Removes the keys, and returns how many had their number.
 fn removed<R: Wait>(rt: &R, map: &Map) -> Result<u64, NoMemory> {
     let mut right = 0u64;
     for number in 0..MANY {

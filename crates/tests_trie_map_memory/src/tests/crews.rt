@@ -203,7 +203,7 @@ fn each_question_is_worked_by_all_threads(rt: HostRuntime) {
 
 type Meeting<'a> = Query<ChosenKey, u64, Meets<'a>, Zero, Sum, Values, NoImages>;
 
-// Asks all pairs, and answers how many passed.
+// Asks all pairs, and returns how many passed.
 fn met<R: Threads + Wait + Abort + Sync>(rt: &R, map: &Map, inside: &Inside) -> u64 {
     let query: Meeting = Query::Count(Stored::new(Meets(inside)));
     let (answer, _) = map.par_query(rt, &query, four()).expect(rt, "no count");

@@ -67,7 +67,7 @@ fn blocks(alloc: Global, count: usize, size: usize) -> Result<Vec<Vec<u8>>, Allo
     Ok(blocks)
 }
 
-// What a put of a third key answers where there is room for `small` small requests and `large` large ones alone.
+// What a put of a third key returns where there is room for `small` small requests and `large` large ones alone.
 fn put_in_room<R: Wait + Abort>(
     rt: &R,
     alloc: Global,
@@ -85,7 +85,7 @@ fn put_in_room<R: Wait + Abort>(
     Ok(plain(answer?))
 }
 
-// What a put of a third key answers where there is room for `small` small requests and `large` large ones alone, and
+// What a put of a third key returns where there is room for `small` small requests and `large` large ones alone, and
 // the values of the first and the third key then. The three stand side by side, below the first digit that they share.
 fn put_beside<R: AllocGlobal + Wait + Abort>(
     rt: &R,

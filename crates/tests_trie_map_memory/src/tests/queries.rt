@@ -74,7 +74,7 @@ fn a_question_about_the_whole_map(rt: HostRuntime) {
     assert!(rt; made.is_none());
 }
 
-// Puts a key of each first digit, and answers whether each was put.
+// Puts a key of each first digit, and returns whether each was put.
 fn puts_everywhere<R: Wait>(rt: &R, map: &Map) -> bool {
     let mut done = true;
     for digit in 0..32 {
