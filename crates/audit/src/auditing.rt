@@ -11,8 +11,8 @@ use journal_lines::Lines;
 use std::alloc::Global;
 use versions::{MOST_PAIRS, NoMemory};
 
-// How much the maps and the journal of a program may hold.
-const LARGEST: Limits = Limits {
+/// How much the maps and the journal of a program may hold.
+pub const LARGEST: Limits = Limits {
     pairs: MOST_PAIRS,
     entries: MOST_ENTRIES,
 };

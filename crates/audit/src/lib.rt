@@ -14,6 +14,6 @@ mod reply_parts;
 mod values;
 mod verdict;
 
-pub use auditing::audit;
+pub use auditing::{LARGEST, audit};
 pub use laws::{law_of_entries, law_of_runs, law_of_statements, law_of_verdicts};
 pub use verdict::Verdict;

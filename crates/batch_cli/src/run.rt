@@ -9,7 +9,7 @@ ghost use Rattle.script_runs.specs.Runs.{IsRunOf};
 
 use crate::client::ScriptClient;
 use crate::gate::LineGate;
-use handles::{Limits, MOST_ENTRIES};
+use audit::LARGEST;
 use keys::ByteText;
 use locked_map::{MOST_SEATS, NoJournal, with_clients};
 use program_io::RunFault;
@@ -21,17 +21,10 @@ use std::io::Write;
 use std::sync::Wait;
 use std::thread::Threads;
 use task_pool::Crew;
-use versions::MOST_PAIRS;
 
 /// The journal of a run: what each client asked and was returned, in the order in which it was done. A freeze holds
 /// the question of its line.
 pub type Journal = locked_map::Journal<ByteText, i64, ScriptQuery, Option<i128>>;
-
-// How much the maps and the journal of a script may hold.
-const LARGEST: Limits = Limits {
-    pairs: MOST_PAIRS,
-    entries: MOST_ENTRIES,
-};
 
 /// Runs the lines of each client in the order of their numbers, each client on a thread of its own over one map, and
 /// writes a line for each, in the order of all numbers: its number, a space and its reply. All replies are there before
