@@ -1,5 +1,6 @@
 """What the tools of the repository share: its crates, what they stand on, and what each costs the gate."""
 
+import contextlib
 import dataclasses
 import importlib.machinery
 import importlib.util
@@ -9,6 +10,7 @@ import re
 import subprocess
 import sys
 import types
+from collections.abc import Iterator
 
 TOP = pathlib.Path(__file__).resolve().parent.parent
 # The table of times. A row has a crate, and the seconds of its proof, of its tests and of its edits.
@@ -151,11 +153,31 @@ def kit() -> pathlib.Path:
     return pathlib.Path(found.stdout.strip()).parent
 
 
+@contextlib.contextmanager
+def crates_of_toolchain() -> Iterator[types.ModuleType]:
+    """The toolchain's module of crates, by which the files of each are read once. It reads them anew by each way from a crate
+    above, and there are more such ways than can be walked.
+    """
+    rtlib = tool(f"{kit()}/bin/rtlib.py")
+    of_files, sums = rtlib.Crate.stamp, {}
+
+    def stamp(crate: object) -> str:
+        if crate.folder not in sums:
+            sums[crate.folder] = of_files(crate)
+        return sums[crate.folder]
+
+    rtlib.Crate.stamp = stamp
+    try:
+        yield rtlib
+    finally:
+        rtlib.Crate.stamp = of_files
+
+
 def built(names: list[str]) -> list[str]:
     """Those of these crates that are built here of the files that they have, lowest first. None where that cannot be seen."""
     try:
-        rtlib = tool(f"{kit()}/bin/rtlib.py")
-        found = [it for it in names if rtlib.Crate(str(TOP / "crates" / it), str(TOP), {}).is_built()]
+        with crates_of_toolchain() as rtlib:
+            found = [it for it in names if rtlib.Crate(str(TOP / "crates" / it), str(TOP), {}).is_built()]
     except (Exception, SystemExit):
         return []
     return [it for it in found if set(below(crates(), [it])).issubset(found)]
@@ -167,12 +189,12 @@ def note_built(top: pathlib.Path, names: list[str]) -> None:
     `rt ci` leaves them without the stamp by which other commands know a library that fits those below it. Here each was
     built by one run over the others, or kept by sums of them, so each fits. A library that is missing is proved again.
     """
-    rtlib = tool(f"{kit()}/bin/rtlib.py")
-    for name in names:
-        crate = rtlib.Crate(str(top / "crates" / name), str(top), {})
-        if pathlib.Path(crate.rlib, "format").is_file():
-            stamp = pathlib.Path(crate.rlib).with_name("stamp")
-            stamp.write_text(crate.stamp(), encoding="utf-8")
+    with crates_of_toolchain() as rtlib:
+        for name in names:
+            crate = rtlib.Crate(str(top / "crates" / name), str(top), {})
+            if pathlib.Path(crate.rlib, "format").is_file():
+                stamp = pathlib.Path(crate.rlib).with_name("stamp")
+                stamp.write_text(crate.stamp(), encoding="utf-8")
 
 
 @dataclasses.dataclass(frozen=True)
