@@ -13,17 +13,16 @@ pub fn read_lists<R: Runtime + AllocGlobal>(
     rt: &R,
     rounds: u32,
     name: &str,
-    view: &versions::View<ByteText, i64>,
+    view: &View<ByteText, i64>,
     keys: &[Arc<ByteText>],
     at_once: usize,
 ) -> Result<(), Fault> {
-    let view = View::<ByteText, i64>::new(rt.alloc(), view.try_clone()?);
     let sought = sought_by(rt.alloc(), keys)?;
     let mut best = Best::new();
     let mut sum = 0;
     for _ in 0..rounds {
         let start = Instant::now(rt)?;
-        sum = get_lists(&view, sought.as_slice(), at_once)?;
+        sum = get_lists(view, sought.as_slice(), at_once)?;
         best.count(start.elapsed(rt)?);
     }
     best.show(rt, name, 1, i128::from(sum))

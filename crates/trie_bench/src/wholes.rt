@@ -9,6 +9,7 @@ use keys::ByteText;
 use std::rt::Runtime;
 use std::sync::Arc;
 use std::time::Instant;
+use trie_map::View as SharedView;
 use versions::View;
 
 /// How many snapshots a round takes, each with a put after it.
@@ -53,9 +54,8 @@ pub fn cut<R: Runtime + AllocGlobal>(
 pub fn view_filter<R: Runtime + AllocGlobal>(
     rt: &R,
     rounds: u32,
-    view: &View<ByteText, i64>,
+    view: &SharedView<ByteText, i64>,
 ) -> Result<(), Fault> {
-    let view = trie_map::View::<ByteText, i64>::new(rt.alloc(), view.try_clone()?);
     let half = (view.len() / 2) as i64;
     let mut best = Best::new();
     let mut count = 0;
@@ -72,9 +72,8 @@ pub fn view_filter<R: Runtime + AllocGlobal>(
 pub fn view_map_values<R: Runtime + AllocGlobal>(
     rt: &R,
     rounds: u32,
-    view: &View<ByteText, i64>,
+    view: &SharedView<ByteText, i64>,
 ) -> Result<(), Fault> {
-    let view = trie_map::View::<ByteText, i64>::new(rt.alloc(), view.try_clone()?);
     let mut best = Best::new();
     let mut count = 0;
     for _ in 0..rounds {
