@@ -42,7 +42,9 @@ use versions::Version;
 #[derive(Drop)]
 pub struct View<K: PathKey, V, P: Keeps<K, V> = Anything> {
     alloc: Global,
+    // What the calls read.
     plain: versions::View<K, V>,
+    // The same root as a map, which `TrieMap::restore` parts: a plain view does not know the newest stamp of its nodes.
     whole: Version<K, V>,
     rule: PhantomData<P>,
 }
