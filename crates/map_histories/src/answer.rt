@@ -1,7 +1,9 @@
 //! What calls return.
 
-use crate::call::KEYS;
+use crate::call::{ALL_KEYS, KEYS};
 use std::fmt;
+use std::sync::Wait;
+use trie_map::{TrieMap, View};
 
 /// What a call returned.
 #[derive(Clone, Copy)]
@@ -23,6 +25,38 @@ pub enum Answer {
 pub struct Contents {
     pub values: [Option<u64>; KEYS],
     pub pairs: u64,
+}
+
+impl Contents {
+    /// No pair.
+    pub const NOTHING: Contents = Contents {
+        values: [None; KEYS],
+        pairs: 0,
+    };
+
+    /// What a view has.
+    pub fn of_view(view: &View<u64, u64>) -> Contents {
+        let mut values: [Option<u64>; KEYS] = [None; KEYS];
+        for (key, slot) in ALL_KEYS.iter().zip(values.iter_mut()) {
+            *slot = view.get(key).map(|value| **value);
+        }
+        Contents {
+            values,
+            pairs: view.len(),
+        }
+    }
+
+    /// What a map has that no other thread calls.
+    pub fn of_map<R: Wait>(rt: &R, map: &TrieMap<u64, u64>) -> Contents {
+        let mut values: [Option<u64>; KEYS] = [None; KEYS];
+        for (key, slot) in ALL_KEYS.iter().zip(values.iter_mut()) {
+            *slot = map.get_copied(rt, key);
+        }
+        Contents {
+            values,
+            pairs: map.len(rt),
+        }
+    }
 }
 
 impl fmt::Display for Answer {

@@ -1,5 +1,6 @@
 //! The calls of a history.
 
+use crate::answer::Contents;
 use std::fmt;
 
 /// How many keys there are.
@@ -54,6 +55,8 @@ pub enum MapCall {
     Snapshot,
     Len,
     Clear,
+    /// All pairs are replaced by these.
+    Restore(Contents),
 }
 
 impl fmt::Display for Call {
@@ -64,6 +67,7 @@ impl fmt::Display for Call {
                 call.write_values(f)
             }
             Call::Reader(key, call) => write!(f, "{} {key}", call.name()),
+            Call::Map(MapCall::Restore(contents)) => write_restore(f, *contents),
             Call::Map(call) => f.write_str(call.name()),
         }
     }
@@ -107,8 +111,8 @@ impl KeyCall {
 }
 
 impl ReaderCall {
-    // The name of the call.
-    fn name(&self) -> &'static str {
+    /// The name of the call.
+    pub fn name(&self) -> &'static str {
         match self {
             ReaderCall::GetCopied => "reader_get_copied",
             ReaderCall::Read => "reader_read",
@@ -124,6 +128,16 @@ impl MapCall {
             MapCall::Snapshot => "snapshot",
             MapCall::Len => "len",
             MapCall::Clear => "clear",
+            MapCall::Restore(_) => "restore",
         }
     }
+}
+
+// Writes the name and the value of each key, 0 for none: no call writes a 0.
+fn write_restore<W: fmt::Write>(f: &mut fmt::Formatter<W>, contents: Contents) -> fmt::Result {
+    f.write_str("restore")?;
+    for value in contents.values {
+        write!(f, " {}", value.unwrap_or(0))?;
+    }
+    Ok(())
 }

@@ -12,6 +12,7 @@
 
 mod answer;
 mod call;
+mod caller;
 mod draws;
 mod fault;
 mod history;
@@ -20,7 +21,9 @@ mod make;
 mod plan;
 mod record;
 mod run;
+mod session_call;
 mod start;
+mod told;
 
 use std::process::ExitCode;
 

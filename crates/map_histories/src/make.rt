@@ -1,76 +1,89 @@
-//! Makes a call on the map.
+//! Calls on a map that has no history.
 
 use crate::answer::{Answer, Contents};
-use crate::call::{ALL_KEYS, Call, KEYS, KeyCall, MapCall, ReaderCall};
+use crate::call::{Call, KeyCall, MapCall, ReaderCall};
+use crate::caller::{Caller, Made, Outcome, Returned, value};
 use crate::fault::Fault;
-use std::sync::{Arc, Wait};
-use trie_map::{Reader, TrieMap, View};
+use std::sync::Wait;
+use trie_map::{NoMemory, Reader, Readers, TrieMap, View};
 
 /// The map that the threads share.
 pub type Map = TrieMap<u64, u64>;
 
-/// What one thread reads it by.
-pub type OwnReader<'r> = Reader<'r, u64, u64>;
-
-/// What a call returned, whose contents, if it has some, are not read yet.
+/// What one thread calls: the map, its reader of it, and a view that a `restore` puts back.
 #[derive(Drop)]
-pub enum Returned {
-    Answer(Answer),
-    View(View<u64, u64>),
-    Snapshot(Map),
+pub struct Plain<'m> {
+    map: &'m Map,
+    reader: Reader<'m, u64, u64>,
+    view: View<u64, u64>,
 }
 
-impl Returned {
-    /// The answer. The contents of a view or a snapshot, which nobody else has, are read now.
-    pub fn answer<R: Wait>(self, rt: &R) -> Answer {
-        match self {
-            Returned::Answer(answer) => answer,
-            Returned::View(view) => Answer::Contents(seen(&view)),
-            Returned::Snapshot(map) => Answer::Contents(kept(rt, &map)),
+impl<'m> Plain<'m> {
+    /// What a thread begins with.
+    pub fn new<R: Wait>(
+        rt: &R,
+        map: &'m Map,
+        readers: &'m Readers<'m, u64, u64>,
+    ) -> Result<Plain<'m>, NoMemory> {
+        Ok(Plain {
+            map,
+            reader: readers.reader(),
+            view: map.view(rt)?,
+        })
+    }
+
+    // Makes the call.
+    fn returned<R: Wait>(&mut self, rt: &R, call: Call) -> Result<Returned, Fault> {
+        match call {
+            Call::Key(key, call) => Ok(Returned::Answer(on_key(rt, self.map, key, call)?)),
+            Call::Reader(key, call) => {
+                let found = self.read(rt, key, call);
+                Ok(Returned::Answer(Answer::Value(found)))
+            }
+            Call::Map(call) => self.on_map(rt, call),
+        }
+    }
+
+    // Makes the call on the whole map.
+    fn on_map<R: Wait>(&self, rt: &R, call: MapCall) -> Result<Returned, Fault> {
+        match call {
+            MapCall::View => Ok(Returned::View(self.map.view(rt)?)),
+            MapCall::Snapshot => Ok(Returned::Snapshot(self.map.snapshot(rt)?)),
+            MapCall::Len => Ok(Returned::Answer(Answer::Pairs(self.map.len(rt)))),
+            MapCall::Clear => {
+                self.map.clear(rt)?;
+                Ok(Returned::Answer(Answer::Nothing))
+            }
+            // They are those of the view.
+            MapCall::Restore(_) => Ok(Returned::View(self.map.restore(rt, &self.view)?)),
         }
     }
 }
 
-/// Makes the call.
-pub fn make<R: Wait>(
-    rt: &R,
-    map: &Map,
-    reader: &mut OwnReader<'_>,
-    call: Call,
-) -> Result<Returned, Fault> {
-    match call {
-        Call::Key(key, call) => Ok(Returned::Answer(on_key(rt, map, key, call)?)),
-        Call::Reader(key, call) => {
-            let found = by_reader(rt, reader, key, call);
-            Ok(Returned::Answer(Answer::Value(found)))
-        }
-        Call::Map(call) => on_map(rt, map, call),
+impl<'m> Caller for Plain<'m> {
+    fn make<R: Wait>(&mut self, rt: &R, call: Call) -> Result<Outcome, Fault> {
+        Ok(Outcome {
+            made: Made::Plain(call),
+            returned: self.returned(rt, call)?,
+        })
     }
-}
 
-/// The value of the key, or none, by the reader.
-pub fn by_reader<R: Wait>(
-    rt: &R,
-    reader: &mut OwnReader<'_>,
-    key: u64,
-    call: ReaderCall,
-) -> Option<u64> {
-    match call {
-        ReaderCall::GetCopied => reader.get_copied(rt, &key),
-        ReaderCall::Read => reader.read(rt, &key, |found| found.map(|value| *value)),
-    }
-}
-
-// Makes the call on the whole map.
-fn on_map<R: Wait>(rt: &R, map: &Map, call: MapCall) -> Result<Returned, Fault> {
-    match call {
-        MapCall::View => Ok(Returned::View(map.view(rt)?)),
-        MapCall::Snapshot => Ok(Returned::Snapshot(map.snapshot(rt)?)),
-        MapCall::Len => Ok(Returned::Answer(Answer::Pairs(map.len(rt)))),
-        MapCall::Clear => {
-            map.clear(rt)?;
-            Ok(Returned::Answer(Answer::Nothing))
+    fn read<R: Wait>(&mut self, rt: &R, key: u64, call: ReaderCall) -> Option<u64> {
+        match call {
+            ReaderCall::GetCopied => self.reader.get_copied(rt, &key),
+            ReaderCall::Read => self
+                .reader
+                .read(rt, &key, |found| found.map(|value| *value)),
         }
+    }
+
+    fn kept(&self) -> Contents {
+        Contents::of_view(&self.view)
+    }
+
+    fn keep<R: Wait>(&mut self, rt: &R) -> Result<(), Fault> {
+        self.view = self.map.view(rt)?;
+        Ok(())
     }
 }
 
@@ -114,36 +127,4 @@ fn raised(old: Option<&u64>, by: u64) -> u64 {
 // What `try_get_or_else_update` makes: the value, unless it is odd.
 fn even(value: u64) -> Result<u64, ()> {
     if value % 2 == 0 { Ok(value) } else { Err(()) }
-}
-
-// A value, or none, as an answer.
-fn value(found: Option<Arc<u64>>) -> Answer {
-    match found {
-        Some(value) => Answer::Value(Some(*value)),
-        None => Answer::Value(None),
-    }
-}
-
-// What a view has.
-fn seen(view: &View<u64, u64>) -> Contents {
-    let mut values: [Option<u64>; KEYS] = [None; KEYS];
-    for (key, slot) in ALL_KEYS.iter().zip(values.iter_mut()) {
-        *slot = view.get(key).map(|value| **value);
-    }
-    Contents {
-        values,
-        pairs: view.len(),
-    }
-}
-
-// What a snapshot has.
-fn kept<R: Wait>(rt: &R, map: &Map) -> Contents {
-    let mut values: [Option<u64>; KEYS] = [None; KEYS];
-    for (key, slot) in ALL_KEYS.iter().zip(values.iter_mut()) {
-        *slot = map.get_copied(rt, key);
-    }
-    Contents {
-        values,
-        pairs: map.len(rt),
-    }
 }

@@ -1,6 +1,6 @@
 //! What a thread calls next.
 
-use crate::answer::Answer;
+use crate::answer::{Answer, Contents};
 use crate::call::{ALL_KEYS, Call, KeyCall, LAST_KEY, MapCall, ReaderCall};
 use crate::draws::Draws;
 
@@ -66,12 +66,12 @@ impl Plan {
         }
     }
 
-    /// The next call.
-    pub fn next(&mut self) -> Call {
+    /// The next call. A `restore` puts back what was kept.
+    pub fn next(&mut self, kept: Contents) -> Call {
         self.calls = self.calls.wrapping_add(1);
         match self.role {
-            Role::Mixed if self.draws.one_in(4) => self.on_map(),
-            Role::Whole if !self.draws.one_in(5) => self.on_map(),
+            Role::Mixed if self.draws.one_in(4) => self.on_map(kept),
+            Role::Whole if !self.draws.one_in(5) => self.on_map(kept),
             Role::Reading if !self.draws.one_in(5) => self.by_reader(),
             Role::Mixed | Role::Whole | Role::Reading => self.on_key(),
             Role::InOrder => self.in_order(),
@@ -112,11 +112,17 @@ impl Plan {
         }
     }
 
+    /// Whether a `restore` from now on puts back what the map has in the pause before the next call.
+    pub fn keeps(&mut self) -> bool {
+        self.draws.one_in(3)
+    }
+
     // A call on the whole map.
-    fn on_map(&mut self) -> Call {
+    fn on_map(&mut self, kept: Contents) -> Call {
         match self.draws.below(12) {
             0 => Call::Map(MapCall::Clear),
-            1..=3 => Call::Map(MapCall::Len),
+            1 => Call::Map(MapCall::Restore(kept)),
+            2..=3 => Call::Map(MapCall::Len),
             4..=6 => Call::Map(MapCall::Snapshot),
             _ => Call::Map(MapCall::View),
         }

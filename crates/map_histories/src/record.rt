@@ -1,7 +1,7 @@
 //! What is kept of a call.
 
 use crate::answer::Answer;
-use crate::call::Call;
+use crate::caller::Made;
 use std::fmt;
 
 /// A call, the tickets that were taken before and after it, and what it returned.
@@ -9,7 +9,7 @@ use std::fmt;
 pub struct Record {
     pub before: u64,
     pub after: u64,
-    pub call: Call,
+    pub call: Made,
     pub answer: Answer,
 }
 

@@ -9,39 +9,50 @@ use Rattle.std.specs.contracts.impls.GlobalAllocator.TheImpl as allocator
 use Rattle.std.specs.contracts.option.Option as Option
 use Rattle.std.specs.contracts.sync.Arc as Arc
 use Rattle.std.specs.contracts.sync.Mutex as Mutex
+use Rattle.std.specs.declared.cmp.Eq as Eq
 use Rattle.std.specs.declared.cmp.Ord as Ord
 use Rattle.std.specs.declared.cmp.PartialEq as PartialEq
 use Rattle.std.specs.declared.cmp.PartialOrd as PartialOrd
 use Rattle.hash_path.specs.declared.key.PathKey as PathKey
 use Rattle.stripes.specs.declared.keeps.Keeps as Keeps
+use Rattle.write_history.specs.declared.book.Naming as Naming
+use Rattle.map_reader.specs.declared.since.Since as Since
 use Rattle.map_reader.specs.contracts.latest.LatestBase as LatestBase
 use Rattle.map_reader.specs.contracts.latest.LatestBase.TheInside as Inside
 use Rattle.map_reader.specs.contracts.base.Base as Base
+use Rattle.map_reader.specs.contracts.sight.Sight as Sight
+use Rattle.logbook.proofs.tokens.Seen.TheSendSync.{the_send as seen_send, the_sync as seen_sync}
 use Rattle.stripes.proofs.Crossing.{quiet}
 use Rattle.versions.proofs.Crossing as maps
 
-module _ (K V P : RattleType) (key : PathKey.Ghosts K.Denot) (order : Ord.Ghosts K.Denot) (keq : PartialEq.Ghosts K.Denot) (kord : PartialOrd.Ghosts K.Denot) (keeps : Keeps.Ghosts P.Denot K.Denot V.Denot) where
+module _ (K V P J S : RattleType) (key : PathKey.Ghosts K.Denot) (order : Ord.Ghosts K.Denot) (equal : Eq.Ghosts K.Denot) (keq : PartialEq.Ghosts K.Denot) (kord : PartialOrd.Ghosts K.Denot) (keeps : Keeps.Ghosts P.Denot K.Denot V.Denot) (naming : Naming.Ghosts J.Denot) (from : Since.Ghosts S.Denot K.Denot V.Denot) where
   abbrev Lock : RattleType
-  Lock = Mutex.the_row (Option.the_row (Arc.the_row (Base.the_row K V P key order keq kord keeps) Heap.the_row allocator.ghosts))
+  Lock = Mutex.the_row (Option.the_row (Arc.the_row (Base.the_row K V P J S key order equal keq kord keeps naming from) Heap.the_row allocator.ghosts))
+
+  sight_send : IsSend (Sight.the_row K V J S key order equal keq kord naming from)
+  sight_send = search (sendable, heap.crosses, seen_send) depth 30
+
+  sight_sync : IsSync (Sight.the_row K V J S key order equal keq kord naming from)
+  sight_sync = search (sendable, heap.crosses, seen_sync) depth 30
 
   lock_send : IsSend K → IsSync K → IsSend V → IsSync V → IsSend Lock
-  lock_send ks ky vs vy = search (sendable, heap.crosses, maps.view_send, maps.view_sync) depth 40 fits 20000
+  lock_send ks ky vs vy = search (sendable, heap.crosses, maps.view_send, maps.view_sync, sight_send, sight_sync) depth 40 fits 20000
 
   lock_sync : IsSend K → IsSync K → IsSend V → IsSync V → IsSync Lock
-  lock_sync ks ky vs vy = search (sendable, heap.crosses, maps.view_send, maps.view_sync) depth 40 fits 20000
+  lock_sync ks ky vs vy = search (sendable, heap.crosses, maps.view_send, maps.view_sync, sight_send, sight_sync) depth 40 fits 20000
 
-  fields_send : IsSend Lock → IsSend (Inside.the_row K V P key order keq kord keeps)
+  fields_send : IsSend Lock → IsSend (Inside.the_row K V P J S key order equal keq kord keeps naming from)
   fields_send lock =
-      let T = Inside.the_type K V P key order keq kord keeps in
+      let T = Inside.the_type K V P J S key order equal keq kord keeps naming from in
       owning_send T (lock, tt) (λ d. tt) (λ k. quiet (to T) (exits_of k (fields T)) ((struct_send (shape T) (lock, tt)).leaving k))
 
-  fields_sync : IsSync Lock → IsSync (Inside.the_row K V P key order keq kord keeps)
+  fields_sync : IsSync Lock → IsSync (Inside.the_row K V P J S key order equal keq kord keeps naming from)
   fields_sync lock =
-      let T = Inside.the_type K V P key order keq kord keeps in
+      let T = Inside.the_type K V P J S key order equal keq kord keeps naming from in
       record { shared = λ d b o κ. ((struct_sync (shape T) (lock, tt)).shared (to T d) b o κ, tt) }
 
-  pub latest_send : IsSend K → IsSend V → IsSync K → IsSync V → IsSend (LatestBase.the_row K V P key order keq kord keeps)
+  pub latest_send : IsSend K → IsSend V → IsSync K → IsSync V → IsSend (LatestBase.the_row K V P J S key order equal keq kord keeps naming from)
   latest_send ks vs ky vy = let inside = fields_send (lock_send ks ky vs vy) in search sendable
 
-  pub latest_sync : IsSend K → IsSend V → IsSync K → IsSync V → IsSync (LatestBase.the_row K V P key order keq kord keeps)
+  pub latest_sync : IsSend K → IsSend V → IsSync K → IsSync V → IsSync (LatestBase.the_row K V P J S key order equal keq kord keeps naming from)
   latest_sync ks vs ky vy = let inside = fields_sync (lock_sync ks ky vs vy) in search sendable

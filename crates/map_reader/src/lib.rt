@@ -10,9 +10,12 @@ mod counts;
 mod latest;
 mod reader;
 mod readers;
+mod sight;
+mod since;
 
 pub use reader::Reader;
 pub use readers::Readers;
+pub use since::Since;
 
 #[cfg(test)]
 mod tests;

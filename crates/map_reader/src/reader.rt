@@ -1,12 +1,18 @@
 //! What one thread reads a map by.
-ghost use Rattle.std.specs.Prelude.{IfSome};
+ghost use Rattle.std.specs.Prelude.{◌≡◌, IfSome, Some, option_map};
+ghost use Rattle.write_history.specs.Rules.{HasHistory};
+ghost use Rattle.write_history.specs.Signers.{Read};
 
 use crate::base::Base;
 use crate::counts::Counts;
 use crate::readers::{Latest, Readers};
+use crate::sight::Sight;
+use crate::since::Since;
 use hash_path::{PathKey, Sought};
+use std::marker::Model;
 use std::sync::{Arc, Wait};
 use stripes::{Anything, Keeps};
+use write_history::{Front, Naming, Unnamed};
 
 /// What one thread reads a map by, mostly without its locks.
 ///
@@ -29,8 +35,9 @@ use stripes::{Anything, Keeps};
 /// looks at the mark of its key; else when it has the lock. So it sees each write that had ended before it began, by
 /// whichever thread. Two reads are two steps, and the map may be written between them.
 ///
-/// No clause can say so. They say what those of the map's own calls say: a value that is found keeps the rule. That it
-/// is the one that the map has follows from what is said of [`Marks`](stripes::Marks), and tests show it.
+/// No clause can say so much. They say what those of the map's own calls say: a value that is found keeps the rule. And
+/// where the map has a history, what is found is what that leaves the key, at a moment no older than the one that `S`
+/// names. That it is what the map has now follows from what is said of [`Marks`](stripes::Marks), and tests show it.
 ///
 /// # When it pays
 ///
@@ -45,22 +52,57 @@ use stripes::{Anything, Keeps};
 /// So keep a reader for as long as its thread reads. No read waits for a base of another thread, and none is refused:
 /// where there is no memory for a base, the reader has the one before, or none.
 #[derive(Drop)]
-pub struct Reader<'m, K: PathKey, V, P: Keeps<K, V> = Anything> {
-    readers: &'m Readers<'m, K, V, P>,
-    base: Option<Arc<Base<K, V, P>>>,
+pub struct Reader<
+    'm,
+    K: PathKey,
+    V,
+    P: Keeps<K, V> = Anything,
+    J: Naming = Unnamed,
+    S: Since<K, V> = Unnamed,
+> {
+    readers: &'m Readers<'m, K, V, P, J, S>,
+    base: Option<Arc<Base<K, V, P, J, S>>>,
     seen: u64,
     counts: Counts,
+    sight: Sight<K, V, J, S>,
 }
 
-impl<'m, K: PathKey + Drop, V: Drop, P: Keeps<K, V>> Reader<'m, K, V, P> {
+impl<'m, K: PathKey, V, P: Keeps<K, V>, J: Naming, S: Since<K, V>> Model
+    for Reader<'m, K, V, P, J, S> {
+    ghost use Rattle.std.specs.Prelude.{List};
+    ghost use Rattle.write_history.specs.declared.entry.Entry.{Entry};
+
+    ghost Value = { List (Entry K V) };
+
+    ghost view = { λ r. r.sight };
+}
+
+impl<'m, K: PathKey + Drop, V: Drop, P: Keeps<K, V>, J: Naming, S: Since<K, V>> Reader<
+    'm,
+    K,
+    V,
+    P,
+    J,
+    S,
+> {
     /// A reader with no base yet.
-    pub(crate) fn new(readers: &'m Readers<'m, K, V, P>) -> Reader<'m, K, V, P> {
+    pub(crate) fn new(readers: &'m Readers<'m, K, V, P, J, S>) -> Reader<'m, K, V, P, J, S> {
         Reader {
             readers,
             base: None,
             seen: 0,
             counts: Counts::new(),
+            sight: readers.sight(),
         }
+    }
+
+    /// The history by which the last read answered, if the map has one.
+    ///
+    /// Cost: O(1), no lock. Refused: never.
+    pub fn front(&self) -> Option<Front<K, V, J>>
+        ensures { HasHistory J.book → result ≡ Some self.now }
+    {
+        self.sight.front()
     }
 
     /// What `look` returns of the value of the key, or of none: a value is read where it is, and no handle on it is
@@ -79,16 +121,19 @@ impl<'m, K: PathKey + Drop, V: Drop, P: Keeps<K, V>> Reader<'m, K, V, P> {
     ) -> T
         requires callable { (found : _) → IfSome found (λ value. P.holds (Q.key_of key) value.now) → F.pre look found }
         ensures kept { (found : _) × IfSome found (λ value. P.holds (Q.key_of key) value.now) × F.post look found result }
+        ensures since { HasHistory J.book → (found : _) × Read K.cmp K.path_of (Q.key_of key) (option_map (λ value. value.now) found) S.since self.new × F.post look found result }
     {
         let path = key.path_sought();
         if let Some(base) = &self.base {
             if base.is_clear(path) {
                 self.counts.hit();
+                self.sight.follow(base.sight());
                 return look(base.value(key, path));
             }
         }
         self.miss(rt);
-        let stripe = self.readers.row().stripe_at(rt, path);
+        let mut stripe = self.readers.row().stripe_at(rt, path);
+        self.sight.see(&mut stripe);
         stripe.read(key, path, look)
     }
 
@@ -129,7 +174,7 @@ impl<'m, K: PathKey + Drop, V: Drop, P: Keeps<K, V>> Reader<'m, K, V, P> {
 
     // Has the latest base from now on, if there is one, and returns whether. The base before is dropped, with no lock
     // held.
-    fn take(&mut self, latest: Latest<K, V, P>) -> bool {
+    fn take(&mut self, latest: Latest<K, V, P, J, S>) -> bool {
         let (base, made) = latest;
         self.seen = made;
         self.base = base;
@@ -137,22 +182,32 @@ impl<'m, K: PathKey + Drop, V: Drop, P: Keeps<K, V>> Reader<'m, K, V, P> {
     }
 }
 
-impl<'m, K: PathKey + Drop, V: Copy + Drop, P: Keeps<K, V>> Reader<'m, K, V, P> {
+impl<'m, K: PathKey + Drop, V: Copy + Drop, P: Keeps<K, V>, J: Naming, S: Since<K, V>> Reader<
+    'm,
+    K,
+    V,
+    P,
+    J,
+    S,
+> {
     /// A copy of the value of the key, or none. No handle on it is cloned.
     ///
     /// Cost: O(log n), no lock or one, as `read`. Refused: never.
     pub fn get_copied<R: Wait, Q: Sought<K>>(&mut self, rt: &R, key: Q) -> Option<V>
         ensures kept { IfSome result (λ value. P.holds (Q.key_of key) value) }
+        ensures since { HasHistory J.book → Read K.cmp K.path_of (Q.key_of key) result S.since self.new }
     {
         let path = key.path_sought();
         if let Some(base) = &self.base {
             if base.is_clear(path) {
                 self.counts.hit();
+                self.sight.follow(base.sight());
                 return base.value(key, path).copied();
             }
         }
         self.miss(rt);
-        let stripe = self.readers.row().stripe_at(rt, path);
+        let mut stripe = self.readers.row().stripe_at(rt, path);
+        self.sight.see(&mut stripe);
         match stripe.get(key, path) {
             Some(value) => Some(**value),
             None => None,

@@ -1,19 +1,23 @@
 //! What the readers of a map share.
+ghost use Rattle.std.specs.Prelude.{◌≡◌};
 
 use crate::base::Base;
 use crate::latest::LatestBase;
 use crate::reader::Reader;
+use crate::sight::Sight;
+use crate::since::Since;
 use hash_path::PathKey;
 use std::alloc::Global;
 use std::mem;
 use std::sync::atomic::{AtomicU64, Ordering};
 use std::sync::{Arc, Mutex, Wait};
-use stripes::{Anything, Keeps, Marking, Marks, Stripes, joined};
+use stripes::{Anything, Keeps, Marking, Marks, Stripes};
 use trie_node::NoMemory;
 use united_roots::RootRow;
+use write_history::{Front, Naming, Unnamed};
 
 /// The latest base, unless its marks have ended, and how many bases were made until then.
-pub type Latest<K, V, P> = (Option<Arc<Base<K, V, P>>>, u64);
+pub type Latest<K, V, P, J, S> = (Option<Arc<Base<K, V, P, J, S>>>, u64);
 
 /// What the readers of one map share: the latest base.
 ///
@@ -34,15 +38,23 @@ pub type Latest<K, V, P> = (Option<Arc<Base<K, V, P>>>, u64);
 /// The marks stay with the map until the next base or `clear`: a first write of a key sets a bit there. A map of which
 /// no reader was made has none.
 #[derive(Drop)]
-pub struct Readers<'m, K: PathKey, V, P: Keeps<K, V> = Anything> {
+pub struct Readers<
+    'm,
+    K: PathKey,
+    V,
+    P: Keeps<K, V> = Anything,
+    J: Naming = Unnamed,
+    S: Since<K, V> = Unnamed,
+> {
     alloc: Global,
-    row: &'m Stripes<K, V, P>,
-    latest: LatestBase<K, V, P>,
+    row: &'m Stripes<K, V, P, J>,
+    latest: LatestBase<K, V, P, J, S>,
     made: AtomicU64,
+    sight: Sight<K, V, J, S>,
 }
 
 impl<'m, K: PathKey + Drop, V: Drop, P: Keeps<K, V>> Readers<'m, K, V, P> {
-    /// Readers of the map that has these stripes, with no base yet.
+    /// Readers of the map with no history that has these stripes, with no base yet.
     ///
     /// Cost: O(1), no lock. Refused: never.
     pub fn new(alloc: Global, row: &'m Stripes<K, V, P>) -> Readers<'m, K, V, P> {
@@ -51,19 +63,54 @@ impl<'m, K: PathKey + Drop, V: Drop, P: Keeps<K, V>> Readers<'m, K, V, P> {
             row,
             latest: LatestBase::new(Mutex::new(None)),
             made: AtomicU64::new(0),
+            sight: Sight::none(),
+        }
+    }
+}
+
+impl<'m, K: PathKey + Drop, V: Drop, P: Keeps<K, V>, J: Naming, S: Since<K, V>> Readers<
+    'm,
+    K,
+    V,
+    P,
+    J,
+    S,
+> {
+    /// Readers of the map with a history that has these stripes, with no base yet. They go on from what the front has
+    /// seen, which `S` names.
+    ///
+    /// Cost: O(1), no lock. Refused: never.
+    pub fn since(
+        alloc: Global,
+        row: &'m Stripes<K, V, P, J>,
+        front: &Front<K, V, J>,
+    ) -> Readers<'m, K, V, P, J, S>
+        requires { S.since ≡ front.now }
+    {
+        Readers {
+            alloc,
+            row,
+            latest: LatestBase::new(Mutex::new(None)),
+            made: AtomicU64::new(0),
+            sight: Sight::of(front),
         }
     }
 
     /// A reader for one thread.
     ///
     /// Cost: O(1), no lock. Refused: never.
-    pub fn reader(&self) -> Reader<'_, K, V, P> {
+    pub fn reader(&self) -> Reader<'_, K, V, P, J, S> {
         Reader::new(self)
     }
 
     /// The stripes of the map.
-    pub(crate) fn row(&self) -> &Stripes<K, V, P> {
+    pub(crate) fn row(&self) -> &Stripes<K, V, P, J> {
         self.row
+    }
+
+    /// What its readers begin with.
+    pub(crate) fn sight(&self) -> Sight<K, V, J, S> {
+        self.sight.again()
     }
 
     /// How many bases its readers have made until now: each is a view of the map.
@@ -75,7 +122,7 @@ impl<'m, K: PathKey + Drop, V: Drop, P: Keeps<K, V>> Readers<'m, K, V, P> {
 
     /// The latest base, unless it has ended: then it is dropped. None is returned where another thread is at it, and
     /// nobody waits.
-    pub(crate) fn latest(&self) -> Option<Latest<K, V, P>> {
+    pub(crate) fn latest(&self) -> Option<Latest<K, V, P, J, S>> {
         let mut latest = self.latest.as_lock().try_lock()?;
         let base = unless_over(&latest);
         let ended = if base.is_none() { latest.take() } else { None };
@@ -88,7 +135,12 @@ impl<'m, K: PathKey + Drop, V: Drop, P: Keeps<K, V>> Readers<'m, K, V, P> {
 
     /// A new base for about `pairs` pairs, or the latest one where others than `seen` were made. None is returned where
     /// another thread is at it, and if memory runs out.
-    pub(crate) fn next<R: Wait>(&self, rt: &R, pairs: u64, seen: u64) -> Option<Latest<K, V, P>> {
+    pub(crate) fn next<R: Wait>(
+        &self,
+        rt: &R,
+        pairs: u64,
+        seen: u64,
+    ) -> Option<Latest<K, V, P, J, S>> {
         let mut latest = self.latest.as_lock().try_lock()?;
         if self.made() != seen {
             return Some((unless_over(&latest), self.made()));
@@ -102,21 +154,24 @@ impl<'m, K: PathKey + Drop, V: Drop, P: Keeps<K, V>> Readers<'m, K, V, P> {
         Some((Some(base), made))
     }
 
-    // A base of the map as it stands at one moment of the call, when all stripes are held.
-    fn new_base<R: Wait>(&self, rt: &R, pairs: u64) -> Result<Arc<Base<K, V, P>>, NoMemory> {
+    // A base of the map as it stands at one moment of the call, when all stripes are held. Where the map has a history,
+    // that is a later moment than the one from which on writes are marked: a write between the two is in the base, and
+    // marked all the same.
+    fn new_base<R: Wait>(&self, rt: &R, pairs: u64) -> Result<Arc<Base<K, V, P, J, S>>, NoMemory> {
         let marks = Arc::new(self.alloc, Marks::new(self.alloc, pairs)?)?;
         let mut marking = Marking::new(self.alloc, &marks)?;
         let room = RootRow::new(self.alloc)?;
+        let mut sight = self.sight();
         let held = self.row.all_marked(rt, self.alloc, &mut marking)?;
-        let map = joined(self.alloc, room, held)?;
-        Ok(Arc::new(self.alloc, Base::new(map.view()?, marks))?)
+        let map = sight.whole(rt, self.alloc, self.row, held, room)?;
+        Ok(Arc::new(self.alloc, Base::new(map.view()?, marks, sight))?)
     }
 }
 
 // A handle on the base, unless its marks have ended.
-fn unless_over<K: PathKey + Drop, V: Drop, P: Keeps<K, V>>(
-    base: &Option<Arc<Base<K, V, P>>>,
-) -> Option<Arc<Base<K, V, P>>> {
+fn unless_over<K: PathKey + Drop, V: Drop, P: Keeps<K, V>, J: Naming, S: Since<K, V>>(
+    base: &Option<Arc<Base<K, V, P, J, S>>>,
+) -> Option<Arc<Base<K, V, P, J, S>>> {
     match base {
         Some(base) if !base.is_over() => Arc::try_clone(base).ok(),
         _ => None,

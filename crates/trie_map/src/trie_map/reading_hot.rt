@@ -1,9 +1,11 @@
 //! Readers of a map's hot keys.
+ghost use Rattle.std.specs.Prelude.{◌≡◌};
 
 use super::TrieMap;
 use hash_path::PathKey;
-use map_reader::Readers;
+use map_reader::{Readers, Since};
 use stripes::Keeps;
+use write_history::{Front, Naming};
 
 impl<K: PathKey + Drop, V: Drop, P: Keeps<K, V>> TrieMap<K, V, P> {
     /// What the readers of this map share, with no base yet.
@@ -15,5 +17,21 @@ impl<K: PathKey + Drop, V: Drop, P: Keeps<K, V>> TrieMap<K, V, P> {
     /// Cost: O(1), no lock. Refused: never.
     pub fn readers(&self) -> Readers<'_, K, V, P> {
         Readers::new(self.alloc, &self.row)
+    }
+}
+
+impl<K: PathKey + Drop, V: Drop, P: Keeps<K, V>, J: Naming> TrieMap<K, V, P, J> {
+    /// The same of a map that has a history: what a reader finds is what that leaves the key, at a moment no older than
+    /// what the front has seen. `S` names that (`Since`, of the crate `map_reader`); `Unnamed` is the history with no
+    /// write.
+    ///
+    /// Cost: O(1), no lock. Refused: never.
+    pub fn readers_since<S: Since<K, V>>(
+        &self,
+        front: &Front<K, V, J>,
+    ) -> Readers<'_, K, V, P, J, S>
+        requires { S.since ≡ front.now }
+    {
+        Readers::since(self.alloc, &self.row, front)
     }
 }
