@@ -6,8 +6,14 @@
 
 mod closure;
 mod counts;
+mod filters;
 mod folds;
+mod made;
+mod new_values;
 
 pub use closure::answer_at;
 pub use counts::Counts;
+pub use filters::Filters;
 pub use folds::Folds;
+pub use made::{no_pairs, put_within};
+pub use new_values::NewValues;

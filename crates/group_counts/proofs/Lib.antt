@@ -3,3 +3,4 @@ pub mod Places
 pub mod Totals
 pub mod Joins
 pub mod Counting
+pub mod Folds

@@ -2,4 +2,5 @@ pub mod Counting
 pub mod Equality
 pub mod Finding
 pub mod Keeping
+pub mod Making
 pub mod Walks

@@ -6,6 +6,8 @@
 
 mod crew;
 mod crew_finds;
+mod crew_groups;
+mod crew_making;
 mod crew_questions;
 mod finds;
 mod keys_and_values;

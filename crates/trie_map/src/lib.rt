@@ -6,6 +6,8 @@
 #![tactic(auto)]
 
 mod crew_finds;
+mod crew_groups;
+mod crew_making;
 mod crew_questions;
 mod history_law;
 mod origin;

@@ -3,6 +3,8 @@ ghost use Rattle.std.specs.Prelude.{◌≡◌, ◌≤◌, Bool, IfOk, length};
 ghost use Rattle.bulk_work.specs.Answers.{passing};
 ghost use Rattle.bulk_ops.specs.Meanings.{MayAnswer, Means};
 ghost use Rattle.map_view.specs.Questions.{changed};
+ghost use Rattle.trie_filter.specs.Passing.{AreChosen};
+ghost use Rattle.trie_values.specs.Values.{AreGiven};
 ghost use Rattle.versions.specs.declared.version.TheConstants.{MOST_PAIRS};
 
 use super::View;
@@ -18,12 +20,14 @@ use versions::{MOST_PAIRS, Version};
 /// with the view. It is made on the caller's thread, with no lock held, by the shape of the view's trie: no key is hashed
 /// or compared.
 impl<K: PathKey + Drop, V: Drop, P: Keeps<K, V>> View<K, V, P> {
-    /// The map of the pairs that pass the test. It asks for memory for the nodes of these pairs alone.
+    /// The map of the pairs that pass the test. It asks for memory for the nodes of these pairs alone. Whatever the closure
+    /// means, it may have answered true at each pair of the map, and false at each that is left out.
     ///
     /// Cost: O(n), no lock. Refused: `NoMemory`, if memory runs out.
     pub fn filter<F: Fn(&K, &V) -> bool>(&self, test: F) -> Result<Version<K, V>, NoMemory>
         requires callable { F.IsAlwaysCallable test }
         ensures entries { IfOk result (λ made. (p : K → V → Bool) → Means (MayAnswer F.Fn test) p → made.entries ≡ passing p self.now) }
+        ensures chosen { IfOk result (λ made. AreChosen (MayAnswer F.Fn test) self.now made.entries) }
         ensures few { IfOk result (λ made. length made.entries ≤ length self.now) }
         ensures limit { IfOk result (λ made. made.limit ≡ MOST_PAIRS) }
     {
@@ -32,7 +36,8 @@ impl<K: PathKey + Drop, V: Drop, P: Keeps<K, V>> View<K, V, P> {
         Ok(Version::from_root(root, MOST_PAIRS, Stamp::LOOSE))
     }
 
-    /// The map of the same keys, each with what the closure makes of its pair.
+    /// The map of the same keys, each with what the closure makes of its pair: whatever it means, with a value that it may
+    /// have made.
     ///
     /// Cost: O(n), no lock, and memory for each node and each value. Refused: `NoMemory`, if memory runs out.
     pub fn map_values<W: Drop, G: Fn(&K, &V) -> W>(
@@ -41,6 +46,7 @@ impl<K: PathKey + Drop, V: Drop, P: Keeps<K, V>> View<K, V, P> {
     ) -> Result<Version<K, W>, NoMemory>
         requires callable { G.IsAlwaysCallable change }
         ensures entries { IfOk result (λ made. (f : K → V → W) → Means (MayAnswer G.Fn change) f → made.entries ≡ changed f self.now) }
+        ensures given { IfOk result (λ made. AreGiven (MayAnswer G.Fn change) self.now made.entries) }
         ensures few { IfOk result (λ made. length made.entries ≤ length self.now) }
         ensures limit { IfOk result (λ made. made.limit ≡ MOST_PAIRS) }
     {

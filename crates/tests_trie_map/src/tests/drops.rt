@@ -50,20 +50,38 @@ enum Ends {
     Clear,
     // An update that makes none, and whose answer is something else.
     UpdateWith,
+    // A put of another value, whose answer is nothing.
+    Extend,
+    Retain,
+    ReplaceAll,
+    // By a view of no pairs. What it returns has the old ones.
+    Restore,
+}
+
+// A value that waits by these signs.
+fn waiting(rt: &impl Abort, signs: &Arc<Signs, Global>) -> Waiting {
+    let signs = Arc::try_clone(signs).expect(rt, "too many handles");
+    Waiting { signs }
 }
 
 // Puts a pair, and has the map let go of it.
-fn put_and_end<R: Wait>(
+fn put_and_end<R: AllocGlobal + Wait + Abort>(
     rt: &R,
     map: &Values,
     signs: &Arc<Signs, Global>,
     call: Ends,
 ) -> Result<(), PutError> {
-    let signs = Arc::try_clone(signs)?;
-    map.put(rt, key(3, 0), Waiting { signs })?;
+    map.put(rt, key(3, 0), waiting(rt, signs))?;
     match call {
         Ends::Clear => map.clear(rt)?,
         Ends::UpdateWith => map.update_with(rt, key(3, 0), |_| (None, ()))?,
+        Ends::Extend => map.extend_from(rt, [(key(3, 0), waiting(rt, signs))])?,
+        Ends::Retain => drop(map.retain(rt, |_, _| false)?),
+        Ends::ReplaceAll => drop(map.replace_all(rt, |_, _| waiting(rt, signs))?),
+        Ends::Restore => {
+            let none: Values = TrieMap::new(rt)?;
+            drop(map.restore(rt, &none.view(rt)?)?);
+        }
     }
     Ok(())
 }
@@ -105,7 +123,14 @@ fn dropped<R: AllocGlobal + Threads + Wait + Abort + Sync>(rt: &R, call: Ends) -
 
 #[test]
 fn what_a_map_lets_go_of_is_dropped_when_no_lock_is_held(rt: HostRuntime) {
-    for call in [Ends::Clear, Ends::UpdateWith] {
+    for call in [
+        Ends::Clear,
+        Ends::UpdateWith,
+        Ends::Extend,
+        Ends::Retain,
+        Ends::ReplaceAll,
+        Ends::Restore,
+    ] {
         assert_eq!(rt; dropped(&rt, call), (1, 0), "{call:?}");
     }
 }

@@ -137,3 +137,77 @@ fn a_view_sees_all_of_a_restoration_or_nothing(rt: HostRuntime) {
     assert_is(&rt, restored, Ok(()));
     assert_is(&rt, whole, true);
 }
+
+// How many numbers are put while a map is emptied, and how often it is.
+const NUMBERS: u32 = 20_000;
+
+const TIMES: u32 = 400;
+
+// Puts numbers, each of which is a new key.
+fn put_numbers<R: Wait>(rt: &R, map: &Map) -> Result<(), PutError> {
+    for id in 0..NUMBERS {
+        map.put(rt, key(id % 32, id), 1)?;
+    }
+    Ok(())
+}
+
+// Puts no pairs in the place of all, and returns how many were taken out.
+fn take_out<R: AllocGlobal + Wait>(rt: &R, map: &Map, none: &super::Seen) -> Result<u64, PutError> {
+    let mut taken = 0u64;
+    for _ in 0..TIMES {
+        taken = taken.wrapping_add(map.restore(rt, none)?.len());
+    }
+    Ok(taken)
+}
+
+// A restoration returns what it takes out, and takes nothing else out.
+#[test]
+fn what_is_put_meanwhile_is_taken_out_or_stays(rt: HostRuntime) {
+    let map = empty(&rt);
+    let none = view_of(&rt, &empty(&rt));
+    let (put, taken) = thread::join(
+        &rt,
+        || put_numbers(&rt, &map),
+        || take_out(&rt, &map, &none),
+    );
+    assert_is(&rt, put, Ok(()));
+    let taken = taken.expect(&rt, "not restored");
+    let all = taken.wrapping_add(map.len(&rt));
+    assert_is(&rt, all, u64::from(NUMBERS));
+}
+
+// How often each value is raised by two threads.
+const RAISED: u32 = 300;
+
+// Raises the values of nine keys one after another, and so on.
+fn raise_each<R: Wait>(rt: &R, map: &Map) -> Result<(), PutError> {
+    for _ in 0..RAISED {
+        for id in 0..9 {
+            map.update(rt, key(id % 3, id), |value| {
+                Some(value.copied().unwrap_or(0).wrapping_add(1))
+            })?;
+        }
+    }
+    Ok(())
+}
+
+// Gives all keys new values, each one above the old, and so on.
+fn raise_all<R: Wait>(rt: &R, map: &Map) -> Result<(), PutError> {
+    for _ in 0..RAISED {
+        map.replace_all(rt, |_, value| value.wrapping_add(1))?;
+    }
+    Ok(())
+}
+
+// A value is given anew by what it is then, and not by what a view of all showed.
+#[test]
+fn no_update_is_lost_where_all_values_are_given_anew(rt: HostRuntime) {
+    let map = nine(&rt);
+    let (each, all) = thread::join(&rt, || raise_each(&rt, &map), || raise_all(&rt, &map));
+    assert_is(&rt, (each, all), (Ok(()), Ok(())));
+    let raised = u64::from(RAISED).wrapping_mul(2);
+    for id in 0..9 {
+        let value = at(&rt, &map, key(id % 3, id));
+        assert_is(&rt, value, Some(raised.wrapping_add(u64::from(id))));
+    }
+}
