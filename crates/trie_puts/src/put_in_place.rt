@@ -99,6 +99,28 @@ fn put_in_node<K: PathKey + Drop, V: Drop, C: Condition<V>>(
             }
             Ok(PutInside::Elsewhere(entry))
         }
+        _ => put_in_row(alloc, node, entry, level, condition),
+    }
+}
+
+/// A put below a branch, where nobody else holds it. No other node is written.
+#[cycle(put_in)]
+fn put_in_row<K: PathKey + Drop, V: Drop, C: Condition<V>>(
+    alloc: Global,
+    node: &mut Node<K, V>,
+    entry: NewPair<K, V>,
+    level: u32,
+    condition: &C,
+) -> Result<PutInside<K, V>, NoMemory>
+    requires trie { IsTrie K.cmp K.path_of level (tree node.old) }
+    requires path { entry.path.0 ≡ K.path_of entry.key.value }
+    requires agree { KeysAgree K.cmp K.path_of level entry.path.0 (entries (tree node.old)) }
+    requires room { length (entries (tree node.old)) < 2 ^ 63 }
+    ensures ok { IfOk result (λ r. PutsInside K.cmp K.path_of level entry (C.holds condition.now) (tree node.old) r (tree node.new)) }
+    ensures due { OnErr result (is_refusable (C.holds condition.now) (first_of K.cmp entry.key.value (entries (tree node.old))) ≡ true) }
+    ensures err { OnErr result (tree node.new ≡ tree node.old) }
+{
+    match node {
         Node::Two {
             bitmap,
             stamp,
@@ -144,6 +166,7 @@ fn put_in_node<K: PathKey + Drop, V: Drop, C: Condition<V>>(
             Some(row) => put_in_all(alloc, bitmap, stamp, size, row, entry, level, condition),
             None => Ok(PutInside::Elsewhere(entry)),
         },
+        _ => Ok(PutInside::Elsewhere(entry)),
     }
 }
 

@@ -98,6 +98,28 @@ fn remove_in_node<K: PathKey + Drop, V: Drop, Q: Sought<K>, C: Condition<V>>(
                 None => Ok(TakenInside::Elsewhere),
             }
         }
+        _ => remove_in_row(alloc, node, key, path, stamp, level, condition),
+    }
+}
+
+/// A removal below a branch, where nobody else holds it. No other node is written.
+#[cycle(remove_in)]
+fn remove_in_row<K: PathKey + Drop, V: Drop, Q: Sought<K>, C: Condition<V>>(
+    alloc: Global,
+    node: &mut Node<K, V>,
+    key: Q,
+    path: Path,
+    stamp: Stamp,
+    level: u32,
+    condition: &C,
+) -> Result<TakenInside<K, V>, NoMemory>
+    requires path { path.0 ≡ K.path_of (Q.key_of key) }
+    requires trie { IsTrie K.cmp K.path_of level (tree node.old) }
+    ensures ok { IfOk result (λ r. TakesInside K.cmp K.path_of level stamp.0 (Q.key_of key) (C.holds condition.now) (tree node.old) r (tree node.new)) }
+    ensures due { OnErr result (is_some (first_of K.cmp (Q.key_of key) (entries (tree node.old))) ≡ true) }
+    ensures err { OnErr result (tree node.new ≡ tree node.old) }
+{
+    match node {
         Node::Two {
             bitmap,
             stamp: old,
@@ -153,6 +175,7 @@ fn remove_in_node<K: PathKey + Drop, V: Drop, Q: Sought<K>, C: Condition<V>>(
             ),
             None => Ok(TakenInside::Elsewhere),
         },
+        _ => Ok(TakenInside::Elsewhere),
     }
 }
 

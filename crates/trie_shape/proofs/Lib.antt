@@ -11,6 +11,7 @@ pub mod Spell
 pub mod Finds
 pub mod Listings
 pub mod Unique
+pub mod Halves
 pub mod Hangs
 pub mod Spoken
 mod Examples

@@ -1,11 +1,12 @@
 //! Branches that gain or lose a pair where they stand.
 
-ghost use Rattle.std.specs.Prelude.{◌≡◌, ◌==◌, ◌<◌, ◌≤◌, ◌+◌, ◌-◌, ◌*◌, ◌%◌, ◌^◌, true, false, IfSome, IfNone, length, map, take, bit_and, bit_or};
+ghost use Rattle.std.specs.Prelude.{◌≡◌, ◌==◌, ◌<◌, ◌≤◌, ◌+◌, ◌-◌, ◌*◌, ◌%◌, ◌^◌, true, false, IfSome, IfNone, length, map, slice_index_or, take, bit_and, bit_or};
 ghost use Rattle.std.specs.Int.{bit_at, bit_not, w32};
 ghost use Rattle.std.specs.Int.RustNames.{count_ones};
 ghost use Rattle.std.specs.List.{insert, remove};
 ghost use Rattle.hash_path.specs.Digits.{fan_out};
 ghost use Rattle.trie_shape.specs.Tree.{branch, trees};
+ghost use Rattle.trie_shape.specs.declared.node.Node.{Node};
 ghost use Rattle.trie_shape.specs.View.{tree, branch_of, in_row};
 ghost use Rattle.trie_shape.specs.Drawn.{drawn_up};
 
@@ -83,6 +84,7 @@ fn close_up<K: Drop, V: Drop>(row: &mut [Node<K, V>], at: usize, used: usize)
     requires used { used ≤ length row.old }
     ensures len { length row.new ≡ length row.old }
     ensures row { take (used - 1) row.new ≡ remove (take used row.old) at }
+    ensures vacant { (other : Node K V) → slice_index_or row.new (used - 1) other ≡ Node.Vacant }
 {
     row[at..used].rotate_left(1);
     row[used - 1] = Node::Vacant;

@@ -1,7 +1,7 @@
 //! Pairs of one path word, in order of their keys.
 
-ghost use Rattle.std.specs.Prelude.{◌≡◌, option_map, map, IfOk};
-ghost use Rattle.std.specs.FinMap.{find};
+ghost use Rattle.std.specs.Prelude.{◌≡◌, IfOk, T, map, option_map};
+ghost use Rattle.std.specs.FinMap.{find, is_sorted};
 ghost use Rattle.std.specs.FinMap.Entries.{put as put_in_order};
 ghost use Rattle.trie_shape.specs.View.{pair_values};
 
@@ -11,19 +11,24 @@ use std::alloc::Global;
 use std::cmp::Ordering;
 use std::sync::Arc;
 
-/// The value of the key among pairs. For the crates that write whole roots.
+/// The value of the key among pairs in order of their keys, by the pair in the middle. For the crates that write
+/// whole roots.
 pub fn find_pair<'a, K: PathKey, V, Q: Sought<K>>(
     pairs: &'a [(Arc<K, Global>, Arc<V, Global>)],
     key: Q,
 ) -> Option<&'a Arc<V, Global>>
+    requires sorted { T (is_sorted K.cmp (map pair_values pairs.now)) }
     ensures { option_map (λ v. v.now.value) result ≡ find K.cmp (Q.key_of key) (map pair_values pairs.now) }
 {
-    for (k, v) in pairs {
-        if key.compare_with(k) == Ordering::Equal {
-            return Some(v);
-        }
+    let (before, rest) = pairs.split_at(pairs.len() / 2);
+    let Some(((k, v), behind)) = rest.split_first() else {
+        return None;
+    };
+    match key.compare_with(k) {
+        Ordering::Less => find_pair(before, key),
+        Ordering::Equal => Some(v),
+        Ordering::Greater => find_pair(behind, key),
     }
-    None
 }
 
 /// The pairs with the value put at the key, in order. A key that is there stays. For the

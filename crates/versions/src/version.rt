@@ -41,8 +41,9 @@ pub const MOST_PAIRS: u64 = 16_777_216;
 /// ```
 ///
 /// A write changes the nodes of one path, and copies those of them that forks and views share. n is the number of
-/// pairs, and O(log n) the way down the trie: at most thirteen steps, and then a step for each key that has the key's
-/// whole path word. A call that is refused leaves the map as it was.
+/// pairs, and O(log n) the way down the trie: at most thirteen steps, and then a search by halves among the keys that
+/// have the key's whole path word; a write moves or copies these one by one. A call that is refused leaves the map as
+/// it was.
 #[derive(Drop)]
 pub struct Version<K: PathKey, V> {
     root: Root<K, V>,

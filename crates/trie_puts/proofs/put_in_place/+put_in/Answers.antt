@@ -201,187 +201,187 @@ put_in_node-returns-in-Some-clause-ok g t c =
     puts_equal R path a.level a.entry.stamp.0 a.entry.key.value a.entry.value.value (g.C.Condition.holds a.condition.now) _ _ _ _ (option_map arc_value r.previous) r.written
     opened refl (c.in_ok-put_in_pairs-in-Bucket.ensures.ok a.level (subst (IsTrie R path a.level) (sym opened) c.requires.trie))
 
-pub put_in_node-put_in_two-requires : goal.put_in_node-put_in_two-requires
-put_in_node-put_in_two-requires g t c κs inside =
+pub put_in_row-put_in_two-requires : goal.put_in_row-put_in_two-requires
+put_in_row-put_in_two-requires g t c κs inside =
     let R = g.K.Ord.cmp in
     let path = g.K.PathKey.path_of in
     let a = c.args in
     let m = c.in-Two in
-    let row = c.in-Some-get_mut.ensures.value ∙ ap arc_value m.row-is in
+    let row = c.in-Some.ensures.value ∙ ap arc_value m.row-is in
     let opened = (λ i. branch_of (m.stamp-is i).0 (in_row (m.size-is i) (m.bitmap-is i) (row i))) ∙ sym (ap tree m.is ∙ tree-Two m.bitmap m.stamp m.size m.row) in
     (omega arith, (search rules, (search rules, (search rules, (omega arith, (subst (IsTrie R path a.level) (sym opened) c.requires.trie, (c.requires.path, (subst (λ x. KeysAgree R path a.level a.entry.path.0 (entries x)) (sym opened) c.requires.agree, subst (λ x. length (entries x) < 2 ^ 63) (sym opened) c.requires.room))))))))
 
-pub put_in_node-returns-in-Some-get_mut-clause-ok : goal.put_in_node-returns-in-Some-get_mut-clause-ok
-put_in_node-returns-in-Some-get_mut-clause-ok g t c =
+pub put_in_row-returns-in-Some-clause-ok : goal.put_in_row-returns-in-Some-clause-ok
+put_in_row-returns-in-Some-clause-ok g t c =
     let R = g.K.Ord.cmp in
     let path = g.K.PathKey.path_of in
     let a = c.args in
     let m = c.in-Two in
-    let row = c.in-Some-get_mut.ensures.value ∙ ap arc_value m.row-is in
+    let row = c.in-Some.ensures.value ∙ ap arc_value m.row-is in
     let opened = (λ i. branch_of (m.stamp-is i).0 (in_row (m.size-is i) (m.bitmap-is i) (row i))) ∙ sym (ap tree m.is ∙ tree-Two m.bitmap m.stamp m.size m.row) in
     let n = c.put_in_two.new in
     on_ok c.put_in_two.result _ _ (λ r h. inside_equal R path a.level a.entry (g.C.Condition.holds a.condition.now) r opened (tree-Two n.bitmap n.stamp n.size (record m.row { value = n.row })) h) c.put_in_two.ensures.ok
 
-pub put_in_node-returns-in-Some-get_mut-clause-due : goal.put_in_node-returns-in-Some-get_mut-clause-due
-put_in_node-returns-in-Some-get_mut-clause-due g t c =
+pub put_in_row-returns-in-Some-clause-due : goal.put_in_row-returns-in-Some-clause-due
+put_in_row-returns-in-Some-clause-due g t c =
     let a = c.args in
     let m = c.in-Two in
-    let row = c.in-Some-get_mut.ensures.value ∙ ap arc_value m.row-is in
+    let row = c.in-Some.ensures.value ∙ ap arc_value m.row-is in
     let opened = (λ i. branch_of (m.stamp-is i).0 (in_row (m.size-is i) (m.bitmap-is i) (row i))) ∙ sym (ap tree m.is ∙ tree-Two m.bitmap m.stamp m.size m.row) in
     on_err_weaker c.put_in_two.result (λ e. ap (λ x. is_refusable (g.C.Condition.holds a.condition.now) (find g.K.Ord.cmp a.entry.key.value (entries x))) (sym opened) ∙ e) c.put_in_two.ensures.due
 
-pub put_in_node-returns-in-Some-get_mut-clause-err : goal.put_in_node-returns-in-Some-get_mut-clause-err
-put_in_node-returns-in-Some-get_mut-clause-err g t c =
+pub put_in_row-returns-in-Some-clause-err : goal.put_in_row-returns-in-Some-clause-err
+put_in_row-returns-in-Some-clause-err g t c =
     let m = c.in-Two in
-    let row = c.in-Some-get_mut.ensures.value ∙ ap arc_value m.row-is in
+    let row = c.in-Some.ensures.value ∙ ap arc_value m.row-is in
     let opened = (λ i. branch_of (m.stamp-is i).0 (in_row (m.size-is i) (m.bitmap-is i) (row i))) ∙ sym (ap tree m.is ∙ tree-Two m.bitmap m.stamp m.size m.row) in
     let n = c.put_in_two.new in
     on_err_weaker c.put_in_two.result (λ e. tree-Two n.bitmap n.stamp n.size (record m.row { value = n.row }) ∙ e ∙ opened) c.put_in_two.ensures.err
 
-pub put_in_node-put_in_four-requires : goal.put_in_node-put_in_four-requires
-put_in_node-put_in_four-requires g t c κs inside =
+pub put_in_row-put_in_four-requires : goal.put_in_row-put_in_four-requires
+put_in_row-put_in_four-requires g t c κs inside =
     let R = g.K.Ord.cmp in
     let path = g.K.PathKey.path_of in
     let a = c.args in
     let m = c.in-Four in
-    let row = c.in-Some-get_mut-2.ensures.value ∙ ap arc_value m.row-is in
+    let row = c.in-Some-get_mut.ensures.value ∙ ap arc_value m.row-is in
     let opened = (λ i. branch_of (m.stamp-is i).0 (in_row (m.size-is i) (m.bitmap-is i) (row i))) ∙ sym (ap tree m.is ∙ tree-Four m.bitmap m.stamp m.size m.row) in
     (omega arith, (search rules, (search rules, (search rules, (omega arith, (subst (IsTrie R path a.level) (sym opened) c.requires.trie, (c.requires.path, (subst (λ x. KeysAgree R path a.level a.entry.path.0 (entries x)) (sym opened) c.requires.agree, subst (λ x. length (entries x) < 2 ^ 63) (sym opened) c.requires.room))))))))
 
-pub put_in_node-returns-in-Some-get_mut-2-clause-ok : goal.put_in_node-returns-in-Some-get_mut-2-clause-ok
-put_in_node-returns-in-Some-get_mut-2-clause-ok g t c =
+pub put_in_row-returns-in-Some-get_mut-clause-ok : goal.put_in_row-returns-in-Some-get_mut-clause-ok
+put_in_row-returns-in-Some-get_mut-clause-ok g t c =
     let R = g.K.Ord.cmp in
     let path = g.K.PathKey.path_of in
     let a = c.args in
     let m = c.in-Four in
-    let row = c.in-Some-get_mut-2.ensures.value ∙ ap arc_value m.row-is in
+    let row = c.in-Some-get_mut.ensures.value ∙ ap arc_value m.row-is in
     let opened = (λ i. branch_of (m.stamp-is i).0 (in_row (m.size-is i) (m.bitmap-is i) (row i))) ∙ sym (ap tree m.is ∙ tree-Four m.bitmap m.stamp m.size m.row) in
     let n = c.put_in_four.new in
     on_ok c.put_in_four.result _ _ (λ r h. inside_equal R path a.level a.entry (g.C.Condition.holds a.condition.now) r opened (tree-Four n.bitmap n.stamp n.size (record m.row { value = n.row })) h) c.put_in_four.ensures.ok
 
-pub put_in_node-returns-in-Some-get_mut-2-clause-due : goal.put_in_node-returns-in-Some-get_mut-2-clause-due
-put_in_node-returns-in-Some-get_mut-2-clause-due g t c =
+pub put_in_row-returns-in-Some-get_mut-clause-due : goal.put_in_row-returns-in-Some-get_mut-clause-due
+put_in_row-returns-in-Some-get_mut-clause-due g t c =
     let a = c.args in
     let m = c.in-Four in
-    let row = c.in-Some-get_mut-2.ensures.value ∙ ap arc_value m.row-is in
+    let row = c.in-Some-get_mut.ensures.value ∙ ap arc_value m.row-is in
     let opened = (λ i. branch_of (m.stamp-is i).0 (in_row (m.size-is i) (m.bitmap-is i) (row i))) ∙ sym (ap tree m.is ∙ tree-Four m.bitmap m.stamp m.size m.row) in
     on_err_weaker c.put_in_four.result (λ e. ap (λ x. is_refusable (g.C.Condition.holds a.condition.now) (find g.K.Ord.cmp a.entry.key.value (entries x))) (sym opened) ∙ e) c.put_in_four.ensures.due
 
-pub put_in_node-returns-in-Some-get_mut-2-clause-err : goal.put_in_node-returns-in-Some-get_mut-2-clause-err
-put_in_node-returns-in-Some-get_mut-2-clause-err g t c =
+pub put_in_row-returns-in-Some-get_mut-clause-err : goal.put_in_row-returns-in-Some-get_mut-clause-err
+put_in_row-returns-in-Some-get_mut-clause-err g t c =
     let m = c.in-Four in
-    let row = c.in-Some-get_mut-2.ensures.value ∙ ap arc_value m.row-is in
+    let row = c.in-Some-get_mut.ensures.value ∙ ap arc_value m.row-is in
     let opened = (λ i. branch_of (m.stamp-is i).0 (in_row (m.size-is i) (m.bitmap-is i) (row i))) ∙ sym (ap tree m.is ∙ tree-Four m.bitmap m.stamp m.size m.row) in
     let n = c.put_in_four.new in
     on_err_weaker c.put_in_four.result (λ e. tree-Four n.bitmap n.stamp n.size (record m.row { value = n.row }) ∙ e ∙ opened) c.put_in_four.ensures.err
 
-pub put_in_node-put_in_eight-requires : goal.put_in_node-put_in_eight-requires
-put_in_node-put_in_eight-requires g t c κs inside =
+pub put_in_row-put_in_eight-requires : goal.put_in_row-put_in_eight-requires
+put_in_row-put_in_eight-requires g t c κs inside =
     let R = g.K.Ord.cmp in
     let path = g.K.PathKey.path_of in
     let a = c.args in
     let m = c.in-Eight in
-    let row = c.in-Some-get_mut-3.ensures.value ∙ ap arc_value m.row-is in
+    let row = c.in-Some-get_mut-2.ensures.value ∙ ap arc_value m.row-is in
     let opened = (λ i. branch_of (m.stamp-is i).0 (in_row (m.size-is i) (m.bitmap-is i) (row i))) ∙ sym (ap tree m.is ∙ tree-Eight m.bitmap m.stamp m.size m.row) in
     (omega arith, (search rules, (search rules, (search rules, (omega arith, (subst (IsTrie R path a.level) (sym opened) c.requires.trie, (c.requires.path, (subst (λ x. KeysAgree R path a.level a.entry.path.0 (entries x)) (sym opened) c.requires.agree, subst (λ x. length (entries x) < 2 ^ 63) (sym opened) c.requires.room))))))))
 
-pub put_in_node-returns-in-Some-get_mut-3-clause-ok : goal.put_in_node-returns-in-Some-get_mut-3-clause-ok
-put_in_node-returns-in-Some-get_mut-3-clause-ok g t c =
+pub put_in_row-returns-in-Some-get_mut-2-clause-ok : goal.put_in_row-returns-in-Some-get_mut-2-clause-ok
+put_in_row-returns-in-Some-get_mut-2-clause-ok g t c =
     let R = g.K.Ord.cmp in
     let path = g.K.PathKey.path_of in
     let a = c.args in
     let m = c.in-Eight in
-    let row = c.in-Some-get_mut-3.ensures.value ∙ ap arc_value m.row-is in
+    let row = c.in-Some-get_mut-2.ensures.value ∙ ap arc_value m.row-is in
     let opened = (λ i. branch_of (m.stamp-is i).0 (in_row (m.size-is i) (m.bitmap-is i) (row i))) ∙ sym (ap tree m.is ∙ tree-Eight m.bitmap m.stamp m.size m.row) in
     let n = c.put_in_eight.new in
     on_ok c.put_in_eight.result _ _ (λ r h. inside_equal R path a.level a.entry (g.C.Condition.holds a.condition.now) r opened (tree-Eight n.bitmap n.stamp n.size (record m.row { value = n.row })) h) c.put_in_eight.ensures.ok
 
-pub put_in_node-returns-in-Some-get_mut-3-clause-due : goal.put_in_node-returns-in-Some-get_mut-3-clause-due
-put_in_node-returns-in-Some-get_mut-3-clause-due g t c =
+pub put_in_row-returns-in-Some-get_mut-2-clause-due : goal.put_in_row-returns-in-Some-get_mut-2-clause-due
+put_in_row-returns-in-Some-get_mut-2-clause-due g t c =
     let a = c.args in
     let m = c.in-Eight in
-    let row = c.in-Some-get_mut-3.ensures.value ∙ ap arc_value m.row-is in
+    let row = c.in-Some-get_mut-2.ensures.value ∙ ap arc_value m.row-is in
     let opened = (λ i. branch_of (m.stamp-is i).0 (in_row (m.size-is i) (m.bitmap-is i) (row i))) ∙ sym (ap tree m.is ∙ tree-Eight m.bitmap m.stamp m.size m.row) in
     on_err_weaker c.put_in_eight.result (λ e. ap (λ x. is_refusable (g.C.Condition.holds a.condition.now) (find g.K.Ord.cmp a.entry.key.value (entries x))) (sym opened) ∙ e) c.put_in_eight.ensures.due
 
-pub put_in_node-returns-in-Some-get_mut-3-clause-err : goal.put_in_node-returns-in-Some-get_mut-3-clause-err
-put_in_node-returns-in-Some-get_mut-3-clause-err g t c =
+pub put_in_row-returns-in-Some-get_mut-2-clause-err : goal.put_in_row-returns-in-Some-get_mut-2-clause-err
+put_in_row-returns-in-Some-get_mut-2-clause-err g t c =
     let m = c.in-Eight in
-    let row = c.in-Some-get_mut-3.ensures.value ∙ ap arc_value m.row-is in
+    let row = c.in-Some-get_mut-2.ensures.value ∙ ap arc_value m.row-is in
     let opened = (λ i. branch_of (m.stamp-is i).0 (in_row (m.size-is i) (m.bitmap-is i) (row i))) ∙ sym (ap tree m.is ∙ tree-Eight m.bitmap m.stamp m.size m.row) in
     let n = c.put_in_eight.new in
     on_err_weaker c.put_in_eight.result (λ e. tree-Eight n.bitmap n.stamp n.size (record m.row { value = n.row }) ∙ e ∙ opened) c.put_in_eight.ensures.err
 
-pub put_in_node-put_in_sixteen-requires : goal.put_in_node-put_in_sixteen-requires
-put_in_node-put_in_sixteen-requires g t c κs inside =
+pub put_in_row-put_in_sixteen-requires : goal.put_in_row-put_in_sixteen-requires
+put_in_row-put_in_sixteen-requires g t c κs inside =
     let R = g.K.Ord.cmp in
     let path = g.K.PathKey.path_of in
     let a = c.args in
     let m = c.in-Sixteen in
-    let row = c.in-Some-get_mut-4.ensures.value ∙ ap arc_value m.row-is in
+    let row = c.in-Some-get_mut-3.ensures.value ∙ ap arc_value m.row-is in
     let opened = (λ i. branch_of (m.stamp-is i).0 (in_row (m.size-is i) (m.bitmap-is i) (row i))) ∙ sym (ap tree m.is ∙ tree-Sixteen m.bitmap m.stamp m.size m.row) in
     (omega arith, (search rules, (search rules, (search rules, (omega arith, (subst (IsTrie R path a.level) (sym opened) c.requires.trie, (c.requires.path, (subst (λ x. KeysAgree R path a.level a.entry.path.0 (entries x)) (sym opened) c.requires.agree, subst (λ x. length (entries x) < 2 ^ 63) (sym opened) c.requires.room))))))))
 
-pub put_in_node-returns-in-Some-get_mut-4-clause-ok : goal.put_in_node-returns-in-Some-get_mut-4-clause-ok
-put_in_node-returns-in-Some-get_mut-4-clause-ok g t c =
+pub put_in_row-returns-in-Some-get_mut-3-clause-ok : goal.put_in_row-returns-in-Some-get_mut-3-clause-ok
+put_in_row-returns-in-Some-get_mut-3-clause-ok g t c =
     let R = g.K.Ord.cmp in
     let path = g.K.PathKey.path_of in
     let a = c.args in
     let m = c.in-Sixteen in
-    let row = c.in-Some-get_mut-4.ensures.value ∙ ap arc_value m.row-is in
+    let row = c.in-Some-get_mut-3.ensures.value ∙ ap arc_value m.row-is in
     let opened = (λ i. branch_of (m.stamp-is i).0 (in_row (m.size-is i) (m.bitmap-is i) (row i))) ∙ sym (ap tree m.is ∙ tree-Sixteen m.bitmap m.stamp m.size m.row) in
     let n = c.put_in_sixteen.new in
     on_ok c.put_in_sixteen.result _ _ (λ r h. inside_equal R path a.level a.entry (g.C.Condition.holds a.condition.now) r opened (tree-Sixteen n.bitmap n.stamp n.size (record m.row { value = n.row })) h) c.put_in_sixteen.ensures.ok
 
-pub put_in_node-returns-in-Some-get_mut-4-clause-due : goal.put_in_node-returns-in-Some-get_mut-4-clause-due
-put_in_node-returns-in-Some-get_mut-4-clause-due g t c =
+pub put_in_row-returns-in-Some-get_mut-3-clause-due : goal.put_in_row-returns-in-Some-get_mut-3-clause-due
+put_in_row-returns-in-Some-get_mut-3-clause-due g t c =
     let a = c.args in
     let m = c.in-Sixteen in
-    let row = c.in-Some-get_mut-4.ensures.value ∙ ap arc_value m.row-is in
+    let row = c.in-Some-get_mut-3.ensures.value ∙ ap arc_value m.row-is in
     let opened = (λ i. branch_of (m.stamp-is i).0 (in_row (m.size-is i) (m.bitmap-is i) (row i))) ∙ sym (ap tree m.is ∙ tree-Sixteen m.bitmap m.stamp m.size m.row) in
     on_err_weaker c.put_in_sixteen.result (λ e. ap (λ x. is_refusable (g.C.Condition.holds a.condition.now) (find g.K.Ord.cmp a.entry.key.value (entries x))) (sym opened) ∙ e) c.put_in_sixteen.ensures.due
 
-pub put_in_node-returns-in-Some-get_mut-4-clause-err : goal.put_in_node-returns-in-Some-get_mut-4-clause-err
-put_in_node-returns-in-Some-get_mut-4-clause-err g t c =
+pub put_in_row-returns-in-Some-get_mut-3-clause-err : goal.put_in_row-returns-in-Some-get_mut-3-clause-err
+put_in_row-returns-in-Some-get_mut-3-clause-err g t c =
     let m = c.in-Sixteen in
-    let row = c.in-Some-get_mut-4.ensures.value ∙ ap arc_value m.row-is in
+    let row = c.in-Some-get_mut-3.ensures.value ∙ ap arc_value m.row-is in
     let opened = (λ i. branch_of (m.stamp-is i).0 (in_row (m.size-is i) (m.bitmap-is i) (row i))) ∙ sym (ap tree m.is ∙ tree-Sixteen m.bitmap m.stamp m.size m.row) in
     let n = c.put_in_sixteen.new in
     on_err_weaker c.put_in_sixteen.result (λ e. tree-Sixteen n.bitmap n.stamp n.size (record m.row { value = n.row }) ∙ e ∙ opened) c.put_in_sixteen.ensures.err
 
-pub put_in_node-put_in_all-requires : goal.put_in_node-put_in_all-requires
-put_in_node-put_in_all-requires g t c κs inside =
+pub put_in_row-put_in_all-requires : goal.put_in_row-put_in_all-requires
+put_in_row-put_in_all-requires g t c κs inside =
     let R = g.K.Ord.cmp in
     let path = g.K.PathKey.path_of in
     let a = c.args in
     let m = c.in-All in
-    let row = c.in-Some-get_mut-5.ensures.value ∙ ap arc_value m.row-is in
+    let row = c.in-Some-get_mut-4.ensures.value ∙ ap arc_value m.row-is in
     let opened = (λ i. branch_of (m.stamp-is i).0 (in_row (m.size-is i) (m.bitmap-is i) (row i))) ∙ sym (ap tree m.is ∙ tree-All m.bitmap m.stamp m.size m.row) in
     (omega arith, (search rules, (search rules, (search rules, (omega arith, (subst (IsTrie R path a.level) (sym opened) c.requires.trie, (c.requires.path, (subst (λ x. KeysAgree R path a.level a.entry.path.0 (entries x)) (sym opened) c.requires.agree, subst (λ x. length (entries x) < 2 ^ 63) (sym opened) c.requires.room))))))))
 
-pub put_in_node-returns-in-Some-get_mut-5-clause-ok : goal.put_in_node-returns-in-Some-get_mut-5-clause-ok
-put_in_node-returns-in-Some-get_mut-5-clause-ok g t c =
+pub put_in_row-returns-in-Some-get_mut-4-clause-ok : goal.put_in_row-returns-in-Some-get_mut-4-clause-ok
+put_in_row-returns-in-Some-get_mut-4-clause-ok g t c =
     let R = g.K.Ord.cmp in
     let path = g.K.PathKey.path_of in
     let a = c.args in
     let m = c.in-All in
-    let row = c.in-Some-get_mut-5.ensures.value ∙ ap arc_value m.row-is in
+    let row = c.in-Some-get_mut-4.ensures.value ∙ ap arc_value m.row-is in
     let opened = (λ i. branch_of (m.stamp-is i).0 (in_row (m.size-is i) (m.bitmap-is i) (row i))) ∙ sym (ap tree m.is ∙ tree-All m.bitmap m.stamp m.size m.row) in
     let n = c.put_in_all.new in
     on_ok c.put_in_all.result _ _ (λ r h. inside_equal R path a.level a.entry (g.C.Condition.holds a.condition.now) r opened (tree-All n.bitmap n.stamp n.size (record m.row { value = n.row })) h) c.put_in_all.ensures.ok
 
-pub put_in_node-returns-in-Some-get_mut-5-clause-due : goal.put_in_node-returns-in-Some-get_mut-5-clause-due
-put_in_node-returns-in-Some-get_mut-5-clause-due g t c =
+pub put_in_row-returns-in-Some-get_mut-4-clause-due : goal.put_in_row-returns-in-Some-get_mut-4-clause-due
+put_in_row-returns-in-Some-get_mut-4-clause-due g t c =
     let a = c.args in
     let m = c.in-All in
-    let row = c.in-Some-get_mut-5.ensures.value ∙ ap arc_value m.row-is in
+    let row = c.in-Some-get_mut-4.ensures.value ∙ ap arc_value m.row-is in
     let opened = (λ i. branch_of (m.stamp-is i).0 (in_row (m.size-is i) (m.bitmap-is i) (row i))) ∙ sym (ap tree m.is ∙ tree-All m.bitmap m.stamp m.size m.row) in
     on_err_weaker c.put_in_all.result (λ e. ap (λ x. is_refusable (g.C.Condition.holds a.condition.now) (find g.K.Ord.cmp a.entry.key.value (entries x))) (sym opened) ∙ e) c.put_in_all.ensures.due
 
-pub put_in_node-returns-in-Some-get_mut-5-clause-err : goal.put_in_node-returns-in-Some-get_mut-5-clause-err
-put_in_node-returns-in-Some-get_mut-5-clause-err g t c =
+pub put_in_row-returns-in-Some-get_mut-4-clause-err : goal.put_in_row-returns-in-Some-get_mut-4-clause-err
+put_in_row-returns-in-Some-get_mut-4-clause-err g t c =
     let m = c.in-All in
-    let row = c.in-Some-get_mut-5.ensures.value ∙ ap arc_value m.row-is in
+    let row = c.in-Some-get_mut-4.ensures.value ∙ ap arc_value m.row-is in
     let opened = (λ i. branch_of (m.stamp-is i).0 (in_row (m.size-is i) (m.bitmap-is i) (row i))) ∙ sym (ap tree m.is ∙ tree-All m.bitmap m.stamp m.size m.row) in
     let n = c.put_in_all.new in
     on_err_weaker c.put_in_all.result (λ e. tree-All n.bitmap n.stamp n.size (record m.row { value = n.row }) ∙ e ∙ opened) c.put_in_all.ensures.err

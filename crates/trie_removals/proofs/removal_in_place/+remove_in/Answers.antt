@@ -173,186 +173,186 @@ remove_in_branch-returns-in-None-count_out-clause-ok g t c =
     let written = set_in_row (count_ones a.bitmap.now) a.row.now c.place-at.result used c.remove_in_at.new.node in
     left_in_place w g.met.K.Ord.total g.met.K.PathKey.exact a.stamp.now.0 a.new_stamp.0 (g.C.Condition.holds a.condition.now) c.remove_in_at.new.node _ c.in_ok-found.ensures.ok c.in-Left.is _ written _ c.in-None-count_out.ensures.stays
 
-pub remove_in_node-remove_in_two-requires : goal.remove_in_node-remove_in_two-requires
-remove_in_node-remove_in_two-requires g t c κs inside =
+pub remove_in_row-remove_in_two-requires : goal.remove_in_row-remove_in_two-requires
+remove_in_row-remove_in_two-requires g t c κs inside =
     let R = g.K.Ord.cmp in
     let path = g.K.PathKey.path_of in
     let a = c.args in
     let m = c.in-Two in
-    let row = c.in-Some-get_mut.ensures.value ∙ ap arc_value m.row-is in
+    let row = c.in-Some.ensures.value ∙ ap arc_value m.row-is in
     let opened = (λ i. branch_of (m.old-is i).0 (in_row (m.size-is i) (m.bitmap-is i) (row i))) ∙ sym (ap tree m.is ∙ tree-Two m.bitmap m.old m.size m.row) in
     (omega arith, (search rules, (search rules, (search rules, (search rules, (omega arith, (c.requires.path, subst (IsTrie R path a.level) (sym opened) c.requires.trie)))))))
 
-pub remove_in_node-returns-in-Some-get_mut-clause-ok : goal.remove_in_node-returns-in-Some-get_mut-clause-ok
-remove_in_node-returns-in-Some-get_mut-clause-ok g t c =
+pub remove_in_row-returns-in-Some-clause-ok : goal.remove_in_row-returns-in-Some-clause-ok
+remove_in_row-returns-in-Some-clause-ok g t c =
     let a = c.args in
     let m = c.in-Two in
-    let row = c.in-Some-get_mut.ensures.value ∙ ap arc_value m.row-is in
+    let row = c.in-Some.ensures.value ∙ ap arc_value m.row-is in
     let opened = (λ i. branch_of (m.old-is i).0 (in_row (m.size-is i) (m.bitmap-is i) (row i))) ∙ sym (ap tree m.is ∙ tree-Two m.bitmap m.old m.size m.row) in
     let n = c.remove_in_two.new in
     let made = tree-Two n.bitmap n.stamp n.size (record m.row { value = n.row }) in
     on_ok c.remove_in_two.result _ _ (λ r h. takes_equal g.K.Ord.cmp g.K.PathKey.path_of a.level a.stamp.0 (g.Q.Sought.key_of a.key) (g.C.Condition.holds a.condition.now) _ _ _ _ r opened made h) c.remove_in_two.ensures.ok
 
-pub remove_in_node-returns-in-Some-get_mut-clause-due : goal.remove_in_node-returns-in-Some-get_mut-clause-due
-remove_in_node-returns-in-Some-get_mut-clause-due g t c =
+pub remove_in_row-returns-in-Some-clause-due : goal.remove_in_row-returns-in-Some-clause-due
+remove_in_row-returns-in-Some-clause-due g t c =
     let a = c.args in
     let m = c.in-Two in
-    let row = c.in-Some-get_mut.ensures.value ∙ ap arc_value m.row-is in
+    let row = c.in-Some.ensures.value ∙ ap arc_value m.row-is in
     let opened = (λ i. branch_of (m.old-is i).0 (in_row (m.size-is i) (m.bitmap-is i) (row i))) ∙ sym (ap tree m.is ∙ tree-Two m.bitmap m.old m.size m.row) in
     on_err_weaker c.remove_in_two.result (λ e. ap (λ x. is_some (find g.K.Ord.cmp (g.Q.Sought.key_of a.key) (entries x))) (sym opened) ∙ e) c.remove_in_two.ensures.due
 
-pub remove_in_node-returns-in-Some-get_mut-clause-err : goal.remove_in_node-returns-in-Some-get_mut-clause-err
-remove_in_node-returns-in-Some-get_mut-clause-err g t c =
+pub remove_in_row-returns-in-Some-clause-err : goal.remove_in_row-returns-in-Some-clause-err
+remove_in_row-returns-in-Some-clause-err g t c =
     let m = c.in-Two in
-    let row = c.in-Some-get_mut.ensures.value ∙ ap arc_value m.row-is in
+    let row = c.in-Some.ensures.value ∙ ap arc_value m.row-is in
     let opened = (λ i. branch_of (m.old-is i).0 (in_row (m.size-is i) (m.bitmap-is i) (row i))) ∙ sym (ap tree m.is ∙ tree-Two m.bitmap m.old m.size m.row) in
     let n = c.remove_in_two.new in
     let made = tree-Two n.bitmap n.stamp n.size (record m.row { value = n.row }) in
     on_err_weaker c.remove_in_two.result (λ e. made ∙ e ∙ opened) c.remove_in_two.ensures.err
 
-pub remove_in_node-remove_in_four-requires : goal.remove_in_node-remove_in_four-requires
-remove_in_node-remove_in_four-requires g t c κs inside =
+pub remove_in_row-remove_in_four-requires : goal.remove_in_row-remove_in_four-requires
+remove_in_row-remove_in_four-requires g t c κs inside =
     let R = g.K.Ord.cmp in
     let path = g.K.PathKey.path_of in
     let a = c.args in
     let m = c.in-Four in
-    let row = c.in-Some-get_mut-2.ensures.value ∙ ap arc_value m.row-is in
+    let row = c.in-Some-get_mut.ensures.value ∙ ap arc_value m.row-is in
     let opened = (λ i. branch_of (m.old-is i).0 (in_row (m.size-is i) (m.bitmap-is i) (row i))) ∙ sym (ap tree m.is ∙ tree-Four m.bitmap m.old m.size m.row) in
     (omega arith, (search rules, (search rules, (search rules, (search rules, (omega arith, (c.requires.path, subst (IsTrie R path a.level) (sym opened) c.requires.trie)))))))
 
-pub remove_in_node-returns-in-Some-get_mut-2-clause-ok : goal.remove_in_node-returns-in-Some-get_mut-2-clause-ok
-remove_in_node-returns-in-Some-get_mut-2-clause-ok g t c =
+pub remove_in_row-returns-in-Some-get_mut-clause-ok : goal.remove_in_row-returns-in-Some-get_mut-clause-ok
+remove_in_row-returns-in-Some-get_mut-clause-ok g t c =
     let a = c.args in
     let m = c.in-Four in
-    let row = c.in-Some-get_mut-2.ensures.value ∙ ap arc_value m.row-is in
+    let row = c.in-Some-get_mut.ensures.value ∙ ap arc_value m.row-is in
     let opened = (λ i. branch_of (m.old-is i).0 (in_row (m.size-is i) (m.bitmap-is i) (row i))) ∙ sym (ap tree m.is ∙ tree-Four m.bitmap m.old m.size m.row) in
     let n = c.remove_in_four.new in
     let made = tree-Four n.bitmap n.stamp n.size (record m.row { value = n.row }) in
     on_ok c.remove_in_four.result _ _ (λ r h. takes_equal g.K.Ord.cmp g.K.PathKey.path_of a.level a.stamp.0 (g.Q.Sought.key_of a.key) (g.C.Condition.holds a.condition.now) _ _ _ _ r opened made h) c.remove_in_four.ensures.ok
 
-pub remove_in_node-returns-in-Some-get_mut-2-clause-due : goal.remove_in_node-returns-in-Some-get_mut-2-clause-due
-remove_in_node-returns-in-Some-get_mut-2-clause-due g t c =
+pub remove_in_row-returns-in-Some-get_mut-clause-due : goal.remove_in_row-returns-in-Some-get_mut-clause-due
+remove_in_row-returns-in-Some-get_mut-clause-due g t c =
     let a = c.args in
     let m = c.in-Four in
-    let row = c.in-Some-get_mut-2.ensures.value ∙ ap arc_value m.row-is in
+    let row = c.in-Some-get_mut.ensures.value ∙ ap arc_value m.row-is in
     let opened = (λ i. branch_of (m.old-is i).0 (in_row (m.size-is i) (m.bitmap-is i) (row i))) ∙ sym (ap tree m.is ∙ tree-Four m.bitmap m.old m.size m.row) in
     on_err_weaker c.remove_in_four.result (λ e. ap (λ x. is_some (find g.K.Ord.cmp (g.Q.Sought.key_of a.key) (entries x))) (sym opened) ∙ e) c.remove_in_four.ensures.due
 
-pub remove_in_node-returns-in-Some-get_mut-2-clause-err : goal.remove_in_node-returns-in-Some-get_mut-2-clause-err
-remove_in_node-returns-in-Some-get_mut-2-clause-err g t c =
+pub remove_in_row-returns-in-Some-get_mut-clause-err : goal.remove_in_row-returns-in-Some-get_mut-clause-err
+remove_in_row-returns-in-Some-get_mut-clause-err g t c =
     let m = c.in-Four in
-    let row = c.in-Some-get_mut-2.ensures.value ∙ ap arc_value m.row-is in
+    let row = c.in-Some-get_mut.ensures.value ∙ ap arc_value m.row-is in
     let opened = (λ i. branch_of (m.old-is i).0 (in_row (m.size-is i) (m.bitmap-is i) (row i))) ∙ sym (ap tree m.is ∙ tree-Four m.bitmap m.old m.size m.row) in
     let n = c.remove_in_four.new in
     let made = tree-Four n.bitmap n.stamp n.size (record m.row { value = n.row }) in
     on_err_weaker c.remove_in_four.result (λ e. made ∙ e ∙ opened) c.remove_in_four.ensures.err
 
-pub remove_in_node-remove_in_eight-requires : goal.remove_in_node-remove_in_eight-requires
-remove_in_node-remove_in_eight-requires g t c κs inside =
+pub remove_in_row-remove_in_eight-requires : goal.remove_in_row-remove_in_eight-requires
+remove_in_row-remove_in_eight-requires g t c κs inside =
     let R = g.K.Ord.cmp in
     let path = g.K.PathKey.path_of in
     let a = c.args in
     let m = c.in-Eight in
-    let row = c.in-Some-get_mut-3.ensures.value ∙ ap arc_value m.row-is in
+    let row = c.in-Some-get_mut-2.ensures.value ∙ ap arc_value m.row-is in
     let opened = (λ i. branch_of (m.old-is i).0 (in_row (m.size-is i) (m.bitmap-is i) (row i))) ∙ sym (ap tree m.is ∙ tree-Eight m.bitmap m.old m.size m.row) in
     (omega arith, (search rules, (search rules, (search rules, (search rules, (omega arith, (c.requires.path, subst (IsTrie R path a.level) (sym opened) c.requires.trie)))))))
 
-pub remove_in_node-returns-in-Some-get_mut-3-clause-ok : goal.remove_in_node-returns-in-Some-get_mut-3-clause-ok
-remove_in_node-returns-in-Some-get_mut-3-clause-ok g t c =
+pub remove_in_row-returns-in-Some-get_mut-2-clause-ok : goal.remove_in_row-returns-in-Some-get_mut-2-clause-ok
+remove_in_row-returns-in-Some-get_mut-2-clause-ok g t c =
     let a = c.args in
     let m = c.in-Eight in
-    let row = c.in-Some-get_mut-3.ensures.value ∙ ap arc_value m.row-is in
+    let row = c.in-Some-get_mut-2.ensures.value ∙ ap arc_value m.row-is in
     let opened = (λ i. branch_of (m.old-is i).0 (in_row (m.size-is i) (m.bitmap-is i) (row i))) ∙ sym (ap tree m.is ∙ tree-Eight m.bitmap m.old m.size m.row) in
     let n = c.remove_in_eight.new in
     let made = tree-Eight n.bitmap n.stamp n.size (record m.row { value = n.row }) in
     on_ok c.remove_in_eight.result _ _ (λ r h. takes_equal g.K.Ord.cmp g.K.PathKey.path_of a.level a.stamp.0 (g.Q.Sought.key_of a.key) (g.C.Condition.holds a.condition.now) _ _ _ _ r opened made h) c.remove_in_eight.ensures.ok
 
-pub remove_in_node-returns-in-Some-get_mut-3-clause-due : goal.remove_in_node-returns-in-Some-get_mut-3-clause-due
-remove_in_node-returns-in-Some-get_mut-3-clause-due g t c =
+pub remove_in_row-returns-in-Some-get_mut-2-clause-due : goal.remove_in_row-returns-in-Some-get_mut-2-clause-due
+remove_in_row-returns-in-Some-get_mut-2-clause-due g t c =
     let a = c.args in
     let m = c.in-Eight in
-    let row = c.in-Some-get_mut-3.ensures.value ∙ ap arc_value m.row-is in
+    let row = c.in-Some-get_mut-2.ensures.value ∙ ap arc_value m.row-is in
     let opened = (λ i. branch_of (m.old-is i).0 (in_row (m.size-is i) (m.bitmap-is i) (row i))) ∙ sym (ap tree m.is ∙ tree-Eight m.bitmap m.old m.size m.row) in
     on_err_weaker c.remove_in_eight.result (λ e. ap (λ x. is_some (find g.K.Ord.cmp (g.Q.Sought.key_of a.key) (entries x))) (sym opened) ∙ e) c.remove_in_eight.ensures.due
 
-pub remove_in_node-returns-in-Some-get_mut-3-clause-err : goal.remove_in_node-returns-in-Some-get_mut-3-clause-err
-remove_in_node-returns-in-Some-get_mut-3-clause-err g t c =
+pub remove_in_row-returns-in-Some-get_mut-2-clause-err : goal.remove_in_row-returns-in-Some-get_mut-2-clause-err
+remove_in_row-returns-in-Some-get_mut-2-clause-err g t c =
     let m = c.in-Eight in
-    let row = c.in-Some-get_mut-3.ensures.value ∙ ap arc_value m.row-is in
+    let row = c.in-Some-get_mut-2.ensures.value ∙ ap arc_value m.row-is in
     let opened = (λ i. branch_of (m.old-is i).0 (in_row (m.size-is i) (m.bitmap-is i) (row i))) ∙ sym (ap tree m.is ∙ tree-Eight m.bitmap m.old m.size m.row) in
     let n = c.remove_in_eight.new in
     let made = tree-Eight n.bitmap n.stamp n.size (record m.row { value = n.row }) in
     on_err_weaker c.remove_in_eight.result (λ e. made ∙ e ∙ opened) c.remove_in_eight.ensures.err
 
-pub remove_in_node-remove_in_sixteen-requires : goal.remove_in_node-remove_in_sixteen-requires
-remove_in_node-remove_in_sixteen-requires g t c κs inside =
+pub remove_in_row-remove_in_sixteen-requires : goal.remove_in_row-remove_in_sixteen-requires
+remove_in_row-remove_in_sixteen-requires g t c κs inside =
     let R = g.K.Ord.cmp in
     let path = g.K.PathKey.path_of in
     let a = c.args in
     let m = c.in-Sixteen in
-    let row = c.in-Some-get_mut-4.ensures.value ∙ ap arc_value m.row-is in
+    let row = c.in-Some-get_mut-3.ensures.value ∙ ap arc_value m.row-is in
     let opened = (λ i. branch_of (m.old-is i).0 (in_row (m.size-is i) (m.bitmap-is i) (row i))) ∙ sym (ap tree m.is ∙ tree-Sixteen m.bitmap m.old m.size m.row) in
     (omega arith, (search rules, (search rules, (search rules, (search rules, (omega arith, (c.requires.path, subst (IsTrie R path a.level) (sym opened) c.requires.trie)))))))
 
-pub remove_in_node-returns-in-Some-get_mut-4-clause-ok : goal.remove_in_node-returns-in-Some-get_mut-4-clause-ok
-remove_in_node-returns-in-Some-get_mut-4-clause-ok g t c =
+pub remove_in_row-returns-in-Some-get_mut-3-clause-ok : goal.remove_in_row-returns-in-Some-get_mut-3-clause-ok
+remove_in_row-returns-in-Some-get_mut-3-clause-ok g t c =
     let a = c.args in
     let m = c.in-Sixteen in
-    let row = c.in-Some-get_mut-4.ensures.value ∙ ap arc_value m.row-is in
+    let row = c.in-Some-get_mut-3.ensures.value ∙ ap arc_value m.row-is in
     let opened = (λ i. branch_of (m.old-is i).0 (in_row (m.size-is i) (m.bitmap-is i) (row i))) ∙ sym (ap tree m.is ∙ tree-Sixteen m.bitmap m.old m.size m.row) in
     let n = c.remove_in_sixteen.new in
     let made = tree-Sixteen n.bitmap n.stamp n.size (record m.row { value = n.row }) in
     on_ok c.remove_in_sixteen.result _ _ (λ r h. takes_equal g.K.Ord.cmp g.K.PathKey.path_of a.level a.stamp.0 (g.Q.Sought.key_of a.key) (g.C.Condition.holds a.condition.now) _ _ _ _ r opened made h) c.remove_in_sixteen.ensures.ok
 
-pub remove_in_node-returns-in-Some-get_mut-4-clause-due : goal.remove_in_node-returns-in-Some-get_mut-4-clause-due
-remove_in_node-returns-in-Some-get_mut-4-clause-due g t c =
+pub remove_in_row-returns-in-Some-get_mut-3-clause-due : goal.remove_in_row-returns-in-Some-get_mut-3-clause-due
+remove_in_row-returns-in-Some-get_mut-3-clause-due g t c =
     let a = c.args in
     let m = c.in-Sixteen in
-    let row = c.in-Some-get_mut-4.ensures.value ∙ ap arc_value m.row-is in
+    let row = c.in-Some-get_mut-3.ensures.value ∙ ap arc_value m.row-is in
     let opened = (λ i. branch_of (m.old-is i).0 (in_row (m.size-is i) (m.bitmap-is i) (row i))) ∙ sym (ap tree m.is ∙ tree-Sixteen m.bitmap m.old m.size m.row) in
     on_err_weaker c.remove_in_sixteen.result (λ e. ap (λ x. is_some (find g.K.Ord.cmp (g.Q.Sought.key_of a.key) (entries x))) (sym opened) ∙ e) c.remove_in_sixteen.ensures.due
 
-pub remove_in_node-returns-in-Some-get_mut-4-clause-err : goal.remove_in_node-returns-in-Some-get_mut-4-clause-err
-remove_in_node-returns-in-Some-get_mut-4-clause-err g t c =
+pub remove_in_row-returns-in-Some-get_mut-3-clause-err : goal.remove_in_row-returns-in-Some-get_mut-3-clause-err
+remove_in_row-returns-in-Some-get_mut-3-clause-err g t c =
     let m = c.in-Sixteen in
-    let row = c.in-Some-get_mut-4.ensures.value ∙ ap arc_value m.row-is in
+    let row = c.in-Some-get_mut-3.ensures.value ∙ ap arc_value m.row-is in
     let opened = (λ i. branch_of (m.old-is i).0 (in_row (m.size-is i) (m.bitmap-is i) (row i))) ∙ sym (ap tree m.is ∙ tree-Sixteen m.bitmap m.old m.size m.row) in
     let n = c.remove_in_sixteen.new in
     let made = tree-Sixteen n.bitmap n.stamp n.size (record m.row { value = n.row }) in
     on_err_weaker c.remove_in_sixteen.result (λ e. made ∙ e ∙ opened) c.remove_in_sixteen.ensures.err
 
-pub remove_in_node-remove_in_all-requires : goal.remove_in_node-remove_in_all-requires
-remove_in_node-remove_in_all-requires g t c κs inside =
+pub remove_in_row-remove_in_all-requires : goal.remove_in_row-remove_in_all-requires
+remove_in_row-remove_in_all-requires g t c κs inside =
     let R = g.K.Ord.cmp in
     let path = g.K.PathKey.path_of in
     let a = c.args in
     let m = c.in-All in
-    let row = c.in-Some-get_mut-5.ensures.value ∙ ap arc_value m.row-is in
+    let row = c.in-Some-get_mut-4.ensures.value ∙ ap arc_value m.row-is in
     let opened = (λ i. branch_of (m.old-is i).0 (in_row (m.size-is i) (m.bitmap-is i) (row i))) ∙ sym (ap tree m.is ∙ tree-All m.bitmap m.old m.size m.row) in
     (omega arith, (search rules, (search rules, (search rules, (search rules, (omega arith, (c.requires.path, subst (IsTrie R path a.level) (sym opened) c.requires.trie)))))))
 
-pub remove_in_node-returns-in-Some-get_mut-5-clause-ok : goal.remove_in_node-returns-in-Some-get_mut-5-clause-ok
-remove_in_node-returns-in-Some-get_mut-5-clause-ok g t c =
+pub remove_in_row-returns-in-Some-get_mut-4-clause-ok : goal.remove_in_row-returns-in-Some-get_mut-4-clause-ok
+remove_in_row-returns-in-Some-get_mut-4-clause-ok g t c =
     let a = c.args in
     let m = c.in-All in
-    let row = c.in-Some-get_mut-5.ensures.value ∙ ap arc_value m.row-is in
+    let row = c.in-Some-get_mut-4.ensures.value ∙ ap arc_value m.row-is in
     let opened = (λ i. branch_of (m.old-is i).0 (in_row (m.size-is i) (m.bitmap-is i) (row i))) ∙ sym (ap tree m.is ∙ tree-All m.bitmap m.old m.size m.row) in
     let n = c.remove_in_all.new in
     let made = tree-All n.bitmap n.stamp n.size (record m.row { value = n.row }) in
     on_ok c.remove_in_all.result _ _ (λ r h. takes_equal g.K.Ord.cmp g.K.PathKey.path_of a.level a.stamp.0 (g.Q.Sought.key_of a.key) (g.C.Condition.holds a.condition.now) _ _ _ _ r opened made h) c.remove_in_all.ensures.ok
 
-pub remove_in_node-returns-in-Some-get_mut-5-clause-due : goal.remove_in_node-returns-in-Some-get_mut-5-clause-due
-remove_in_node-returns-in-Some-get_mut-5-clause-due g t c =
+pub remove_in_row-returns-in-Some-get_mut-4-clause-due : goal.remove_in_row-returns-in-Some-get_mut-4-clause-due
+remove_in_row-returns-in-Some-get_mut-4-clause-due g t c =
     let a = c.args in
     let m = c.in-All in
-    let row = c.in-Some-get_mut-5.ensures.value ∙ ap arc_value m.row-is in
+    let row = c.in-Some-get_mut-4.ensures.value ∙ ap arc_value m.row-is in
     let opened = (λ i. branch_of (m.old-is i).0 (in_row (m.size-is i) (m.bitmap-is i) (row i))) ∙ sym (ap tree m.is ∙ tree-All m.bitmap m.old m.size m.row) in
     on_err_weaker c.remove_in_all.result (λ e. ap (λ x. is_some (find g.K.Ord.cmp (g.Q.Sought.key_of a.key) (entries x))) (sym opened) ∙ e) c.remove_in_all.ensures.due
 
-pub remove_in_node-returns-in-Some-get_mut-5-clause-err : goal.remove_in_node-returns-in-Some-get_mut-5-clause-err
-remove_in_node-returns-in-Some-get_mut-5-clause-err g t c =
+pub remove_in_row-returns-in-Some-get_mut-4-clause-err : goal.remove_in_row-returns-in-Some-get_mut-4-clause-err
+remove_in_row-returns-in-Some-get_mut-4-clause-err g t c =
     let m = c.in-All in
-    let row = c.in-Some-get_mut-5.ensures.value ∙ ap arc_value m.row-is in
+    let row = c.in-Some-get_mut-4.ensures.value ∙ ap arc_value m.row-is in
     let opened = (λ i. branch_of (m.old-is i).0 (in_row (m.size-is i) (m.bitmap-is i) (row i))) ∙ sym (ap tree m.is ∙ tree-All m.bitmap m.old m.size m.row) in
     let n = c.remove_in_all.new in
     let made = tree-All n.bitmap n.stamp n.size (record m.row { value = n.row }) in
