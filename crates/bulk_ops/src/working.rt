@@ -1,10 +1,10 @@
 //! How queries are worked: a query is an operation on whole maps.
-ghost use Rattle.std.specs.Prelude.{◌≡◌, IfOk, option_map};
+ghost use Rattle.std.specs.Prelude.{◌≡◌, IfOk, OnErr, OnOk, option_map};
 ghost use Rattle.std.specs.Option.{option_or};
 ghost use Rattle.bulk_work.specs.Pairs.{pair_of};
 ghost use Rattle.bulk_ops.specs.Parts.{HasImages};
-ghost use Rattle.bulk_ops.specs.Queries.{PartAnswers, is_settled};
-ghost use Rattle.combiner.specs.Bulks.{CanJoin, IsJoined};
+ghost use Rattle.bulk_ops.specs.Queries.{IsReady, MakesMap, PartAnswers, is_settled};
+ghost use Rattle.combiner.specs.Bulks.{CanAdd, CanJoin, IsAdded, IsJoined};
 ghost use Rattle.versions.specs.Map.{Map};
 
 use crate::closure::{ImageFn, PairFn};
@@ -133,22 +133,6 @@ impl<
                 }
                 Ok(())
             }
-            Query::Filter(test, _) => {
-                let passes = test.at(key, value);
-                if passes {
-                    part.put_shared(alloc, key, value)?;
-                }
-                Ok(())
-            }
-            Query::MapValues(change, _) => {
-                part.put_value(alloc, key, change.at(key, value))?;
-                Ok(())
-            }
-            Query::MapPairs(change, _) => {
-                let (image, made) = change.shared_at(alloc, key, value)?;
-                part.put_image(alloc, image, made)?;
-                Ok(())
-            }
             Query::Fold(monoid, item) => {
                 let one = item.at(key, value);
                 let folded = monoid.op(&one, part.item());
@@ -156,6 +140,7 @@ impl<
                 replace(part, Part::Item(folded));
                 Ok(())
             }
+            _ => add_to_map(alloc, self, part, key, value),
         }
     }
 
@@ -203,6 +188,49 @@ impl<
                 }
             },
         }
+    }
+}
+
+// Adds a pair to the map that the query makes, which has none of its key. After `NoMemory` the part is as before.
+fn add_to_map<
+    K: PathKey + Drop,
+    V: Drop,
+    T: PairFn<K, V, bool>,
+    F: PairFn<K, V, V>,
+    M: Monoid,
+    G: PairFn<K, V, M::Item>,
+    P: ImageFn<K, V>,
+>(
+    alloc: Global,
+    query: &Query<K, V, T, F, M, G, P>,
+    part: &mut Part<K, V, M::Item>,
+    key: &Arc<K>,
+    value: &Arc<V>,
+) -> Result<(), NoMemory>
+    requires makes { MakesMap query.now }
+    requires ready { IsReady query.now }
+    requires apart { CanAdd K.cmp (PartAnswers M.combine M.unit_of K.cmp query.now) part.old key.now.value value.now.value }
+    ensures added { OnOk result (IsAdded K.cmp (PartAnswers M.combine M.unit_of K.cmp query.now) part.old key.now.value value.now.value part.new) }
+    ensures err { OnErr result (part.new ≡ part.old) }
+{
+    match query {
+        Query::Filter(test, _) => {
+            let passes = test.at(key, value);
+            if passes {
+                part.put_shared(alloc, key, value)?;
+            }
+            Ok(())
+        }
+        Query::MapValues(change, _) => {
+            part.put_value(alloc, key, change.at(key, value))?;
+            Ok(())
+        }
+        Query::MapPairs(change, _) => {
+            let (image, made) = change.shared_at(alloc, key, value)?;
+            part.put_image(alloc, image, made)?;
+            Ok(())
+        }
+        _ => unreachable!(),
     }
 }
 

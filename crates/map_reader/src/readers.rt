@@ -1,5 +1,8 @@
 //! What the readers of a map share.
-ghost use Rattle.std.specs.Prelude.{◌≡◌};
+ghost use Rattle.std.specs.Prelude.{◌≡◌, IfOk};
+ghost use Rattle.map_reader.specs.Sights.{AllTold};
+ghost use Rattle.stripes.specs.Rules.{AllKeep};
+ghost use Rattle.write_history.specs.Rules.{HasHistory};
 
 use crate::base::Base;
 use crate::latest::LatestBase;
@@ -14,6 +17,7 @@ use std::sync::{Arc, Mutex, Wait};
 use stripes::{Anything, Keeps, Marking, Marks, Stripes};
 use trie_node::NoMemory;
 use united_roots::RootRow;
+use versions::View;
 use write_history::{Front, Naming, Unnamed};
 
 /// The latest base, unless its marks have ended, and how many bases were made until then.
@@ -159,12 +163,39 @@ impl<'m, K: PathKey + Drop, V: Drop, P: Keeps<K, V>, J: Naming, S: Since<K, V>> 
     // marked all the same.
     fn new_base<R: Wait>(&self, rt: &R, pairs: u64) -> Result<Arc<Base<K, V, P, J, S>>, NoMemory> {
         let marks = Arc::new(self.alloc, Marks::new(self.alloc, pairs)?)?;
-        let mut marking = Marking::new(self.alloc, &marks)?;
-        let room = RootRow::new(self.alloc)?;
         let mut sight = self.sight();
-        let held = self.row.all_marked(rt, self.alloc, &mut marking)?;
-        let map = sight.whole(rt, self.alloc, self.row, held, room)?;
-        Ok(Arc::new(self.alloc, Base::new(map.view()?, marks, sight))?)
+        let Ok(plain) = self.marked_view(rt, &marks, &mut sight) else {
+            drop((marks, sight));
+            return Err(NoMemory);
+        };
+        Ok(Arc::new(self.alloc, Base::new(plain, marks, sight))?)
+    }
+
+    // A view of the map at that moment, whose sight it is. Each stripe has the marks from then on.
+    fn marked_view<R: Wait>(
+        &self,
+        rt: &R,
+        marks: &Arc<Marks>,
+        sight: &mut Sight<K, V, J, S>,
+    ) -> Result<View<K, V>, NoMemory>
+        ensures told { HasHistory J.book → IfOk result (λ plain. AllTold K.cmp K.path_of plain sight.new) }
+        ensures kept { IfOk result (λ plain. AllKeep K.cmp P.holds plain) }
+    {
+        let mut marking = Marking::new(self.alloc, marks)?;
+        let Ok(room) = RootRow::new(self.alloc) else {
+            drop(marking);
+            return Err(NoMemory);
+        };
+        let Ok(held) = self.row.all_marked(rt, self.alloc, &mut marking) else {
+            drop((marking, room));
+            return Err(NoMemory);
+        };
+        let map = sight.whole(rt, self.alloc, self.row, held, room);
+        drop(marking);
+        let map = map?;
+        let plain = map.view();
+        drop(map);
+        Ok(plain?)
     }
 }
 

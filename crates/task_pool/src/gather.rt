@@ -145,12 +145,44 @@ where
     ensures all { IfOk result (λ both. both.0 ≡ all_of partials.entry.items) }
     ensures lists { IfOk result (λ both. map (λ list. list.items) both.1.items ≡ partials.entry.items) }
 {
-    let mut all = Partial::new(alloc, view, bulk)?;
+    let Ok(mut all) = Partial::new(alloc, view, bulk) else {
+        drop(partials);
+        return Err(NoMemory);
+    };
     let mut lists = Vec::new(alloc);
     for partial in partials {
-        let list = partial.list(alloc)?;
-        lists.push(list)?;
-        all = all.merge(alloc, partial)?;
+        let Ok(more) = merge_one(alloc, all, &mut lists, partial) else {
+            drop(lists);
+            return Err(NoMemory);
+        };
+        all = more;
     }
     Ok((all, lists))
+}
+
+// What was worked with what one more worker has worked, whose list is added to the others.
+fn merge_one<'a, C, K, V, B>(
+    alloc: Global,
+    all: Partial<'a, C, K, V, B>,
+    lists: &mut Vec<Vec<Interval>>,
+    partial: Partial<'a, C, K, V, B>,
+) -> Result<Partial<'a, C, K, V, B>, NoMemory>
+where
+    C: OfView<K, V> + OfBulk<B>,
+    K: PathKey + Drop,
+    V: Drop,
+    B: Bulk<K, V>,
+    requires { AreApart (all ++ partial) }
+    ensures all { IfOk result (λ more. more ≡ all.entry ++ partial.entry) }
+    ensures lists { OnOk result (map (λ list. list.items) lists.new.items ≡ map (λ list. list.items) lists.old.items ++ partial.entry ∷ []) }
+{
+    let Ok(list) = partial.list(alloc) else {
+        drop((all, partial));
+        return Err(NoMemory);
+    };
+    let Ok(()) = lists.push(list) else {
+        drop((all, partial));
+        return Err(NoMemory);
+    };
+    all.merge(alloc, partial)
 }

@@ -19,15 +19,6 @@ truth-requires g c = kinds.exists_truth g.M.Monoid.combine g.M.Monoid.unit_of g.
 pub truth-requires-in-ForAll : goal.truth-requires-in-ForAll
 truth-requires-in-ForAll g c = kinds.for_all_truth g.M.Monoid.combine g.M.Monoid.unit_of g.K.Ord.cmp c.args.self.now c.in-ForAll.test c.args.part.now c.in-ForAll.is (kinds.added_known g.M.Monoid.combine g.M.Monoid.unit_of g.K.Ord.cmp g.met.K.Ord.total c.args.key.now.value c.args.value.now.value c.args.self.now c.args.part.now c.requires.apart)
 
-pub put_shared-requires : goal.put_shared-requires
-put_shared-requires g c = kinds.filter_room g.M.Monoid.combine g.M.Monoid.unit_of g.K.Ord.cmp g.met.K.Ord.total c.args.key.now.value c.args.value.now.value c.args.self.now c.in-Filter.test c.in-Filter.field-1 c.args.part.now c.in-Filter.is c.requires.apart
-
-pub put_value-requires : goal.put_value-requires
-put_value-requires g c = kinds.values_room g.M.Monoid.combine g.M.Monoid.unit_of g.K.Ord.cmp g.met.K.Ord.total c.args.key.now.value c.args.value.now.value c.args.self.now c.in-MapValues.change c.in-MapValues.field-1 c.args.part.now c.in-MapValues.is c.requires.apart
-
-pub put_image-requires : goal.put_image-requires
-put_image-requires g c = kinds.pairs_room g.M.Monoid.combine g.M.Monoid.unit_of g.K.Ord.cmp g.met.K.Ord.total c.args.key.now.value c.args.value.now.value c.args.self.now c.in-MapPairs.change c.in-MapPairs.field-1 c.args.part.now c.in-MapPairs.is c.requires.apart
-
 pub item-requires : goal.item-requires
 item-requires g c = kinds.item_of g.M.Monoid.combine g.M.Monoid.unit_of g.K.Ord.cmp c.args.self.now c.in-Fold.monoid c.in-Fold.item c.args.part.now c.in-Fold.is (kinds.added_known g.M.Monoid.combine g.M.Monoid.unit_of g.K.Ord.cmp g.met.K.Ord.total c.args.key.now.value c.args.value.now.value c.args.self.now c.args.part.now c.requires.apart)
 
@@ -60,29 +51,6 @@ pub returns-else-at-clause-added : goal.returns-else-at-clause-added
 returns-else-at-clause-added g c =
     adds.find_passed g.M.Monoid.combine g.M.Monoid.unit_of g.K.Ord.cmp g.met.K.Ord.total c.args.key.now.value c.args.value.now.value c.args.self.now c.in-Find.test c.at-in-Find.result c.args.part.now c.in-Find.is c.if-at.false
     (λ p means. c.at-in-Find.ensures p means ∙ (λ i. p (c.deref-in-Find.ensures i) (c.deref-in-Find-2.ensures i)))
-
-pub returns-in_ok-put_shared-in-Filter-clause-added : goal.returns-in_ok-put_shared-in-Filter-clause-added
-returns-in_ok-put_shared-in-Filter-clause-added g c =
-    adds.filter_added g.M.Monoid.combine g.M.Monoid.unit_of g.K.Ord.cmp g.met.K.Ord.total c.args.key.now.value c.args.value.now.value c.args.self.now c.in-Filter.test c.in-Filter.field-1 c.at-passes.result c.args.part.now c.put_shared.new.self c.in-Filter.is c.if-passes.true
-    (λ p means. c.at-passes.ensures p means ∙ (λ i. p (c.deref-in-Filter.ensures i) (c.deref-in-Filter-2.ensures i)))
-    c.in_ok-put_shared-in-Filter.ensures.put
-
-pub returns-else-passes-clause-added : goal.returns-else-passes-clause-added
-returns-else-passes-clause-added g c =
-    adds.filter_passed g.M.Monoid.combine g.M.Monoid.unit_of g.K.Ord.cmp g.met.K.Ord.total c.args.key.now.value c.args.value.now.value c.args.self.now c.in-Filter.test c.in-Filter.field-1 c.at-passes.result c.args.part.now c.in-Filter.is c.if-passes.false
-    (λ p means. c.at-passes.ensures p means ∙ (λ i. p (c.deref-in-Filter.ensures i) (c.deref-in-Filter-2.ensures i)))
-
-pub returns-in_ok-put_value-in-MapValues-clause-added : goal.returns-in_ok-put_value-in-MapValues-clause-added
-returns-in_ok-put_value-in-MapValues-clause-added g c =
-    adds.values_added g.M.Monoid.combine g.M.Monoid.unit_of g.K.Ord.cmp g.met.K.Ord.total c.args.key.now.value c.args.value.now.value c.args.self.now c.in-MapValues.change c.in-MapValues.field-1 c.at-in-MapValues.result c.args.part.now c.put_value.new.self c.in-MapValues.is
-    (λ p means. c.at-in-MapValues.ensures p means ∙ (λ i. p (c.deref-in-MapValues.ensures i) (c.deref-in-MapValues-2.ensures i)))
-    c.in_ok-put_value-in-MapValues.ensures.put
-
-pub returns-in_ok-put_image-in-MapPairs-clause-added : goal.returns-in_ok-put_image-in-MapPairs-clause-added
-returns-in_ok-put_image-in-MapPairs-clause-added g c =
-    adds.pairs_added g.M.Monoid.combine g.M.Monoid.unit_of g.K.Ord.cmp g.met.K.Ord.total c.args.key.now.value c.args.value.now.value g.met.K.PathKey.exact c.args.self.now c.in-MapPairs.change c.in-MapPairs.field-1 (c.in_ok-image-in-MapPairs.image.value, c.in_ok-image-in-MapPairs.made.value) c.args.part.now c.put_image.new.self c.in-MapPairs.is
-    (λ p means. c.in_ok-image-in-MapPairs.ensures p means ∙ (λ i. p (c.deref-in-MapPairs.ensures i) (c.deref-in-MapPairs-2.ensures i)))
-    c.in_ok-put_image-in-MapPairs.ensures.put
 
 pub returns-in-Fold-clause-added : goal.returns-in-Fold-clause-added
 returns-in-Fold-clause-added g c =
