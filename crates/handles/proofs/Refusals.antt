@@ -4,8 +4,11 @@ use Rattle.std.specs.Prelude.{is_some, nat_lt}
 use Rattle.std.proofs.lemmas.Bool.Decides.{nat_tests}
 use Rattle.versions.specs.declared.refusal.Refusal.{Refusal}
 use Rattle.versions.specs.declared.refusal.Refusal.TheVariants.{JournalFull, BadNumber, NoJob}
-use Rattle.handles.specs.Machine.{Kind, State, Request, freeze, finish, refusal, is_bad, is_entry, needs_room, room, job_at}
+use Rattle.handles.specs.Machine.{Kind, State, Request, freeze, finish, refusal, is_bad, is_entry, lacks_place, needs_room, room, job_at}
 use Rattle.handles.specs.Jobs.{IsPlace}
+use Rattle.handles.specs.Views.{requested}
+use Rattle.handles.specs.declared.request_ref.RequestRef.{RequestRef}
+use Rattle.handles.specs.declared.request_ref.RequestRef.TheVariants as requests
 
 none_first : (b : Bool) (x : Refusal) (rest : Option Refusal) → cond b (Some x) rest ≡ None → (b ≡ false) × (rest ≡ None)
 none_first true x rest e = absurd (cc)
@@ -34,6 +37,16 @@ is_place None e = tt
 is_place (Some to) e = let le : to ≤ 1023 = not_below 1023 to e in omega arith
 
 module _ {K V Q A B : Type 0} (kind : Kind K V Q A B) where
+  -- no request but a command lacks a place
+  pub never_full : (s : State K V Q) (r : RequestRef Q) → lacks_place kind s (requested r) ≡ false
+  never_full s (requests.Open h) = refl
+  never_full s (requests.Snapshot h to) = refl
+  never_full s (requests.Drop h) = refl
+  never_full s (requests.View h) = refl
+  never_full s (requests.Freeze h q) = refl
+  never_full s (requests.Finish j) = refl
+  never_full s (requests.Abandon j) = refl
+
   -- a request that needs room and is not refused has it
   pub granted_has_room : (s : State K V Q) (r : Request K V Q) → needs_room r ≡ true → refusal kind s r ≡ None → 2 ≤ room s
   granted_has_room s r needs none = not_below (room s) 2 (other_is (needs_room r) (nat_lt (room s) 2) needs (none_first _ JournalFull _ none).0)

@@ -1,5 +1,5 @@
 -- How the table's calls and their answers appear to the machine.
-use Rattle.std.specs.Prelude.{◌≡◌, ℕ, Bool, List, Option, Some, None, Result, Ok, Err, map, true, false}
+use Rattle.std.specs.Prelude.{◌≡◌, ℕ, ⊤, Bool, List, Option, Some, None, Result, Ok, Err, map, true, false}
 use Rattle.std.specs.declared.cmp.Ordering.{Ordering}
 use Rattle.versions.specs.Map.{Map}
 use Rattle.versions.specs.declared.refusal.Refusal.{Refusal}
@@ -7,7 +7,7 @@ use Rattle.versions.specs.declared.refusal.Refusal.TheVariants.{NoMemory}
 use Rattle.bulk_work.specs.Answers as plain
 use Rattle.bulk_work.specs.Summaries.{summary_of}
 use Rattle.bulk_work.specs.declared.asks.Answer.{Answer}
-pub use Rattle.held_maps.specs.Commands.{command_of, lacks_memory, leaves_map, reply_of}
+pub use Rattle.held_maps.specs.Commands.{IsPathFor, command_of, lacks_memory, leaves_map, reply_of}
 use Rattle.held_maps.specs.declared.reply.Reply.{Reply}
 use Rattle.handles.specs.declared.call.Call.{Call}
 use Rattle.handles.specs.declared.call.Call.TheVariants.{Open, Snapshot, Drop, On}
@@ -48,12 +48,16 @@ request_of (Snapshot h to) = snapshot h to
 request_of (Drop h) = drop_handle h
 request_of (On h c) = on h (command_of c)
 
+-- the word is the path word of the key that a call names; where it names none, any word is
+abbrev pub IsPathOf : {K V : Type 0} → (K → ℕ) → Call K V → ℕ → Type 0
+IsPathOf path_of (On h c) w = IsPathFor path_of (command_of c) w
+IsPathOf path_of call w = ⊤
+
 -- the request whose refusal is asked for
-abbrev pub requested : {K V Q : Type 0} → RequestRef K V Q → Request K V Q
+abbrev pub requested : {K V Q : Type 0} → RequestRef Q → Request K V Q
 requested (requests.Open h) = open_handle h
 requested (requests.Snapshot h to) = snapshot h to
 requested (requests.Drop h) = drop_handle h
-requested (requests.On h c) = on h (command_of c.now)
 requested (requests.View h) = view h
 requested (requests.Freeze h q) = freeze h q.now
 requested (requests.Finish j) = finish j

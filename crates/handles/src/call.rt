@@ -1,4 +1,7 @@
 //! The calls of a table as values.
+ghost use Rattle.handles.specs.Views.{IsPathOf};
+
+use hash_path::{Path, PathKey};
 use held_maps::Command;
 
 /// A call of a table.
@@ -18,4 +21,18 @@ pub enum Call<K, V> {
     Drop(u32),
     /// Makes the command on the handle.
     On(u32, Command<K, V>),
+}
+
+impl<K: PathKey + Drop, V: Eq + Drop> Call<K, V> {
+    /// The path word of the key that the call names, which is hashed here; of a call that names none, some word.
+    ///
+    /// Cost: O(length of the key), no lock. Refused: never.
+    pub fn path(&self) -> Path
+        ensures { IsPathOf K.path_of self.now result.0 }
+    {
+        match self {
+            Call::On(_, command) => command.path(),
+            Call::Open(_) | Call::Snapshot(_, _) | Call::Drop(_) => Path(0),
+        }
+    }
 }

@@ -205,13 +205,12 @@ impl<K: PathKey + Drop, V: Eq + Drop, Q: Asks<K, V> + Drop> Table<K, V, Q> {
         ensures memory { AnswersWithoutMemory (machine K.cmp V.eq Q.target_of Q.answered) (on handle (command_of command)) result }
         ensures due { IsDue (machine K.cmp V.eq Q.target_of Q.answered) self.old (on handle (command_of command)) result }
     {
-        match self.refusal_of(&RequestRef::On(handle, &command)) {
-            Some(refusal) => {
-                drop(command);
-                counted(&mut self.entries, Err(refusal))
-            }
-            None => self.call_granted(alloc, handle, command),
+        let path = command.path();
+        if let Err(refusal) = self.version_for(handle, &command, path) {
+            drop(command);
+            return counted(&mut self.entries, Err(refusal));
         }
+        self.call_granted(alloc, handle, command, path)
     }
 
     /// Closes the handle: it is not live then.

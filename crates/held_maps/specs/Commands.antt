@@ -1,5 +1,5 @@
 -- Commands on one map and their replies, wherever keys and values lie.
-use Rattle.std.specs.Prelude.{Bool, Some, None, option_map, Result, Err, true, false}
+use Rattle.std.specs.Prelude.{◌≡◌, ℕ, ⊤, Bool, Some, None, option_map, Result, Err, true, false}
 use Rattle.std.specs.Arc.{arc_value}
 use Rattle.versions.specs.Commands as commands
 use Rattle.versions.specs.declared.refusal.Refusal.{Refusal}
@@ -20,6 +20,18 @@ command_of (Remove k) = commands.remove (arc_value k)
 command_of (RemoveIf k v) = commands.remove_if (arc_value k) (arc_value v)
 command_of Size = commands.size
 command_of Clear = commands.clear
+
+-- the word is the path word of the key that a command names; where it names none, any word is
+abbrev pub IsPathFor : {K V : Type 0} → (K → ℕ) → commands.Command K V → ℕ → Type 0
+IsPathFor path_of (commands.get k) w = w ≡ path_of k
+IsPathFor path_of (commands.put k v) w = w ≡ path_of k
+IsPathFor path_of (commands.put_if_absent k v) w = w ≡ path_of k
+IsPathFor path_of (commands.replace k v) w = w ≡ path_of k
+IsPathFor path_of (commands.replace_if k was v) w = w ≡ path_of k
+IsPathFor path_of (commands.remove k) w = w ≡ path_of k
+IsPathFor path_of (commands.remove_if k v) w = w ≡ path_of k
+IsPathFor path_of commands.size w = ⊤
+IsPathFor path_of commands.clear w = ⊤
 
 -- a reply, wherever its value lies
 abbrev pub reply_of : {V : Type 0} → Reply V → commands.Reply V

@@ -1,6 +1,6 @@
 //! Commands on one map.
 ghost use Rattle.std.specs.Prelude.{◌≡◌, IfErr, IfOk, OnErr, OnOk, false, true};
-ghost use Rattle.held_maps.specs.Commands.{command_of, lacks_memory, reply_of};
+ghost use Rattle.held_maps.specs.Commands.{IsPathFor, command_of, lacks_memory, reply_of};
 ghost use Rattle.versions.specs.Commands as commands;
 ghost use Rattle.versions.specs.Commands.{after, is_full, needs_no_memory, reply};
 ghost use Rattle.versions.specs.Map.{value_at};
@@ -8,8 +8,10 @@ ghost use Rattle.versions.specs.Puts.{FullExactly};
 ghost use Rattle.versions.specs.declared.refusal.Refusal.TheVariants.{NoMemory};
 
 use crate::reply::Reply;
-use hash_path::PathKey;
-use map_ops::{put, put_if_absent, remove, remove_if, replace, replace_if};
+use hash_path::{Path, PathKey};
+use map_ops::{
+    put_along, put_if_absent_along, remove_along, remove_if_along, replace_along, replace_if_along,
+};
 use std::alloc::Global;
 use std::sync::Arc;
 use versions::{Refusal, Version};
@@ -47,28 +49,51 @@ pub enum Command<K, V> {
 }
 
 impl<K: PathKey + Drop, V: Eq + Drop> Command<K, V> {
-    /// Whether the command would put a new key into a map that holds as many pairs as it may. The key is looked up
-    /// only where the map is full.
-    pub(crate) fn lacks_place(&self, version: &Version<K, V>) -> bool
+    /// The path word of the key that the command names, which is hashed here; of a command that names none, some word.
+    ///
+    /// Cost: O(length of the key), no lock. Refused: never.
+    pub fn path(&self) -> Path
+        ensures { IsPathFor K.path_of (command_of self.now) result.0 }
+    {
+        match self {
+            Command::Get(key)
+            | Command::Put(key, _)
+            | Command::PutIfAbsent(key, _)
+            | Command::Replace(key, _)
+            | Command::ReplaceIf(key, _, _)
+            | Command::Remove(key)
+            | Command::RemoveIf(key, _) => key.path(),
+            Command::Size | Command::Clear => Path(0),
+        }
+    }
+
+    /// Whether the command, whose key has this path word, would put a new key into a map that holds as many pairs as it
+    /// may. The key is looked up only where the map is full.
+    ///
+    /// Cost: O(1), no lock; O(log n) where the map is full. Refused: never.
+    pub fn lacks_place(&self, path: Path, version: &Version<K, V>) -> bool
+        requires path { IsPathFor K.path_of (command_of self.now) path.0 }
         ensures { result ≡ is_full K.cmp version.now.limit version.now.entries (command_of self.now) }
     {
         match self {
             Command::Put(key, _) | Command::PutIfAbsent(key, _) => {
-                version.len() == version.limit() && version.get(key).is_none()
+                version.len() == version.limit() && version.get_along(key, path).is_none()
             }
             _ => false,
         }
     }
 
-    /// Makes the command on a map, by one walk.
+    /// Makes the command, whose key has this path word, on a map, by one walk.
     ///
     /// It is refused as `Full` where it would put a new key into a map that holds as many pairs as it may, and as
     /// `NoMemory`. The map is then as before.
     pub(crate) fn run_on(
         self,
         alloc: Global,
+        path: Path,
         version: &mut Version<K, V>,
     ) -> Result<Reply<V>, Refusal>
+        requires path { IsPathFor K.path_of (command_of self) path.0 }
         ensures reply { IfOk result (λ y. reply_of y ≡ reply K.cmp V.eq version.old.entries (command_of self)) }
         ensures map { OnOk result (version.new.entries ≡ after K.cmp V.eq version.old.entries (command_of self)) }
         ensures limit { version.new.limit ≡ version.old.limit }
@@ -79,17 +104,24 @@ impl<K: PathKey + Drop, V: Eq + Drop> Command<K, V> {
     {
         match self {
             Command::Get(key) => {
-                let reply = get_from(version, &key);
+                let reply = get_from(version, &key, path);
                 drop(key);
                 reply
             }
-            Command::Put(key, value) => Ok(Reply::Old(put(version, alloc, key, value)?)),
-            Command::PutIfAbsent(key, value) => {
-                Ok(Reply::Old(put_if_absent(version, alloc, key, value)?))
+            Command::Put(key, value) => {
+                let old = put_along(version, alloc, key, path, value)?;
+                Ok(Reply::Old(old))
             }
-            Command::Replace(key, value) => Ok(Reply::Old(replace(version, alloc, key, value)?)),
+            Command::PutIfAbsent(key, value) => {
+                let old = put_if_absent_along(version, alloc, key, path, value)?;
+                Ok(Reply::Old(old))
+            }
+            Command::Replace(key, value) => {
+                let old = replace_along(version, alloc, key, path, value)?;
+                Ok(Reply::Old(old))
+            }
             Command::ReplaceIf(key, old, value) => {
-                let done = replace_if(version, alloc, key, &old, value);
+                let done = replace_if_along(version, alloc, key, path, &old, value);
                 drop(old);
                 match done {
                     Ok(done) => Ok(Reply::Done(done)),
@@ -97,7 +129,7 @@ impl<K: PathKey + Drop, V: Eq + Drop> Command<K, V> {
                 }
             }
             Command::Remove(key) => {
-                let old = remove(version, alloc, &key);
+                let old = remove_along(version, alloc, &key, path);
                 drop(key);
                 match old {
                     Ok(old) => Ok(Reply::Old(old)),
@@ -105,7 +137,7 @@ impl<K: PathKey + Drop, V: Eq + Drop> Command<K, V> {
                 }
             }
             Command::RemoveIf(key, value) => {
-                let done = remove_if(version, alloc, &key, &value);
+                let done = remove_if_along(version, alloc, &key, path, &value);
                 drop(key);
                 drop(value);
                 match done {
@@ -122,15 +154,17 @@ impl<K: PathKey + Drop, V: Eq + Drop> Command<K, V> {
     }
 }
 
-// The reply to a get.
+// The reply to a get of the key, which has this path word.
 fn get_from<K: PathKey + Drop, V: Eq + Drop>(
     version: &Version<K, V>,
     key: &K,
+    path: Path,
 ) -> Result<Reply<V>, Refusal>
+    requires path { path.0 ≡ K.path_of key.now }
     ensures reply { IfOk result (λ y. reply_of y ≡ commands.old (value_at K.cmp version.now.entries key.now)) }
     ensures memory { IfErr result (λ e. e ≡ NoMemory) }
 {
-    let found = match version.get(key) {
+    let found = match version.get_along(key, path) {
         Some(value) => Some(Arc::try_clone(value)?),
         None => None,
     };

@@ -3,7 +3,7 @@ ghost use Rattle.std.specs.Prelude.{◌≡◌, ◌<◌, ◌≤◌, ◌+◌, ◌^
 ghost use Rattle.std.specs.Ordering.{nat_cmp};
 ghost use Rattle.held_maps.specs.HeldMaps.{IsKept, live_from, maps_in, stamps_in};
 ghost use Rattle.held_maps.specs.Targets.{FitsIn, IsLoose, IsPlace, issued_with_made, live_with_made, stamps_with_made};
-ghost use Rattle.held_maps.specs.Commands.{command_of, lacks_memory, reply_of};
+ghost use Rattle.held_maps.specs.Commands.{IsPathFor, command_of, lacks_memory, reply_of};
 ghost use Rattle.versions.specs.Commands.{after, is_full, needs_no_memory, reply};
 ghost use Rattle.versions.specs.Map.{value_at, with_pair, without};
 ghost use Rattle.versions.specs.Puts.{FullExactly};
@@ -13,7 +13,7 @@ use crate::command::Command;
 use crate::limits::HANDLES;
 use crate::reply::Reply;
 use generation::Source;
-use hash_path::PathKey;
+use hash_path::{Path, PathKey};
 use std::alloc::Global;
 use std::marker::Model;
 use trie_node::Stamp;
@@ -88,16 +88,6 @@ impl<K: PathKey + Drop, V: Eq + Drop> Places<K, V> {
         ensures { IsSome (value_at nat_cmp self.now.live handle) → with_pair nat_cmp self.now.live handle (unwrap_or (value_at nat_cmp self.now.live handle) []) ≡ self.now.live }
     {
         let _ = &self.versions;
-    }
-
-    /// Whether the command on the handle would put a new key into a map that holds as many pairs as it may.
-    pub fn lacks_place(&self, handle: u32, command: &Command<K, V>) -> bool
-        ensures { result ≡ is_full K.cmp self.now.limit (unwrap_or (value_at nat_cmp self.now.live handle) []) (command_of command.now) }
-    {
-        match self.version(handle) {
-            Some(version) => command.lacks_place(version),
-            None => false,
-        }
     }
 
     /// Opens the handle, with no pairs. Its version gets the stamp that the source issues next.
@@ -191,22 +181,8 @@ impl<K: PathKey + Drop, V: Eq + Drop> Places<K, V> {
         }
     }
 
-    /// What `run` would reply, were there room and memory for what the command writes. It makes no request for memory.
-    ///
-    /// It is refused as `NoHandle` where the handle is not live, and as `NoMemory`.
-    pub fn foresee(&self, handle: u32, command: &Command<K, V>) -> Result<Reply<V>, Refusal>
-        ensures reply { IfOk result (λ y. reply_of y ≡ reply K.cmp V.eq (unwrap_or (value_at nat_cmp self.now.live handle) []) (command_of command.now)) }
-        ensures without { needs_no_memory (command_of command.now) ≡ true → lacks_memory result ≡ false }
-        ensures memory { IsSome (value_at nat_cmp self.now.live handle) → IfErr result (λ e. e ≡ Refusal.NoMemory) }
-        ensures none { value_at nat_cmp self.now.live handle ≡ None → result ≡ Err Refusal.NoHandle }
-    {
-        match self.version(handle) {
-            Some(version) => command.foresee_on(version),
-            None => Err(Refusal::NoHandle),
-        }
-    }
-
-    /// Makes the command on the map of the handle. Its version keeps its stamp, and every other one too.
+    /// Makes the command, whose key has this path word, on the map of the handle. Its version keeps its stamp, and every
+    /// other one too.
     ///
     /// It is refused as `NoHandle` where the handle is not live, as `Full` and as `NoMemory`.
     pub fn run(
@@ -214,8 +190,10 @@ impl<K: PathKey + Drop, V: Eq + Drop> Places<K, V> {
         alloc: Global,
         handle: u32,
         command: Command<K, V>,
+        path: Path,
     ) -> Result<Reply<V>, Refusal>
         requires place { handle < HANDLES }
+        requires path { IsPathFor K.path_of (command_of command) path.0 }
         ensures reply { IfOk result (λ y. reply_of y ≡ reply K.cmp V.eq (unwrap_or (value_at nat_cmp self.old.live handle) []) (command_of command)) }
         ensures live { OnOk result (self.new.live ≡ with_pair nat_cmp self.old.live handle (after K.cmp V.eq (unwrap_or (value_at nat_cmp self.old.live handle) []) (command_of command))) }
         ensures limit { self.new.limit ≡ self.old.limit }
@@ -233,6 +211,6 @@ impl<K: PathKey + Drop, V: Eq + Drop> Places<K, V> {
                 return Err(Refusal::NoHandle);
             }
         };
-        command.run_on(alloc, version)
+        command.run_on(alloc, path, version)
     }
 }

@@ -105,8 +105,9 @@ impl<K: PathKey + Drop, V: Eq + Drop, Q: Asks<K, V> + Drop, J: JournalName> Jour
         ensures unfiled { IfErr result (λ e. IsUnfiled (machine K.cmp V.eq Q.target_of Q.answered) self.old.state (request_of call) e) }
         ensures err { OnErr result (self.new ≡ self.old) }
     {
-        let answer = to_be_filed(self.table.foresee_serve(&call))?;
-        match self.file_call(rt, alloc, entries, caller, call, answer) {
+        let path = call.path();
+        let answer = to_be_filed(self.table.foresee_serve_along(&call, path))?;
+        match self.file_call(rt, alloc, entries, caller, call, path, answer) {
             Ok(event) => Ok(event),
             Err(NoMemory) => Err(Refusal::NoMemory),
         }

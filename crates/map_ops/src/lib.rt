@@ -4,10 +4,14 @@
 //! it, and the map afterwards is the command's. An operation that changes nothing copies no node.
 #![tactic(auto)]
 
+mod along;
 mod get_or_else;
 mod puts;
 mod removals;
 
+pub use along::{
+    put_along, put_if_absent_along, remove_along, remove_if_along, replace_along, replace_if_along,
+};
 pub use get_or_else::get_or_else_update;
 pub use puts::{put, put_if_absent, replace, replace_if};
 pub use removals::{remove, remove_if};

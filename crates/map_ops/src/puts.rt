@@ -8,10 +8,10 @@ ghost use Rattle.versions.specs.Changes.{RestampsIf};
 ghost use Rattle.versions.specs.Commands as commands;
 ghost use Rattle.versions.specs.Puts.{FullExactly};
 
+use crate::along::{put_along, put_if_absent_along, replace_along, replace_if_along};
 use hash_path::PathKey;
 use std::alloc::Global;
 use std::sync::Arc;
-use trie_node::{IfAbsent, IfEqual, IfPresent};
 use versions::{Refusal, Version};
 
 /// Maps the key to the value, and returns the value before, or none.
@@ -32,7 +32,8 @@ pub fn put<K: PathKey + Drop, V: Eq + Drop>(
     ensures full { FullExactly result (commands.is_full K.cmp version.old.limit version.old.entries (commands.put key.value value.value)) }
     ensures err { OnErr result (version.new ≡ version.old) }
 {
-    version.put(alloc, key, value)
+    let path = key.path();
+    put_along(version, alloc, key, path, value)
 }
 
 /// Maps the key to the value where the key is absent, and returns the value before, or none.
@@ -53,7 +54,8 @@ pub fn put_if_absent<K: PathKey + Drop, V: Eq + Drop>(
     ensures full { FullExactly result (commands.is_full K.cmp version.old.limit version.old.entries (commands.put_if_absent key.value value.value)) }
     ensures err { OnErr result (version.new ≡ version.old) }
 {
-    Ok(version.put_where(alloc, key, value, &IfAbsent)?.previous)
+    let path = key.path();
+    put_if_absent_along(version, alloc, key, path, value)
 }
 
 /// Maps the key to the value where the key is present, and returns the value before, or none.
@@ -73,7 +75,8 @@ pub fn replace<K: PathKey + Drop, V: Eq + Drop>(
     ensures full { FullExactly result (commands.is_full K.cmp version.old.limit version.old.entries (commands.replace key.value value.value)) }
     ensures err { OnErr result (version.new ≡ version.old) }
 {
-    Ok(version.put_where(alloc, key, value, &IfPresent)?.previous)
+    let path = key.path();
+    replace_along(version, alloc, key, path, value)
 }
 
 /// Maps the key to the value where it is mapped to a value equal to `old`, and returns whether it was.
@@ -94,5 +97,6 @@ pub fn replace_if<K: PathKey + Drop, V: Eq + Drop>(
     ensures full { FullExactly result (commands.is_full K.cmp version.old.limit version.old.entries (commands.replace_if key.value old.now value.value)) }
     ensures err { OnErr result (version.new ≡ version.old) }
 {
-    Ok(version.put_where(alloc, key, value, &IfEqual(old))?.written)
+    let path = key.path();
+    replace_if_along(version, alloc, key, path, old, value)
 }

@@ -7,10 +7,10 @@ ghost use Rattle.versions.specs.Changes.{RestampsIf};
 ghost use Rattle.versions.specs.Commands as commands;
 ghost use Rattle.versions.specs.Puts.{FullExactly};
 
+use crate::along::{remove_along, remove_if_along};
 use hash_path::PathKey;
 use std::alloc::Global;
 use std::sync::Arc;
-use trie_node::IfEqual;
 use versions::{Refusal, Version};
 
 /// Removes the key, and returns the value before, or none.
@@ -29,7 +29,8 @@ pub fn remove<K: PathKey + Drop, V: Eq + Drop>(
     ensures full { FullExactly result (commands.is_full K.cmp version.old.limit version.old.entries (commands.remove key.now)) }
     ensures err { OnErr result (version.new ≡ version.old) }
 {
-    Ok(version.remove(alloc, key)?)
+    let path = key.path();
+    remove_along(version, alloc, key, path)
 }
 
 /// Removes the key where it is mapped to a value equal to `value`, and returns whether it was.
@@ -49,5 +50,6 @@ pub fn remove_if<K: PathKey + Drop, V: Eq + Drop>(
     ensures full { FullExactly result (commands.is_full K.cmp version.old.limit version.old.entries (commands.remove_if key.now value.now)) }
     ensures err { OnErr result (version.new ≡ version.old) }
 {
-    Ok(version.remove_where(alloc, key, &IfEqual(value))?.written)
+    let path = key.path();
+    remove_if_along(version, alloc, key, path, value)
 }

@@ -3,7 +3,7 @@ ghost use Rattle.std.specs.Prelude.{◌≡◌, MatchOption, Err, IfOk, Ok, Some,
 ghost use Rattle.bulk_work.specs.Answers as plain;
 ghost use Rattle.bulk_work.specs.Summaries.{summary_of};
 ghost use Rattle.handles.specs.Machine.{Job, abandon, drop_handle, finish, freeze, job_at, on, open_handle, snapshot, view};
-ghost use Rattle.handles.specs.Views.{AnswersWithoutMemory, Foresees, call_outcome, command_of, finished_outcome, frozen_outcome, lacks_memory, machine, reply_outcome, request_of, unit_outcome, view_outcome};
+ghost use Rattle.handles.specs.Views.{AnswersWithoutMemory, Foresees, IsPathFor, IsPathOf, call_outcome, command_of, finished_outcome, frozen_outcome, lacks_memory, machine, reply_outcome, request_of, unit_outcome, view_outcome};
 
 use super::Table;
 use super::ends::tell_job;
@@ -11,7 +11,7 @@ use crate::call::Call;
 use crate::call_reply::CallReply;
 use crate::request_ref::RequestRef;
 use bulk_work::{Answer, Asks};
-use hash_path::PathKey;
+use hash_path::{Path, PathKey};
 use held_maps::{Command, Reply};
 use versions::{Refusal, View};
 
@@ -57,9 +57,23 @@ impl<K: PathKey + Drop, V: Eq + Drop, Q: Asks<K, V> + Drop> Table<K, V, Q> {
         ensures now { Foresees (machine K.cmp V.eq Q.target_of Q.answered) self.now (on handle (command_of command.now)) reply_outcome result }
         ensures memory { AnswersWithoutMemory (machine K.cmp V.eq Q.target_of Q.answered) (on handle (command_of command.now)) result }
     {
-        match self.refusal_of(&RequestRef::On(handle, command)) {
-            Some(refusal) => Err(refusal),
-            None => self.places.foresee(handle, command),
+        self.foresee_call_along(handle, command, command.path())
+    }
+
+    // `foresee_call`, where the caller has the path word of the command's key.
+    fn foresee_call_along(
+        &self,
+        handle: u32,
+        command: &Command<K, V>,
+        path: Path,
+    ) -> Result<Reply<V>, Refusal>
+        requires path { IsPathFor K.path_of (command_of command.now) path.0 }
+        ensures now { Foresees (machine K.cmp V.eq Q.target_of Q.answered) self.now (on handle (command_of command.now)) reply_outcome result }
+        ensures memory { AnswersWithoutMemory (machine K.cmp V.eq Q.target_of Q.answered) (on handle (command_of command.now)) result }
+    {
+        match self.version_for(handle, command, path) {
+            Ok(version) => command.foresee_on(path, version),
+            Err(refusal) => Err(refusal),
         }
     }
 
@@ -121,6 +135,22 @@ impl<K: PathKey + Drop, V: Eq + Drop, Q: Asks<K, V> + Drop> Table<K, V, Q> {
         ensures now { Foresees (machine K.cmp V.eq Q.target_of Q.answered) self.now (request_of call.now) call_outcome result }
         ensures memory { AnswersWithoutMemory (machine K.cmp V.eq Q.target_of Q.answered) (request_of call.now) result }
     {
+        self.foresee_serve_along(call, call.path())
+    }
+
+    /// `foresee_serve`, where the caller has the path word of the call's key: the key is not hashed again. With it
+    /// `serve_foreseen` goes the same way down the map.
+    ///
+    /// Cost: O(log n) at most, no lock. Refused: as `foresee_serve`.
+    pub fn foresee_serve_along(
+        &self,
+        call: &Call<K, V>,
+        path: Path,
+    ) -> Result<CallReply<V>, Refusal>
+        requires path { IsPathOf K.path_of call.now path.0 }
+        ensures now { Foresees (machine K.cmp V.eq Q.target_of Q.answered) self.now (request_of call.now) call_outcome result }
+        ensures memory { AnswersWithoutMemory (machine K.cmp V.eq Q.target_of Q.answered) (request_of call.now) result }
+    {
         match call {
             Call::Open(handle) => match self.foresee_open(*handle) {
                 Ok(()) => Ok(CallReply::Unit),
@@ -134,7 +164,7 @@ impl<K: PathKey + Drop, V: Eq + Drop, Q: Asks<K, V> + Drop> Table<K, V, Q> {
                 Ok(()) => Ok(CallReply::Unit),
                 Err(refusal) => Err(refusal),
             },
-            Call::On(handle, command) => match self.foresee_call(*handle, command) {
+            Call::On(handle, command) => match self.foresee_call_along(*handle, command, path) {
                 Ok(reply) => Ok(CallReply::Reply(reply)),
                 Err(refusal) => Err(refusal),
             },

@@ -1,13 +1,13 @@
 //! Calls of a table that are not refused: what is left to do once that was decided.
 ghost use Rattle.std.specs.Prelude.{◌≡◌, None, false};
 ghost use Rattle.handles.specs.Machine.{drop_handle, on, open_handle, refusal, snapshot};
-ghost use Rattle.handles.specs.Views.{AnswersWithoutMemory, IsStep, call_outcome, command_of, lacks_memory, machine, reply_outcome, request_of, unit_outcome};
+ghost use Rattle.handles.specs.Views.{AnswersWithoutMemory, IsPathFor, IsPathOf, IsStep, call_outcome, command_of, lacks_memory, machine, reply_outcome, request_of, unit_outcome};
 
 use super::{Table, counted};
 use crate::call::Call;
 use crate::call_reply::CallReply;
 use bulk_work::Asks;
-use hash_path::PathKey;
+use hash_path::{Path, PathKey};
 use held_maps::{Command, Reply};
 use std::alloc::Global;
 use versions::Refusal;
@@ -31,18 +31,20 @@ impl<K: PathKey + Drop, V: Eq + Drop, Q: Asks<K, V> + Drop> Table<K, V, Q> {
         counted(&mut self.entries, answer)
     }
 
-    // Makes the command on the handle.
+    // Makes the command, whose key has this path word, on the handle.
     pub(super) fn call_granted(
         &mut self,
         alloc: Global,
         handle: u32,
         command: Command<K, V>,
+        path: Path,
     ) -> Result<Reply<V>, Refusal>
+        requires path { IsPathFor K.path_of (command_of command) path.0 }
         requires granted { refusal (machine K.cmp V.eq Q.target_of Q.answered) self.old (on handle (command_of command)) ≡ None }
         ensures step { IsStep (machine K.cmp V.eq Q.target_of Q.answered) self.old (on handle (command_of command)) reply_outcome result self.new }
         ensures memory { AnswersWithoutMemory (machine K.cmp V.eq Q.target_of Q.answered) (on handle (command_of command)) result }
     {
-        let answer = self.places.run(alloc, handle, command);
+        let answer = self.places.run(alloc, handle, command, path);
         counted(&mut self.entries, answer)
     }
 
@@ -56,12 +58,14 @@ impl<K: PathKey + Drop, V: Eq + Drop, Q: Asks<K, V> + Drop> Table<K, V, Q> {
         counted(&mut self.entries, Ok(()))
     }
 
-    // Makes the call.
+    // Makes the call, whose key has this path word.
     pub(super) fn serve_granted(
         &mut self,
         alloc: Global,
         call: Call<K, V>,
+        path: Path,
     ) -> Result<CallReply<V>, Refusal>
+        requires path { IsPathOf K.path_of call path.0 }
         requires granted { refusal (machine K.cmp V.eq Q.target_of Q.answered) self.old (request_of call) ≡ None }
         ensures step { IsStep (machine K.cmp V.eq Q.target_of Q.answered) self.old (request_of call) call_outcome result self.new }
         ensures memory { AnswersWithoutMemory (machine K.cmp V.eq Q.target_of Q.answered) (request_of call) result }
@@ -79,7 +83,7 @@ impl<K: PathKey + Drop, V: Eq + Drop, Q: Asks<K, V> + Drop> Table<K, V, Q> {
                 Ok(()) => Ok(CallReply::Unit),
                 Err(refusal) => Err(refusal),
             },
-            Call::On(handle, command) => match self.call_granted(alloc, handle, command) {
+            Call::On(handle, command) => match self.call_granted(alloc, handle, command, path) {
                 Ok(reply) => Ok(CallReply::Reply(reply)),
                 Err(refusal) => Err(refusal),
             },

@@ -1,27 +1,29 @@
 //! Why the calls of a table are refused, `NoMemory` aside.
-ghost use Rattle.std.specs.Prelude.{◌≡◌, ◌-◌};
-ghost use Rattle.handles.specs.Machine.{is_bad, is_not_live, is_taken, is_unknown_job, lacks_place, refusal, room};
-ghost use Rattle.handles.specs.Views.{requested, machine};
+ghost use Rattle.std.specs.Prelude.{◌≡◌, ◌-◌, IfErr, IfOk, None, OnOk, Some, false};
+ghost use Rattle.handles.specs.Machine.{held_by, is_bad, is_not_live, is_taken, is_unknown_job, on, refusal, room};
+ghost use Rattle.handles.specs.Views.{IsPathFor, command_of, lacks_memory, machine, requested};
 
 use super::Table;
 use crate::jobs::MOST_JOBS;
 use crate::request_ref::RequestRef;
 use bulk_work::Asks;
-use hash_path::PathKey;
-use held_maps::LAST_HANDLE;
-use versions::Refusal;
+use hash_path::{Path, PathKey};
+use held_maps::{Command, LAST_HANDLE};
+use versions::{Refusal, Version};
 
 // How much room the journal has to have for a call to be made.
 const LEAST_ROOM: u32 = 2;
 
 impl<K: PathKey + Drop, V: Eq + Drop, Q: Asks<K, V> + Drop> Table<K, V, Q> {
-    /// Why the request is refused, if it is: the first reason, in the order in which they count.
-    pub(super) fn refusal_of(&self, request: &RequestRef<'_, K, V, Q>) -> Option<Refusal>
+    /// Why the request is refused, if it is: the first reason, in the order in which they count. No such request is
+    /// refused as `Full`.
+    #[tactic(auto, using(crate::proofs::Refusals::never_full))]
+    pub(super) fn refusal_of(&self, request: &RequestRef<'_, Q>) -> Option<Refusal>
         ensures { result ≡ refusal (machine K.cmp V.eq Q.target_of Q.answered) self.now (requested request.now) }
     {
-        let source = request.source();
-        let wanted = request.wanted();
-        if request.needs_room() && self.room() < LEAST_ROOM {
+        let source = request.source::<K, V>();
+        let wanted = request.wanted::<K, V>();
+        if request.needs_room::<K, V>() && self.room() < LEAST_ROOM {
             return Some(Refusal::JournalFull);
         }
         if is_bad(source) || is_bad(wanted) {
@@ -30,19 +32,45 @@ impl<K: PathKey + Drop, V: Eq + Drop, Q: Asks<K, V> + Drop> Table<K, V, Q> {
         if self.is_not_live(source) {
             return Some(Refusal::NoHandle);
         }
-        if self.is_unknown_job(request.job()) {
+        if self.is_unknown_job(request.job::<K, V>()) {
             return Some(Refusal::NoJob);
         }
         if self.is_taken(wanted) {
             return Some(Refusal::Taken);
         }
-        if request.is_freeze() && self.jobs.len() >= MOST_JOBS {
+        if request.is_freeze::<K, V>() && self.jobs.len() >= MOST_JOBS {
             return Some(Refusal::TooManyJobs);
         }
-        if self.lacks_place(request) {
-            return Some(Refusal::Full);
-        }
         None
+    }
+
+    /// The version of the handle, where a command on it, whose key has this path word, is not refused; else the first
+    /// reason why it is. The handle is looked up once.
+    pub(super) fn version_for(
+        &self,
+        handle: u32,
+        command: &Command<K, V>,
+        path: Path,
+    ) -> Result<&Version<K, V>, Refusal>
+        requires path { IsPathFor K.path_of (command_of command.now) path.0 }
+        ensures granted { OnOk result (refusal (machine K.cmp V.eq Q.target_of Q.answered) self.now (on handle (command_of command.now)) ≡ None) }
+        ensures entries { IfOk result (λ version. version.now.entries ≡ held_by self.now handle) }
+        ensures refused { IfErr result (λ e. refusal (machine K.cmp V.eq Q.target_of Q.answered) self.now (on handle (command_of command.now)) ≡ Some e) }
+        ensures memory { lacks_memory result ≡ false }
+    {
+        if self.room() < LEAST_ROOM {
+            return Err(Refusal::JournalFull);
+        }
+        if handle > LAST_HANDLE {
+            return Err(Refusal::BadNumber);
+        }
+        let Some(version) = self.places.version(handle) else {
+            return Err(Refusal::NoHandle);
+        };
+        if command.lacks_place(path, version) {
+            return Err(Refusal::Full);
+        }
+        Ok(version)
     }
 
     // How many entries may still be made besides the ends of the open jobs.
@@ -79,16 +107,6 @@ impl<K: PathKey + Drop, V: Eq + Drop, Q: Asks<K, V> + Drop> Table<K, V, Q> {
         match number {
             Some(number) => self.places.version(number).is_some() || self.jobs.reserves(number),
             None => false,
-        }
-    }
-
-    // Whether a command would put a new key into a map that holds as many pairs as it may.
-    fn lacks_place(&self, request: &RequestRef<'_, K, V, Q>) -> bool
-        ensures { result ≡ lacks_place (machine K.cmp V.eq Q.target_of Q.answered) self.now (requested request.now) }
-    {
-        match request {
-            RequestRef::On(handle, command) => self.places.lacks_place(*handle, command),
-            _ => false,
         }
     }
 }

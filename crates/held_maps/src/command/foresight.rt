@@ -1,18 +1,21 @@
 //! What commands on one map would reply, `Full` and `NoMemory` aside.
 ghost use Rattle.std.specs.Prelude.{◌≡◌, IfErr, IfOk, false, true};
-ghost use Rattle.held_maps.specs.Commands.{command_of, lacks_memory, leaves_map, reply_of};
+ghost use Rattle.held_maps.specs.Commands.{IsPathFor, command_of, lacks_memory, leaves_map, reply_of};
 ghost use Rattle.versions.specs.Commands.{needs_no_memory, reply};
 ghost use Rattle.versions.specs.declared.refusal.Refusal.TheVariants.{NoMemory};
 
 use super::{Command, get_from};
 use crate::reply::Reply;
-use hash_path::PathKey;
+use hash_path::{Path, PathKey};
 use versions::{Refusal, Version};
 
 impl<K: PathKey + Drop, V: Eq + Drop> Command<K, V> {
-    /// What `run_on` would reply, were there room and memory for what the command writes. It makes no request for
-    /// memory.
-    pub(crate) fn foresee_on(&self, version: &Version<K, V>) -> Result<Reply<V>, Refusal>
+    /// What the command, whose key has this path word, would reply on a map, were there room and memory for what it
+    /// writes. It makes no request for memory.
+    ///
+    /// Cost: O(log n), no lock. Refused: `NoMemory`, where the clone of a value's handle is refused.
+    pub fn foresee_on(&self, path: Path, version: &Version<K, V>) -> Result<Reply<V>, Refusal>
+        requires path { IsPathFor K.path_of (command_of self.now) path.0 }
         ensures reply { IfOk result (λ y. reply_of y ≡ reply K.cmp V.eq version.now.entries (command_of self.now)) }
         ensures without { needs_no_memory (command_of self.now) ≡ true → lacks_memory result ≡ false }
         ensures memory { IfErr result (λ e. e ≡ NoMemory) }
@@ -22,9 +25,9 @@ impl<K: PathKey + Drop, V: Eq + Drop> Command<K, V> {
             | Command::Put(key, _)
             | Command::PutIfAbsent(key, _)
             | Command::Replace(key, _)
-            | Command::Remove(key) => get_from(version, key),
+            | Command::Remove(key) => get_from(version, key, path),
             Command::ReplaceIf(key, value, _) | Command::RemoveIf(key, value) => {
-                Ok(Reply::Done(match version.get(key) {
+                Ok(Reply::Done(match version.get_along(key, path) {
                     Some(found) => **found == **value,
                     None => false,
                 }))

@@ -2,7 +2,7 @@
 ghost use Rattle.std.specs.Prelude.{◌≡◌, ◌<◌, ◌+◌, ◌^◌, IfOk, IsTrue, OnErr, OnOk, true};
 ghost use Rattle.boxcar.specs.Table.{Shows};
 ghost use Rattle.handles.specs.Machine.{freeze, view};
-ghost use Rattle.handles.specs.Views.{Foresees, call_outcome, frozen_outcome, is_counted, machine, request_of, view_outcome};
+ghost use Rattle.handles.specs.Views.{Foresees, IsPathOf, call_outcome, frozen_outcome, is_counted, machine, request_of, view_outcome};
 ghost use Rattle.journal.specs.Answers.{answered};
 ghost use Rattle.journal.specs.Kept.{Files};
 
@@ -12,7 +12,7 @@ use crate::filing::{Event, Opened, entered_call, entered_freeze, entered_view};
 use crate::journal_name::{Entries, JournalName};
 use bulk_work::Asks;
 use handles::{Call, CallReply, lacks_memory, law_of_foresight, law_of_freezes, law_of_open_jobs};
-use hash_path::PathKey;
+use hash_path::{Path, PathKey};
 use std::alloc::Global;
 use std::sync::{Arc, Wait};
 use versions::{NoMemory, Refusal, View};
@@ -23,7 +23,7 @@ impl<K: PathKey + Drop, V: Eq + Drop, Q: Asks<K, V> + Drop, J: JournalName> Jour
     Q,
     J,
 > {
-    /// Makes the call, which is foreseen to return this, and files it.
+    /// Makes the call, whose key has this path word and which is foreseen to return this, and files it.
     pub(super) fn file_call<R: Wait>(
         &mut self,
         rt: &R,
@@ -31,9 +31,11 @@ impl<K: PathKey + Drop, V: Eq + Drop, Q: Asks<K, V> + Drop, J: JournalName> Jour
         entries: &Entries<K, V, Q, Q::Item>,
         caller: Caller,
         call: Call<K, V>,
+        path: Path,
         answer: Result<CallReply<V>, Refusal>,
     ) -> Result<Event<K, V, Q, Q::Item, Result<CallReply<V>, Refusal>>, NoMemory>
         requires table { entries.now ≡ J.table }
+        requires path { IsPathOf K.path_of call path.0 }
         requires foreseen { Foresees (machine K.cmp V.eq Q.target_of Q.answered) self.old.state (request_of call) call_outcome answer }
         requires counted { is_counted answer ≡ true }
         ensures filed { IfOk result (λ e. Files (machine K.cmp V.eq Q.target_of Q.answered) J.table self.old caller.seat (request_of call) (answered call_outcome e.answer) e.token e.place self.new) }
@@ -49,7 +51,7 @@ impl<K: PathKey + Drop, V: Eq + Drop, Q: Asks<K, V> + Drop, J: JournalName> Jour
             drop(answer);
             return Err(NoMemory);
         };
-        let served = self.table.serve_foreseen(alloc, call, &answer);
+        let served = self.table.serve_foreseen(alloc, call, path, &answer);
         let Ok(()) = served else {
             drop(token);
             drop(mine);

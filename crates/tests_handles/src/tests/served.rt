@@ -32,9 +32,10 @@ fn served<K: PathKey + Drop, V: Eq + Drop, Q: Asks<K, V> + Drop>(
     table: &mut Table<K, V, Q>,
     call: Call<K, V>,
 ) -> Result<CallReply<V>, Refusal> {
-    let answer = table.foresee_serve(&call);
+    let path = call.path();
+    let answer = table.foresee_serve_along(&call, path);
     if is_counted(&answer) {
-        table.serve_foreseen(alloc, call, &answer)?;
+        table.serve_foreseen(alloc, call, path, &answer)?;
     }
     answer
 }

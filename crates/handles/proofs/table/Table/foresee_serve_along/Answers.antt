@@ -3,7 +3,7 @@ use Rattle.std.specs.Prelude.{Err}
 use Rattle.handles.specs.Machine.{State, Request, snapshot}
 use Rattle.handles.specs.Views.{Foresees, call_outcome, machine, request_of, unit_outcome}
 use Rattle.handles.proofs.Foreseen.{refused_alike}
-use Rattle.handles.proofs.table.Table.foresee_serve.Goals as goal
+use Rattle.handles.proofs.table.Table.foresee_serve_along.Goals as goal
 
 pub returns-in-Err-foresee_snapshot-clause-now : goal.returns-in-Err-foresee_snapshot-clause-now
 returns-in-Err-foresee_snapshot-clause-now g c =
