@@ -6,17 +6,18 @@
 ghost use Rattle.std.specs.Prelude.{◌≡◌, ◌++◌, ◌∷◌, [], IfOk, List, Some, option_map};
 ghost use Rattle.std.specs.Arc.{arc_value};
 ghost use mathlib.Core.List.{IsPrefix};
-ghost use Rattle.write_history.specs.declared.entry.Entry.{Entry};
-ghost use Rattle.write_history.specs.declared.entry.Write.TheVariants.{Put};
-ghost use Rattle.write_history.specs.Histories.{value_in};
+ghost use Rattle.tambyulo.specs.Sessions.{Untouched};
+ghost use Rattle.tambyulo.specs.Entry.{Entry};
+ghost use Rattle.tambyulo.specs.Write.TheVariants.{Put};
+ghost use Rattle.tambyulo.specs.Histories.{value_in};
 
 use std::marker::Brand;
 use std::process::ExitCode;
 use std::rt::Runtime;
 use std::sync::{Arc, Wait};
 use std::thread::{Threads, join};
+use tambyulo::history::{Naming, Opened, law_of_last_put};
 use tambyulo::{Anything, PathKey, PutError, Session, TrieMap};
-use write_history::{Naming, Opened};
 
 /// Balances by account.
 type Ledger<J> = TrieMap<u64, u64, Anything, J>;
@@ -25,18 +26,31 @@ type Ledger<J> = TrieMap<u64, u64, Anything, J>;
 type Clerk<'m, J> = Session<'m, u64, u64, Anything, J>;
 
 /// Puts a pair and looks its key up: what is found is what the history leaves the key. The put stands in it behind all
-/// that had been seen, and perhaps other writes behind that.
+/// that had been seen, and perhaps other writes behind that. Where none of these is of the key, the value is found.
 fn put_and_get<K: PathKey + Copy + Drop, V: Drop, J: Naming, R: Wait>(
     rt: &R,
     session: &mut Session<'_, K, V, Anything, J>,
     key: K,
     value: V,
 ) -> Result<Option<Arc<V>>, PutError>
-    ensures { IfOk result (λ found. (h : List (Entry K V)) × (rest : List (Entry K V)) × IsPrefix session.old.log h × (session.new.log ≡ (h ++ record { by = session.old.signer.by; write = Put key value } ∷ []) ++ rest) × (option_map arc_value found ≡ value_in K.cmp K.path_of session.new.log key)) }
+    ensures { IfOk result (λ found. (h : List (Entry K V)) × (rest : List (Entry K V)) × IsPrefix session.old.log h × (session.new.log ≡ (h ++ record { by = session.old.signer.by; write = Put key value } ∷ []) ++ rest) × (option_map arc_value found ≡ value_in K.cmp K.path_of session.new.log key) × (Untouched K.cmp key rest → option_map arc_value found ≡ Some value)) }
 {
+    law_of_last_put::<K, V>();
     session.put(rt, key, value)?;
     let found = session.get(rt, &key)?;
     Ok(found)
+}
+
+/// The value of the key, which is put where the key has none: the one that the history leaves the key which is then seen.
+fn found_or_put<K: PathKey + Drop, V: Drop, J: Naming, R: Wait>(
+    rt: &R,
+    session: &mut Session<'_, K, V, Anything, J>,
+    key: K,
+    value: V,
+) -> Result<Arc<V>, PutError>
+    ensures { IfOk result (λ found. value_in K.cmp K.path_of session.new.log key ≡ Some found.value) }
+{
+    session.get_or_else_update(rt, key, || value)
 }
 
 // Books 1,000 balances from an account on, and counts the accounts that were found afterwards.
@@ -60,7 +74,7 @@ fn change<J: Naming, R: Wait>(
     rt: &R,
     clerk: &mut Clerk<'_, J>,
 ) -> Result<(u64, u64, u64, bool), PutError> {
-    let first = clerk.put_if_absent(rt, 1, 0)?.map_or(0, |balance| *balance);
+    let first = *found_or_put(rt, clerk, 1, 0)?;
     let second = clerk.replace(rt, 2, 0)?.map_or(0, |balance| *balance);
     let third = clerk.remove(rt, &3)?.map_or(0, |balance| *balance);
     Ok((first, second, third, clerk.contains_key(rt, &3)))
@@ -85,14 +99,9 @@ fn tour<J: Naming + Send + Sync, R: AllocGlobal + Threads + Wait + Sync>(
     let (two, second) = second?;
     first.learn(&second);
     let changed = change(rt, &mut first)?;
-    let accounts = first.view(rt)?.len();
+    let accounts = first.len(rt);
     first.clear(rt)?;
-    Ok((
-        one.wrapping_add(two),
-        changed,
-        accounts,
-        first.view(rt)?.len(),
-    ))
+    Ok((one.wrapping_add(two), changed, accounts, first.len(rt)))
 }
 
 fn main(rt: HostRuntime) -> ExitCode {

@@ -9,11 +9,11 @@ use Rattle.write_history.specs.Histories.{value_in}
 use Rattle.stripes.specs.Rules.{AllKeep, Belongs, first_digit}
 use Rattle.stripes.specs.Told.{Tells}
 
-or_none : {A : Type 0} (a : Option A) → option_or a None ≡ a
+pub or_none : {A : Type 0} (a : Option A) → option_or a None ≡ a
 or_none (Some x) = refl
 or_none None = refl
 
-gone : {A : Type 0} (o : Option A) → (is_some o ≡ true → ⊥) → o ≡ None
+pub gone : {A : Type 0} (o : Option A) → (is_some o ≡ true → ⊥) → o ≡ None
 gone None never = refl
 gone (Some v) never = absurd (never refl)
 
@@ -21,7 +21,7 @@ either : {A : Type 0} (a b : Option A) → is_some (option_or a b) ≡ true → 
 either (Some v) b there = inl refl
 either None b there = inr there
 
-some_value : {V : Type 0} (P : Type 0) (o : Option V) → ((v : V) → o ≡ Some v → P) → is_some o ≡ true → P
+pub some_value : {V : Type 0} (P : Type 0) (o : Option V) → ((v : V) → o ≡ Some v → P) → is_some o ≡ true → P
 some_value P (Some v) h there = h v refl
 some_value P None h there = absurd (true≢false (sym there))
 

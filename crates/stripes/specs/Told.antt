@@ -1,9 +1,9 @@
 -- What the history of a map says of a stripe.
-use Rattle.std.specs.Prelude.{◌≡◌, ℕ, List, [], ◌∷◌, ◌++◌, Option, Some, None, if◌then◌else◌, nat_lt}
+use Rattle.std.specs.Prelude.{◌≡◌, ◌<◌, ◌≤◌, ℕ, List, [], ◌∷◌, ◌++◌, Option, Some, None, if◌then◌else◌, nat_lt}
 use Rattle.std.specs.declared.cmp.Ordering.{Ordering}
 use mathlib.Core.List.{IsPrefix}
 use Rattle.hash_path.specs.Digits.{fan_out}
-use Rattle.versions.specs.Map.{Map, value_at}
+use Rattle.versions.specs.Map.{IsMap, Map, value_at}
 use Rattle.write_history.specs.declared.entry.Entry.{Entry}
 use Rattle.write_history.specs.declared.entry.Write.TheVariants.{Clear}
 use Rattle.write_history.specs.Histories.{first_digit, value_in}
@@ -23,3 +23,7 @@ EndsCleared {K} {V} log = (h : List (Entry K V)) × (by : Option ℕ) × (log �
 -- in a history that goes on from this one, the stripe of the digit has pairs of which that holds
 abbrev pub Finds : {K V : Type 0} → (K → K → Ordering) → (K → ℕ) → ℕ → List (Entry K V) → (Map K V → Type 0) → Type 0
 Finds {K} {V} R path d seen P = (h : List (Entry K V)) × (pairs : Map K V) × IsPrefix seen h × Tells R path d pairs h × P pairs
+
+-- the map has the keys whose digit is this one or above, each with the value that the history leaves it
+abbrev pub LeavesFrom : {K V : Type 0} → (K → K → Ordering) → (K → ℕ) → ℕ → List (Entry K V) → Map K V → Type 0
+LeavesFrom {K} R path d log m = IsMap R m × ((q : K) → first_digit path q < d → value_at R m q ≡ None) × ((q : K) → d ≤ first_digit path q → value_at R m q ≡ value_in R path log q)

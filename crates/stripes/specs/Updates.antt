@@ -43,3 +43,8 @@ module _ {K V : Type 0} (R : K → K → Ordering) where
 abbrev pub write_of : {K V : Type 0} → K → Option V → Write K V
 write_of k None = Remove k
 write_of k (Some v) = Put k v
+
+-- the value that a closure made, or none where it failed
+abbrev pub made_of : {V E : Type 0} → Result (Option V) E → Option V
+made_of (Ok made) = made
+made_of (Err e) = None

@@ -6,6 +6,7 @@
 #![tactic(auto)]
 
 mod clearing;
+mod counting;
 mod empty_map;
 mod following;
 mod joining;

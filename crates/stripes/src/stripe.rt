@@ -5,7 +5,7 @@ ghost use Rattle.hash_path.specs.Digits.{fan_out};
 ghost use Rattle.stripes.specs.Rules.{AllKeep, Belongs, first_digit as digit_of};
 ghost use Rattle.stripes.specs.Told.{Tells};
 ghost use Rattle.versions.specs.Commands.{is_full_for};
-ghost use Rattle.versions.specs.Map.{value_at, with_pair, without};
+ghost use Rattle.versions.specs.Map.{IsMap, value_at, with_pair, without};
 ghost use Rattle.versions.specs.Puts.{FullExactly};
 ghost use Rattle.versions.specs.declared.version.TheConstants.{MOST_PAIRS};
 ghost use Rattle.write_history.specs.declared.entry.Write.TheVariants.{Put, Remove};
@@ -14,6 +14,7 @@ ghost use Rattle.write_history.specs.Signers.{WroteIf, signed_if};
 
 mod clearing;
 mod deciding;
+mod deciding_behind;
 mod following;
 mod marking;
 mod parting;
@@ -103,6 +104,7 @@ impl<K: PathKey + Drop, V: Drop, P: Keeps<K, V>, J: Naming> Stripe<K, V, P, J> {
     pub fn len(&self) -> u64
         ensures count { result ≡ length self.now.entries }
         ensures few { length self.now.entries ≤ MOST_PAIRS_OF_STRIPE }
+        ensures sorted { IsMap K.cmp self.now.entries }
     {
         self.version.len()
     }

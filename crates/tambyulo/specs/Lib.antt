@@ -11,3 +11,8 @@ pub use Rattle.trie_map.specs.Rules
 pub use Rattle.trie_map.specs.Summaries
 pub use Rattle.trie_map.specs.Updates
 pub use Rattle.view_sets.specs.Sets
+pub use Rattle.trie_map.specs.Sessions
+pub use Rattle.write_history.specs.Histories
+pub use Rattle.write_history.specs.Signers
+pub use Rattle.write_history.specs.declared.entry.Entry
+pub use Rattle.write_history.specs.declared.entry.Write

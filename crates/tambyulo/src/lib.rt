@@ -3,11 +3,13 @@
 //! Whoever uses the table of maps under one lock, with its journal, takes `tambyulo_clients`.
 #![tactic(auto)]
 
+pub mod history;
 mod test;
 #[cfg(test)]
 mod tests;
 mod trie_set;
 
+pub use bounded_map::BoundedMap;
 pub use hash_path::{Path, Sought};
 pub use key_parts::{Parts, ThreeParts};
 pub use seeded_keys::{Seed, SeededText};

@@ -5,6 +5,5 @@ pub use Rattle.bulk_work.specs.Summaries
 pub use Rattle.stripes.specs.Rules
 pub use Rattle.stripes.specs.Updates
 pub use Rattle.map_view.specs.Questions
-pub mod Fullness
-pub mod Iterables
-pub mod Sessions
+pub use Rattle.map_session.specs.Iterables
+pub use Rattle.map_session.specs.Sessions

@@ -14,13 +14,12 @@ mod reading_hot;
 mod replacing;
 mod restoring;
 mod retaining;
-mod session;
+mod sessions;
 
 use crate::origin::{Origin, found_or_made, found_or_tried};
-use crate::put_error::PutError;
 use hash_path::{Path, PathKey, Sought};
+use map_session::PutError;
 use map_view::View;
-pub use session::Session;
 use std::alloc::Global;
 use std::sync::{Arc, Wait};
 use stripes::{
@@ -65,12 +64,13 @@ use write_history::{Author, Naming, Unnamed};
 ///
 /// # What it costs
 ///
-/// n is the number of pairs, and O(log n) the way down the trie: at most thirteen steps, and then a step for each key
-/// that has the key's whole path word. So n keys of one word cost n² steps to put, and all calls on that stripe wait
-/// meanwhile. A stripe holds 524,288 pairs at most ([`MOST_PAIRS_OF_STRIPE`](crate::MOST_PAIRS_OF_STRIPE)), so keys
-/// whose words begin alike fill one stripe while the map has room elsewhere. A call under all locks holds the 32
-/// stripes at one moment, for short steps: all other calls wait for these. A view or a snapshot keeps the nodes of its
-/// moment, so a write copies those of its way, and memory grows with what is written meanwhile.
+/// n is the number of pairs, and O(log n) the way down the trie: at most thirteen steps, and then a search by halves
+/// among the keys that have the key's whole path word. A write copies these, so n keys of one word cost n² steps to
+/// put, and all calls on that stripe wait meanwhile. A stripe holds 524,288 pairs at most
+/// ([`MOST_PAIRS_OF_STRIPE`](crate::MOST_PAIRS_OF_STRIPE)), so keys whose words begin alike fill one stripe while the
+/// map has room elsewhere. A call under all locks holds the 32 stripes at one moment, for short steps: all other
+/// calls wait for these. A view or a snapshot keeps the nodes of its moment, so a write copies those of its way, and
+/// memory grows with what is written meanwhile.
 #[derive(Drop)]
 pub struct TrieMap<K: PathKey, V, P: Keeps<K, V> = Anything, J: Naming = Unnamed> {
     alloc: Global,

@@ -1,14 +1,14 @@
 //! Writes of a stripe that a closure decides on.
-ghost use Rattle.std.specs.Prelude.{◌≡◌, ◌||◌, Bool, IfOk, IfSome, IsTrue, OnErr, OnOk, Option, Result, if◌then◌else◌, is_some, option_map, true};
+ghost use Rattle.std.specs.Prelude.{◌≡◌, ◌||◌, Bool, IfOk, IfSome, OnErr, OnOk, Option, Result, if◌then◌else◌, is_some, option_map, true};
 ghost use Rattle.std.specs.Arc.{arc_value};
 ghost use Rattle.stripes.specs.Rules.{first_digit as digit_of};
-ghost use Rattle.stripes.specs.Updates.{MayMake, MayPass, Sets, TriesToSet, value_if, write_of};
+ghost use Rattle.stripes.specs.Updates.{MayMake, MayPass, Sets, TriesToSet, made_of, value_if, write_of};
 ghost use Rattle.versions.specs.Commands.{is_full_for};
 ghost use Rattle.versions.specs.Map.{value_at, with_pair, without};
 ghost use Rattle.versions.specs.Puts.{FullExactly};
 ghost use Rattle.write_history.specs.declared.entry.Write.TheVariants.{Put, Remove};
 ghost use Rattle.write_history.specs.Rules.{HasHistory};
-ghost use Rattle.write_history.specs.Signers.{WroteIf};
+ghost use Rattle.write_history.specs.Signers.{WroteIf, signed_if};
 
 use super::{MOST_PAIRS_OF_STRIPE, Stripe};
 use crate::keeps::Keeps;
@@ -38,9 +38,10 @@ impl<K: PathKey + Drop, V: Drop, P: Keeps<K, V>, J: Naming> Stripe<K, V, P, J> {
         requires callable { (old : _) → IfSome old (λ value. P.holds key.value value.now) → F.pre change old }
         requires rule { (old : _) (made : _) → IfSome old (λ value. P.holds key.value value.now) → F.post change old made → IfSome made (P.holds key.value) }
         ensures before { IfOk result (λ before. option_map arc_value before ≡ value_at K.cmp self.old.entries key.value) }
-        ensures made { (made : Option V) × MayMake F.FnOnce change (value_at K.cmp self.old.entries key.value) made × Sets K.cmp self.old.entries key.value made result self.new.entries × (HasHistory J.book → IfOk result (λ before. WroteIf K.cmp K.path_of (is_some made || is_some before) (write_of key.value made) key.value (option_map arc_value before) author.old self.old.log self.new.log)) }
+        ensures made { (made : Option V) × MayMake F.FnOnce change (value_at K.cmp self.old.entries key.value) made × Sets K.cmp self.old.entries key.value made result self.new.entries × (HasHistory J.book → IfOk result (λ before. WroteIf K.cmp K.path_of (is_some made || is_some before) (write_of key.value made) key.value (option_map arc_value before) author.old self.old.log self.new.log)) × IfOk result (λ before. author.new ≡ signed_if (is_some made || is_some before) author.old) }
         ensures digit { self.new.digit ≡ self.old.digit }
         ensures err { OnErr result (self.new ≡ self.old) }
+        ensures unsigned { OnErr result (author.new ≡ author.old) }
         ensures kept { IfOk result (λ before. IfSome before (λ value. P.holds key.value value.value)) }
     {
         let made = self.read(&key, path, change);
@@ -61,9 +62,10 @@ impl<K: PathKey + Drop, V: Drop, P: Keeps<K, V>, J: Naming> Stripe<K, V, P, J> {
         requires callable { (old : _) → IfSome old (λ value. P.holds key.value value.now) → F.pre change old }
         requires rule { (old : _) (made : _) → IfSome old (λ value. P.holds key.value value.now) → F.post change old made → IfSome made.0 (P.holds key.value) }
         ensures before { IfOk result (λ both. option_map arc_value both.0 ≡ value_at K.cmp self.old.entries key.value) }
-        ensures made { (made : Option V) × (answer : T) × MayMake F.FnOnce change (value_at K.cmp self.old.entries key.value) (made, answer) × Sets K.cmp self.old.entries key.value made result self.new.entries × IfOk result (λ both. both.1 ≡ answer) × (HasHistory J.book → IfOk result (λ both. WroteIf K.cmp K.path_of (is_some made || is_some both.0) (write_of key.value made) key.value (option_map arc_value both.0) author.old self.old.log self.new.log)) }
+        ensures made { (made : Option V) × (answer : T) × MayMake F.FnOnce change (value_at K.cmp self.old.entries key.value) (made, answer) × Sets K.cmp self.old.entries key.value made result self.new.entries × IfOk result (λ both. both.1 ≡ answer) × (HasHistory J.book → IfOk result (λ both. WroteIf K.cmp K.path_of (is_some made || is_some both.0) (write_of key.value made) key.value (option_map arc_value both.0) author.old self.old.log self.new.log)) × IfOk result (λ both. author.new ≡ signed_if (is_some made || is_some both.0) author.old) }
         ensures digit { self.new.digit ≡ self.old.digit }
         ensures err { OnErr result (self.new ≡ self.old) }
+        ensures unsigned { OnErr result (author.new ≡ author.old) }
         ensures kept { IfOk result (λ both. IfSome both.0 (λ value. P.holds key.value value.value)) }
     {
         let (made, answer) = self.read(&key, path, change);
@@ -87,9 +89,11 @@ impl<K: PathKey + Drop, V: Drop, P: Keeps<K, V>, J: Naming> Stripe<K, V, P, J> {
         requires callable { (old : _) → IfSome old (λ value. P.holds key.value value.now) → F.pre change old }
         requires rule { (old : _) (made : _) → IfSome old (λ value. P.holds key.value value.now) → F.post change old made → IfOk made (λ new. IfSome new (P.holds key.value)) }
         ensures before { IfOk result (λ done. IfOk done (λ before. option_map arc_value before ≡ value_at K.cmp self.old.entries key.value)) }
-        ensures made { (made : Result (Option V) E) × MayMake F.FnOnce change (value_at K.cmp self.old.entries key.value) made × TriesToSet K.cmp self.old.entries key.value made result self.new.entries }
+        ensures made { (made : Result (Option V) E) × MayMake F.FnOnce change (value_at K.cmp self.old.entries key.value) made × TriesToSet K.cmp self.old.entries key.value made result self.new.entries × (HasHistory J.book → IfOk result (λ done. IfOk done (λ before. WroteIf K.cmp K.path_of (is_some (made_of made) || is_some before) (write_of key.value (made_of made)) key.value (option_map arc_value before) author.old self.old.log self.new.log))) × IfOk result (λ done. IfOk done (λ before. author.new ≡ signed_if (is_some (made_of made) || is_some before) author.old)) }
+        ensures failed { IfOk result (λ done. OnErr done ((self.new ≡ self.old) × (author.new ≡ author.old))) }
         ensures digit { self.new.digit ≡ self.old.digit }
         ensures err { OnErr result (self.new ≡ self.old) }
+        ensures unsigned { OnErr result (author.new ≡ author.old) }
         ensures kept { IfOk result (λ done. IfOk done (λ before. IfSome before (λ value. P.holds key.value value.value))) }
     {
         match self.read(&key, path, change) {
@@ -113,11 +117,15 @@ impl<K: PathKey + Drop, V: Drop, P: Keeps<K, V>, J: Naming> Stripe<K, V, P, J> {
         requires place { digit_of K.path_of (Q.key_of key) ≡ self.old.digit }
         requires callable { (value : _) → P.holds (Q.key_of key) value.now → F.pre test value }
         ensures removed { (passes : Bool) × MayPass F.FnOnce test (value_at K.cmp self.old.entries (Q.key_of key)) passes × OnOk result (self.new.entries ≡ (if passes then without K.cmp self.old.entries (Q.key_of key) else self.old.entries)) × IfOk result (λ removed. option_map arc_value removed ≡ value_if K.cmp passes self.old.entries (Q.key_of key)) }
-        ensures wrote { HasHistory J.book → IfOk result (λ removed. IsTrue (is_some removed) → WroteIf K.cmp K.path_of true (Remove (Q.key_of key)) (Q.key_of key) (option_map arc_value removed) author.old self.old.log self.new.log) }
+        ensures tested { IfOk result (λ removed. MayPass F.FnOnce test (value_at K.cmp self.old.entries (Q.key_of key)) (is_some removed)) }
+        ensures wrote { HasHistory J.book → IfOk result (λ removed. WroteIf K.cmp K.path_of (is_some removed) (Remove (Q.key_of key)) (Q.key_of key) (value_at K.cmp self.old.entries (Q.key_of key)) author.old self.old.log self.new.log) }
+        ensures author { IfOk result (λ removed. author.new ≡ signed_if (is_some removed) author.old) }
         ensures digit { self.new.digit ≡ self.old.digit }
         ensures err { OnErr result (self.new ≡ self.old) }
+        ensures unsigned { OnErr result (author.new ≡ author.old) }
         ensures kept { IfOk result (λ removed. IfSome removed (λ value. P.holds (Q.key_of key) value.value)) }
     {
+        self.law();
         if self.passes(key, path, test) {
             self.remove(alloc, key, path, author)
         } else {
@@ -140,8 +148,10 @@ impl<K: PathKey + Drop, V: Drop, P: Keeps<K, V>, J: Naming> Stripe<K, V, P, J> {
         ensures before { IfOk result (λ before. option_map arc_value before ≡ value_at K.cmp self.old.entries key.value) }
         ensures sets { Sets K.cmp self.old.entries key.value made result self.new.entries }
         ensures wrote { HasHistory J.book → IfOk result (λ before. WroteIf K.cmp K.path_of (is_some made || is_some before) (write_of key.value made) key.value (option_map arc_value before) author.old self.old.log self.new.log) }
+        ensures author { IfOk result (λ before. author.new ≡ signed_if (is_some made || is_some before) author.old) }
         ensures digit { self.new.digit ≡ self.old.digit }
         ensures err { OnErr result (self.new ≡ self.old) }
+        ensures unsigned { OnErr result (author.new ≡ author.old) }
         ensures kept { IfOk result (λ before. IfSome before (λ value. P.holds key.value value.value)) }
     {
         match made {
@@ -168,7 +178,9 @@ impl<K: PathKey + Drop, V: Drop, P: Keeps<K, V>, J: Naming> Stripe<K, V, P, J> {
         ensures digit { self.new.digit ≡ self.old.digit }
         ensures full { FullExactly result (is_full_for K.cmp MOST_PAIRS_OF_STRIPE self.old.entries key.value) }
         ensures wrote { HasHistory J.book → IfOk result (λ before. WroteIf K.cmp K.path_of true (Put key.value value) key.value (option_map arc_value before) author.old self.old.log self.new.log) }
+        ensures author { OnOk result (author.new ≡ signed_if true author.old) }
         ensures err { OnErr result (self.new ≡ self.old) }
+        ensures unsigned { OnErr result (author.new ≡ author.old) }
         ensures kept { IfOk result (λ before. IfSome before (λ value. P.holds key.value value.value)) }
     {
         if self.is_full_for(&key, path) {

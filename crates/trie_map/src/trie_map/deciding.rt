@@ -4,8 +4,8 @@ ghost use Rattle.std.specs.Arc.{arc_value};
 ghost use Rattle.stripes.specs.Updates.{MayMake, MayPass};
 
 use super::TrieMap;
-use crate::put_error::PutError;
 use hash_path::{PathKey, Sought};
+use map_session::PutError;
 use std::sync::{Arc, Wait};
 use stripes::Keeps;
 use trie_node::NoMemory;

@@ -1,11 +1,11 @@
 //! Maps that are filled with many pairs.
 ghost use Rattle.std.specs.Iterator.{IsFiniteIterable};
 ghost use Rattle.std.specs.Prelude.{All};
-ghost use Rattle.trie_map.specs.Iterables.{EachKeeps};
+ghost use Rattle.map_session.specs.Iterables.{EachKeeps};
 
 use super::TrieMap;
-use crate::put_error::PutError;
 use hash_path::PathKey;
+use map_session::PutError;
 use std::sync::Wait;
 use stripes::Keeps;
 use write_history::Naming;
@@ -44,7 +44,7 @@ impl<K: PathKey + Drop, V: Drop, P: Keeps<K, V>, J: Naming> TrieMap<K, V, P, J> 
     ///
     /// The iterator has to end, and runs with no lock held. Where the map has a rule, the proofs' `list_keeps` shows
     /// that the pairs of an iterator that gives a list in order keep it, and `vec_keeps` those of an iterator over a
-    /// `Vec` (`specs/Iterables.antt`).
+    /// `Vec` (`specs/Iterables.antt` of `map_session`).
     ///
     /// Cost: O(k log n) for k pairs, a lock each. Refused: as `put`.
     pub fn extend_from<R: Wait, I: IntoIterator<Item = (K, V)>>(

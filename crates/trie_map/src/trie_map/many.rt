@@ -5,7 +5,7 @@ ghost use Rattle.versions.specs.Map.{Map, value_at};
 
 use super::TrieMap;
 use hash_path::{PathKey, Sought};
-use std::alloc::Global;
+use map_session::handles_on;
 use std::sync::{Arc, Wait};
 use stripes::Keeps;
 use trie_node::NoMemory;
@@ -28,29 +28,5 @@ impl<K: PathKey + Drop, V: Drop, P: Keeps<K, V>, J: Naming> TrieMap<K, V, P, J> 
         let view = self.view(rt)?;
         view.law();
         handles_on(self.alloc, view.get_many(keys)?.as_slice())
-    }
-}
-
-/// A handle on each of some values that are lent.
-fn handles_on<V: Drop>(
-    alloc: Global,
-    lent: &[Option<&Arc<V>>],
-) -> Result<Vec<Option<Arc<V>>>, NoMemory>
-    ensures { IfOk result (λ values. map (option_map (λ value. value.value)) values.items ≡ map (option_map (λ value. value.now.value)) lent.now) }
-{
-    let mut values = Vec::with_capacity(alloc, lent.len())?;
-    for value in lent {
-        values.push(handle_on(*value)?)?;
-    }
-    Ok(values)
-}
-
-/// A handle on a value that is lent, or none.
-fn handle_on<V>(lent: Option<&Arc<V>>) -> Result<Option<Arc<V>>, NoMemory>
-    ensures { IfOk result (λ value. option_map (λ value. value.value) value ≡ option_map (λ value. value.now.value) lent.entry) }
-{
-    match lent {
-        Some(value) => Ok(Some(Arc::try_clone(value)?)),
-        None => Ok(None),
     }
 }

@@ -22,8 +22,8 @@ impl<K: PathKey + Drop, V: Drop, P: Keeps<K, V>> TrieMap<K, V, P> {
 
 impl<K: PathKey + Drop, V: Drop, P: Keeps<K, V>, J: Naming> TrieMap<K, V, P, J> {
     /// The same of a map that has a history: what a reader finds is what that leaves the key, at a moment no older than
-    /// what the front has seen. `S` names that (`Since`, of the crate `map_reader`); `Unnamed` is the history with no
-    /// write.
+    /// what the front has seen, as [`Session::front`](crate::Session::front) returns it. `S` names that
+    /// ([`Since`](crate::Since)); `Unnamed` is the history with no write.
     ///
     /// Cost: O(1), no lock. Refused: never.
     pub fn readers_since<S: Since<K, V>>(

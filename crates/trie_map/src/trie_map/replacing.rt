@@ -1,19 +1,16 @@
 //! Values that are put as they are shared, and new values for all keys.
 ghost use Rattle.std.specs.Prelude.{◌≡◌, ◌≤◌, IfOk, IfSome, length};
 ghost use Rattle.bulk_ops.specs.Meanings.{MayAnswer};
-ghost use Rattle.stripes.specs.Rules.{AllKeep, first_digit as digit_of};
+ghost use Rattle.stripes.specs.Rules.{AllKeep};
 ghost use Rattle.versions.specs.Map.{Map};
 
 use super::TrieMap;
-use crate::put_error::PutError;
-use closure_ops::answer_at;
-use hash_path::{Path, PathKey};
+use hash_path::PathKey;
+use map_session::{PutError, made_at, put_present};
 use map_view::View;
-use std::alloc::Global;
 use std::sync::{Arc, Wait};
-use stripes::{Keeps, Stripe};
-use trie_node::{Always, IfPresent, NoMemory};
-use versions::Refusal;
+use stripes::Keeps;
+use trie_node::{Always, IfAbsent, IfPresent, NoMemory};
 use write_history::{Author, Naming};
 
 impl<K: PathKey + Drop, V: Drop, P: Keeps<K, V>, J: Naming> TrieMap<K, V, P, J> {
@@ -33,6 +30,43 @@ impl<K: PathKey + Drop, V: Drop, P: Keeps<K, V>, J: Naming> TrieMap<K, V, P, J> 
         let path = key.path();
         let key = Arc::new(self.alloc, key)?;
         Ok(self.write(rt, key, path, value, &Always)?.previous)
+    }
+
+    /// What `put_if_absent` does with a value that is shared already.
+    ///
+    /// Cost: O(log n), under the lock of the key's stripe. Refused: as `put`.
+    pub fn put_shared_if_absent<R: Wait>(
+        &self,
+        rt: &R,
+        key: K,
+        value: Arc<V>,
+    ) -> Result<Option<Arc<V>>, PutError>
+        requires { P.holds key value.value }
+        ensures kept { IfOk result (λ before. IfSome before (λ found. P.holds key found.value)) }
+    {
+        let path = key.path();
+        let key = Arc::new(self.alloc, key)?;
+        Ok(self.write(rt, key, path, value, &IfAbsent)?.previous)
+    }
+
+    /// What `replace` does with a value that is shared already.
+    ///
+    /// Cost: O(log n), under the lock of the key's stripe. Refused: `NoMemory`, if memory runs out.
+    pub fn replace_shared<R: Wait>(
+        &self,
+        rt: &R,
+        key: K,
+        value: Arc<V>,
+    ) -> Result<Option<Arc<V>>, NoMemory>
+        requires { P.holds key value.value }
+        ensures kept { IfOk result (λ before. IfSome before (λ found. P.holds key found.value)) }
+    {
+        let path = key.path();
+        let key = Arc::new(self.alloc, key)?;
+        Ok(
+            self.write_present(rt, key, path, value, &IfPresent)?
+                .previous,
+        )
     }
 
     /// Gives each key the value that the closure makes of its pair, and returns how many keys it gave one.
@@ -96,44 +130,13 @@ impl<K: PathKey + Drop, V: Drop, P: Keeps<K, V>, J: Naming> TrieMap<K, V, P, J> 
             return Ok(None);
         };
         let made = Arc::new(self.alloc, made)?;
-        put_present(self.alloc, &mut stripe, Arc::try_clone(key)?, path, made)
-    }
-}
-
-// What the closure makes of the value of the key, or none where the key is absent. The pair that it makes keeps the rule.
-fn made_at<K: PathKey + Drop, V: Drop, P: Keeps<K, V>, J: Naming, F: Fn(&K, &V) -> V>(
-    stripe: &Stripe<K, V, P, J>,
-    key: &Arc<K>,
-    path: Path,
-    change: &F,
-) -> Option<V>
-    requires callable { F.IsAlwaysCallable change.now }
-    requires rule { (key : K) (old made : V) → P.holds key old → MayAnswer F.Fn change.now key old made → P.holds key made }
-    requires path { path.0 ≡ K.path_of key.now.value }
-    requires place { digit_of K.path_of key.now.value ≡ stripe.now.digit }
-    ensures kept { IfSome result (P.holds key.now.value) }
-{
-    let old = stripe.get(key, path)?;
-    Some(answer_at(change, key, old))
-}
-
-// Maps the key to the value where it is present, and returns the value before, or none. No stripe is too full for that.
-fn put_present<K: PathKey + Drop, V: Drop, P: Keeps<K, V>, J: Naming>(
-    alloc: Global,
-    stripe: &mut Stripe<K, V, P, J>,
-    key: Arc<K>,
-    path: Path,
-    value: Arc<V>,
-) -> Result<Option<Arc<V>>, NoMemory>
-    requires rule { P.holds key.value value.value }
-    requires path { path.0 ≡ K.path_of key.value }
-    requires place { digit_of K.path_of key.value ≡ stripe.old.digit }
-    ensures kept { IfOk result (λ before. IfSome before (λ found. P.holds key.value found.value)) }
-    ensures digit { stripe.new.digit ≡ stripe.old.digit }
-{
-    match stripe.put_where(alloc, key, path, value, &IfPresent, &mut Author::nobody()) {
-        Ok(change) => Ok(change.previous),
-        Err(Refusal::NoMemory) => Err(NoMemory),
-        Err(_) => unreachable!(),
+        put_present(
+            self.alloc,
+            &mut stripe,
+            Arc::try_clone(key)?,
+            path,
+            made,
+            &mut Author::nobody(),
+        )
     }
 }

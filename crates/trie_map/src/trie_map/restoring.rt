@@ -5,8 +5,8 @@ ghost use Rattle.stripes.specs.Rules.{AllKeep};
 ghost use Rattle.stripes.specs.Stripes.{digits_of, up_to};
 
 use super::TrieMap;
-use crate::put_error::PutError;
 use hash_path::PathKey;
+use map_session::PutError;
 use map_view::View;
 use std::alloc::Global;
 use std::sync::Wait;

@@ -1,13 +1,14 @@
 //! The removal of the pairs that fail a test.
-ghost use Rattle.std.specs.Prelude.{◌≡◌, ◌≢◌, ◌≤◌, All, AllPairs, Bool, IfOk, IfSome, IsTrue, OnErr, Some, false, if◌then◌else◌, is_some, length, true};
+ghost use Rattle.std.specs.Prelude.{◌≡◌, ◌≢◌, ◌≤◌, All, AllPairs, Bool, IfOk, IfSome, IsTrue, OnErr, false, if◌then◌else◌, is_some, length};
 ghost use Rattle.bulk_ops.specs.Meanings.{MayAnswer, Means};
 ghost use Rattle.stripes.specs.Rules.{AllKeep, first_digit as digit_of};
 ghost use Rattle.map_view.specs.Questions.{failing};
-ghost use Rattle.versions.specs.Map.{Map, value_at, without};
+ghost use Rattle.versions.specs.Map.{Map, without};
 
 use super::TrieMap;
 use closure_ops::answer_at;
 use hash_path::{Path, PathKey};
+use map_session::passes;
 use map_view::View;
 use std::alloc::Global;
 use std::sync::{Arc, Wait};
@@ -116,22 +117,4 @@ fn remove_failing<K: PathKey + Drop, V: Drop, P: Keeps<K, V>, J: Naming, F: Fn(&
         return Ok(None);
     }
     stripe.remove(alloc, key, path, &mut Author::nobody())
-}
-
-// Whether the key is absent, or its value passes the test.
-fn passes<K: PathKey + Drop, V: Drop, P: Keeps<K, V>, J: Naming, F: Fn(&K, &V) -> bool>(
-    stripe: &Stripe<K, V, P, J>,
-    key: &Arc<K>,
-    path: Path,
-    test: &F,
-) -> bool
-    requires callable { F.IsAlwaysCallable test.now }
-    requires path { path.0 ≡ K.path_of key.now.value }
-    requires place { digit_of K.path_of key.now.value ≡ stripe.now.digit }
-    ensures fails { result ≡ false → (value : V) × (value_at K.cmp stripe.now.entries key.now.value ≡ Some value) × MayAnswer F.Fn test.now key.now.value value false }
-{
-    match stripe.get(key, path) {
-        Some(value) => answer_at(test, key, value),
-        None => true,
-    }
 }

@@ -1,4 +1,4 @@
-use Rattle.trie_map.specs.Iterables.{KeepsFrom}
+use Rattle.map_session.specs.Iterables.{KeepsFrom}
 use Rattle.trie_map.proofs.trie_map.TrieMap.extend_from.Given as goal
 
 -- each pair that is still to come keeps the rule

@@ -1,5 +1,0 @@
-use Rattle.trie_map.proofs.Histories.{last_put}
-use Rattle.trie_map.proofs.history_law.law_of_last_put.Goals as goal
-
-pub returns : goal.returns
-returns g c = last_put g.K.Ord.cmp g.K.PathKey.path_of g.met.K.Ord.total
