@@ -1,5 +1,6 @@
 //! What the calls answer, by hand and by several threads at once.
 mod asked;
+mod bounded;
 mod calls;
 mod clears;
 mod crew_made;
@@ -18,6 +19,7 @@ mod reentry;
 mod released;
 mod restored;
 mod retained;
+mod sessions;
 mod sets;
 mod texts;
 mod together;

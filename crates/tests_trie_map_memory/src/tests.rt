@@ -1,8 +1,13 @@
 //! With requests for memory refused; by keys that count how often they are hashed; and by queries of their own.
+mod bounded;
 mod crews;
+mod halves;
 mod hashing;
 mod memory;
 mod queries;
+mod rows;
+mod shapes;
+mod tallied;
 
 use std::fmt::Debug;
 use std::process::Abort;

@@ -1,5 +1,6 @@
 //! Calls with requests for memory refused.
 use super::{Map, Seen, assert_is, at, empty, key, plain, put, view_of};
+use combiner::Sum;
 use std::alloc::{AllocError, Global};
 use std::process::Abort;
 use std::sync::Wait;
@@ -122,13 +123,16 @@ fn puts_are_refused_at_each_request(rt: HostRuntime) {
     );
 }
 
-// The calls that take all stripes. The last two ask a view of the map then, by one worker.
+// The calls that take all stripes. The last five ask a view of the map then, by one worker.
 #[derive(Clone, Copy, Debug)]
 enum Call {
     View,
     Snapshot,
     SnapshotAndClear,
     CountGroups,
+    FoldGroups,
+    Filter,
+    MapValues,
     FindTop,
 }
 
@@ -141,6 +145,18 @@ fn is_granted<R: Threads + Wait + Sync>(rt: &R, map: &Map, call: Call) -> bool {
         Call::CountGroups => {
             let groups = map.par_group_count(rt, |key, _| key.path, Crew::of(1));
             groups.is_ok_and(|groups| groups.len() == 32)
+        }
+        Call::FoldGroups => {
+            let sums = map.par_group_fold(rt, |key, _| Ok(key.path), &Sum, |_, _| 1, Crew::of(1));
+            sums.is_ok_and(|sums| sums.len() == 32)
+        }
+        Call::Filter => {
+            let made = map.par_filter(rt, |_, _| true, Crew::of(1));
+            made.is_ok_and(|made| made.len() == 32)
+        }
+        Call::MapValues => {
+            let made = map.par_map_values(rt, |_, value| *value, Crew::of(1));
+            made.is_ok_and(|made| made.len() == 32)
         }
         Call::FindTop => {
             let top = map.par_top(rt, 40, |_, value| *value, Crew::of(1));
@@ -179,6 +195,9 @@ fn calls_on_all_stripes_are_refused_at_each_request(rt: HostRuntime) {
         Call::Snapshot,
         Call::SnapshotAndClear,
         Call::CountGroups,
+        Call::FoldGroups,
+        Call::Filter,
+        Call::MapValues,
         Call::FindTop,
     ] {
         let granted = count_granted(&rt, &map, call);
