@@ -86,21 +86,21 @@ fn first_byte(key: &ByteText) -> &[u8]
     if bytes.is_empty() { bytes } else { &bytes[..1] }
 }
 
-// One key for all pairs, with the value.
+// One key for all pairs, and a value that no pair has.
 #[derive(Drop)]
 struct OneKey {
     alloc: Global,
 }
 
 impl ImageFn<ByteText, i64> for OneKey {
-    ghost use Rattle.std.specs.Prelude.{◌≡◌, ◌∷◌, [], IfOk};
+    ghost use Rattle.std.specs.Prelude.{◌≡◌, ◌∷◌, [], IfOk, pos};
 
     ghost can = { λ t. Unit {0} };
 
-    ghost gives = { λ t key value answer. IfOk answer (λ image. image ≡ (122 ∷ [], value)) };
+    ghost gives = { λ t key value answer. IfOk answer (λ image. image ≡ (122 ∷ [], pos 7)) };
 
-    fn image(&self, _key: &ByteText, value: &i64) -> Result<(ByteText, i64), NoMemory> {
-        Ok((ByteText::from_slice(self.alloc, b"z")?, *value))
+    fn image(&self, _key: &ByteText, _value: &i64) -> Result<(ByteText, i64), NoMemory> {
+        Ok((ByteText::from_slice(self.alloc, b"z")?, 7))
     }
 }
 
@@ -235,9 +235,9 @@ fn is_of_initials(seen: Seen) -> bool {
     seen == (2, [Some(1), None, Some(3), None]) || seen == (2, [Some(2), None, Some(3), None])
 }
 
+// Key z has the image's value, and not that of a pair.
 fn is_of_one_key(seen: Seen) -> bool {
-    let (count, [a, ab, b, z]) = seen;
-    count == 1 && a.or(ab).or(b).is_none() && matches!(z, Some(1..=3))
+    seen == (1, [None, None, None, Some(7)])
 }
 
 // All three pairs at once, and the two pieces of a cut.
@@ -335,26 +335,35 @@ fn shared(rt: &impl Abort, alloc: Global, text: &str, value: i64) -> (Arc<ByteTe
 }
 
 // The part of one pair.
-fn one_of(
+fn one_of<P: ImageFn<ByteText, i64>>(
     rt: &impl Abort,
     alloc: Global,
-    query: &Imaged<Initial>,
+    query: &Imaged<P>,
     key: &Arc<ByteText>,
     value: &Arc<i64>,
 ) -> Images
-    requires { ⟦<Imaged<Initial> as Bulk<ByteText, i64>>⟧.ready query.now }
-    ensures { ⟦<Imaged<Initial> as Bulk<ByteText, i64>>⟧.answers query.now ((key.now.value, value.now.value) ∷ []) result }
+    requires { ⟦<Imaged<P> as Bulk<ByteText, i64>>⟧.ready query.now }
+    ensures { ⟦<Imaged<P> as Bulk<ByteText, i64>>⟧.answers query.now ((key.now.value, value.now.value) ∷ []) result }
 {
     query.one(alloc, key, value).expect(rt, "no part")
 }
 
-// What a part of a=1 has after the image of b=3 was added to it with `given` blocks of memory.
-fn added(rt: &impl Abort, alloc: Global, given: usize) -> (bool, Seen) {
-    let query = Imaged::MapPairs(initials(alloc), 2);
+// What a part of a=1 has after the image of b=3 was added to it, with `given` blocks of memory or with all of it.
+fn added<P: ImageFn<ByteText, i64>>(
+    rt: &impl Abort,
+    alloc: Global,
+    query: &Imaged<P>,
+    given: Option<usize>,
+) -> (bool, Seen)
+    requires { ⟦<Imaged<P> as Bulk<ByteText, i64>>⟧.ready query.now }
+{
     let (first, one) = shared(rt, alloc, "a", 1);
     let (second, three) = shared(rt, alloc, "b", 3);
-    let mut part = one_of(rt, alloc, &query, &first, &one);
-    let taken = take_all_but(rt, alloc, given);
+    let mut part = one_of(rt, alloc, query, &first, &one);
+    let taken = match given {
+        Some(given) => Some(take_all_but(rt, alloc, given)),
+        None => None,
+    };
     let is_added = query.add(alloc, &mut part, &second, &three).is_ok();
     drop(taken);
     (is_added, seen_of(rt, alloc, &part))
@@ -363,8 +372,9 @@ fn added(rt: &impl Abort, alloc: Global, given: usize) -> (bool, Seen) {
 #[test]
 fn a_refused_image_leaves_the_part_as_it_was(rt: HostRuntime) {
     let alloc = rt.alloc();
+    let query = Imaged::MapPairs(initials(alloc), 2);
     for given in 0..MOST_GIVEN {
-        let (is_added, contents) = added(&rt, alloc, given);
+        let (is_added, contents) = added(&rt, alloc, &query, Some(given));
         if is_added {
             assert!(rt; given > 0);
             return assert_eq!(rt; contents, (2, [Some(1), None, Some(3), None]));
@@ -372,6 +382,14 @@ fn a_refused_image_leaves_the_part_as_it_was(rt: HostRuntime) {
         assert_eq!(rt; contents, (1, [Some(1), None, None, None]));
     }
     assert!(rt; false, "an image is refused with memory to spare");
+}
+
+#[test]
+fn an_added_image_has_the_value_of_its_closure(rt: HostRuntime) {
+    let alloc = rt.alloc();
+    let query = Imaged::MapPairs(one_key(alloc), 3);
+    let (is_added, contents) = added(&rt, alloc, &query, None);
+    assert!(rt; is_added && is_of_one_key(contents));
 }
 
 // The join of the images of a=1 and of b=3, with `given` blocks of memory.
