@@ -1,5 +1,5 @@
 -- Items by groups of two maps together, and of a map with one pair more.
-use Rattle.std.proofs.Common.{◌≡◌, ℕ, zero, suc, ◌+◌, ◌≤◌, ◌<◌, Bool, true, false, cond, length, List, [], ◌∷◌, map, Option, Some, None, refl, sym, ap, ◌∙◌, arith}
+use Rattle.std.proofs.Common.{◌≡◌, ℕ, zero, suc, ◌+◌, ◌≤◌, ◌<◌, Bool, true, false, cond, length, List, [], ◌∷◌, map, Option, Some, None, refl, sym, ap, subst, ◌∙◌, arith}
 use Rattle.std.proofs.Math.Bridge.{le_prop}
 use Rattle.std.proofs.Math.Logic.{∥∥₁_elim}
 use Rattle.std.proofs.Math.Nat.{ℕ_set}
@@ -10,6 +10,7 @@ use Rattle.std.specs.Ordering.{eq_by_cmp}
 use Rattle.std.specs.FinMap.Entries.{by_order, find-put, find_tied}
 use Rattle.std.specs.declared.cmp.Ordering.{Ordering}
 use Rattle.std.specs.declared.cmp.Ordering.TheVariants.{Less, Equal, Greater}
+use Rattle.trie_shape.specs.Map.{IsAntisymmetric}
 use Rattle.versions.specs.Contents.{Contents}
 use Rattle.versions.specs.Map.{Map, union, value_at, with_pair}
 use Rattle.versions.specs.declared.version.TheConstants.{MOST_PAIRS}
@@ -22,6 +23,8 @@ use Rattle.bulk_ops.proofs.Totals.{count_union, fold_union, folded_is_item, leng
 use Rattle.bulk_ops.specs.Meanings.{Means}
 use Rattle.group_counts.specs.Sums.{IsCombined, IsGroupFold, combined, folded_any, items_in, with_item}
 use Rattle.group_counts.proofs.Joins.{equal_of}
+use Rattle.group_counts.proofs.Naming.{Names, named_both, named_more, named_one, not_there, there_both, there_more, there_one}
+use Rattle.std.specs.Prelude.{IsSome}
 
 -- a put makes one pair more at most
 pub length_put : {G I : Type 0} (R : G → G → Ordering) (g : G) (a : I) (m : Map G I) → length (with_pair R m g a) ≤ length m + 1
@@ -118,12 +121,14 @@ module _ {I : Type 0} (op : I → I → I) (unit : I) where
             Summed m sums = IsGroupFold op unit R gives says m sums
 
             -- the sums of two maps joined
-            pub both_summed : (a b c : Contents G I) → IsCombined op unit R a.entries b.entries c.entries → c.limit ≡ MOST_PAIRS → length c.entries ≤ length a.entries + length b.entries → IsJoined RK Summed a b c
-            both_summed a b c each limit few m n x y apart =
+            pub both_summed : (key_exact : IsAntisymmetric RK) (a b c : Contents G I) → IsCombined op unit R a.entries b.entries c.entries → c.limit ≡ MOST_PAIRS → length c.entries ≤ length a.entries + length b.entries → IsJoined RK Summed a b c
+            both_summed key_exact a b c each limit few m n x y apart =
                 let all : length (union RK m n) ≡ length m + length n = length_union RK ok m n (truth_of _ apart.left) apart.apart in
                 record {
                   limit = limit;
                   few = omega (arith, few, x.few, y.few, all);
+                  named = λ g some. named_both R gives RK ok key_exact op unit (value_at R a.entries g) (value_at R b.entries g) m n g (truth_of _ apart.left) apart.apart (x.named g) (y.named g) (subst IsSome (each g) some);
+                  there = λ z among. there_both R gives RK ok key_exact op unit a.entries b.entries c.entries m n z each (x.there z) (y.there z) among;
                   exact = λ group item means meant g.
                       each g
                       ∙ (λ j. combined op unit (x.exact group item means meant g j) (y.exact group item means meant g j))
@@ -150,15 +155,18 @@ module _ {I : Type 0} (op : I → I → I) (unit : I) where
                 ] refl
 
             -- a pair's item with those before it
-            pub one_summed_more : (o : IsTotalOrder R) (k : K) (v : V) (g : G) (i : I) (a c : Contents G I) → gives k v g → says k v i
+            pub one_summed_more : (key_exact : IsAntisymmetric RK) (o : IsTotalOrder R) (same_group : IsAntisymmetric R) (k : K) (v : V) (g : G) (i : I) (a c : Contents G I) → gives k v g → says k v i
                 → c.entries ≡ with_item op unit R a.entries g i → c.limit ≡ a.limit → IsAdded RK Summed a k v c
-            one_summed_more o k v g i a c gave said is limit m x apart =
+            one_summed_more key_exact o same_group k v g i a c gave said is limit m x apart =
+                let next : I = op i (unwrap_or (value_at R a.entries g) unit) in
                 let all : length (with_pair RK m k v) ≡ 1 + length m = length_union RK ok ((k, v) ∷ []) m (truth_of _ apart.left) apart.apart in
-                let more : length (with_item op unit R a.entries g i) ≤ length a.entries + 1 = length_put R g (op i (unwrap_or (value_at R a.entries g) unit)) a.entries in
+                let more : length (with_item op unit R a.entries g i) ≤ length a.entries + 1 = length_put R g next a.entries in
                 let same : length c.entries ≡ length (with_item op unit R a.entries g i) = ap length is in
                 record {
                   limit = limit ∙ x.limit;
                   few = omega (arith, all, more, same, x.few);
+                  named = λ q some. named_more R gives RK ok key_exact o same_group k v g q next m a.entries gave (truth_of _ apart.left) apart.apart (x.named q) (subst (λ es. IsSome (value_at R es q)) is some);
+                  there = λ z among. subst (λ es. Names R gives es z) (sym is) (there_more R gives RK ok key_exact o same_group k v g next m a.entries z gave (x.there z) among);
                   exact = λ group item means meant q.
                       ap (λ es. value_at R es q) (is ∙ (λ j. with_item op unit R a.entries (means k v g gave j) (meant k v i said j)))
                       ∙ more_in o k v group item m a.entries q (x.exact group item means meant)
@@ -174,14 +182,18 @@ module _ {I : Type 0} (op : I → I → I) (unit : I) where
     none_summed sums is limit = record {
       limit = limit;
       few = let none : length sums.entries ≡ 0 = ap length is in omega (arith, none);
+      named = λ g some. not_there (value_at R sums.entries g) (ap (λ es. value_at R es g) is) some;
+      there = λ x among. absurd (omega (arith, among.1));
       exact = λ group item means meant g. ap (λ es. value_at R es g) is;
     }
 
     -- the item of one pair
-    pub one_summed : (k : K) (v : V) (g : G) (i : I) (sums : Contents G I) → gives k v g → says k v i → sums.entries ≡ (g, op i unit) ∷ [] → sums.limit ≡ MOST_PAIRS → Sums ((k, v) ∷ []) sums
-    one_summed k v g i sums gave said is limit = record {
+    pub one_summed : (o : IsTotalOrder R) (same_group : IsAntisymmetric R) (k : K) (v : V) (g : G) (i : I) (sums : Contents G I) → gives k v g → says k v i → sums.entries ≡ (g, op i unit) ∷ [] → sums.limit ≡ MOST_PAIRS → Sums ((k, v) ∷ []) sums
+    one_summed o same_group k v g i sums gave said is limit = record {
       limit = limit;
       few = let one : length sums.entries ≡ 1 = ap length is in omega (arith, one);
+      named = λ q some. named_one R gives o same_group k v g q (op i unit) gave (subst (λ es. IsSome (value_at R es q)) is some);
+      there = λ x among. subst (λ es. Names R gives es x) (sym is) (there_one R gives o same_group k v g (op i unit) x gave among);
       exact = λ group item means meant q.
           ap (λ es. value_at R es q) (is ∙ (λ j. (means k v g gave j, op (meant k v i said j) unit) ∷ []))
           ∙ one_any {A = K × V} (λ x. item x.0 x.1) (k, v) (eq_by_cmp R q (group k v));

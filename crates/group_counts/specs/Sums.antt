@@ -1,5 +1,5 @@
 -- Items by groups: a finite map from each group to the items of its pairs combined.
-use Rattle.std.specs.Prelude.{◌≡◌, ◌≤◌, List, [], ◌∷◌, length, Option, Some, None}
+use Rattle.std.specs.Prelude.{◌≡◌, ◌≤◌, List, [], ◌∷◌, length, Option, Some, None, Contains, IsSome}
 use Rattle.std.specs.Option.{unwrap_or}
 use Rattle.std.specs.Ordering.{eq_by_cmp}
 use Rattle.std.specs.declared.cmp.Ordering.{Ordering}
@@ -35,9 +35,12 @@ module _ {I : Type 0} (op : I → I → I) (unit : I) where
       abbrev pub items_in : (K → V → G) → (K → V → I) → Map K V → G → List I
       items_in group item m g = items_of item (passing (λ k v. eq_by_cmp R g (group k v)) m)
 
-      -- a map of the largest limit with no more groups than there are pairs; and for each meaning of the closures its groups
-      -- are those that some pair has, each with the items of its pairs combined
+      -- a map of the largest limit with no more groups than there are pairs: each group is one that the closure named at some
+      -- pair, and at each pair it named a group that is there; and for each meaning of the closures the groups are those that
+      -- some pair has, each with the items of its pairs combined
       pub record IsGroupFold (gives : K → V → G → Type 0) (says : K → V → I → Type 0) (m : Map K V) (sums : Contents G I) : Type 0 where
         pub limit : sums.limit ≡ MOST_PAIRS
         pub few : length sums.entries ≤ length m
+        pub named : (g : G) → IsSome (value_at R sums.entries g) → (x : K × V) × Contains m x × gives x.0 x.1 g
+        pub there : (x : K × V) → Contains m x → (g : G) × gives x.0 x.1 g × IsSome (value_at R sums.entries g)
         pub exact : (group : K → V → G) (item : K → V → I) → Means gives group → Means says item → (g : G) → value_at R sums.entries g ≡ folded_any (items_in group item m g)

@@ -3,17 +3,17 @@ ghost use Rattle.std.specs.Prelude.{◌≡◌, ◌+◌, ◌<◌, ◌≤◌, ◌�
 ghost use Rattle.std.specs.Option.{unwrap_or};
 ghost use Rattle.bulk_ops.specs.Meanings.{MayAnswer};
 ghost use Rattle.group_counts.specs.Sums.{IsCombined, with_item};
-ghost use Rattle.versions.specs.Map.{value_at};
+ghost use Rattle.versions.specs.Map.{value_at, with_pair};
 ghost use Rattle.versions.specs.declared.version.TheConstants.{MOST_PAIRS};
 
-use closure_ops::{answer_at, no_pairs, put_within};
+use closure_ops::{answer_at, no_pairs};
 use combiner::Monoid;
-use hash_path::PathKey;
+use hash_path::{Path, PathKey};
 use iter::bunches_of_root;
 use std::alloc::{AllocError, Global};
 use std::sync::Arc;
-use trie_node::{NoMemory, walk_lists_map};
-use versions::Version;
+use trie_node::{Always, NoMemory, walk_lists_map};
+use versions::{Refusal, Version};
 
 /// What the closure names as the group of a pair, or `NoMemory` where there is none for it.
 pub(crate) fn group_at<K, V, G: Drop, F: Fn(&K, &V) -> Result<G, AllocError>>(
@@ -43,12 +43,34 @@ pub(crate) fn add_item<G: PathKey + Drop, M: Monoid>(
     ensures limit { sums.new.limit ≡ sums.old.limit }
     ensures err { OnErr result (sums.new ≡ sums.old) }
 {
-    let next = next_item(monoid, sums, &group, item);
+    let path = group.path();
+    let next = next_item(monoid, sums, &group, path, item);
     let Ok(next) = Arc::new(alloc, next) else {
         drop(group);
         return Err(NoMemory);
     };
-    put_within(alloc, sums, group, next)
+    put_sum(alloc, sums, group, path, next)
+}
+
+// Puts what a group's items come to, where the map has room for a group.
+fn put_sum<G: PathKey + Drop, I: Drop>(
+    alloc: Global,
+    sums: &mut Version<G, I>,
+    group: Arc<G>,
+    path: Path,
+    sum: Arc<I>,
+) -> Result<(), NoMemory>
+    requires room { length sums.old.entries < sums.old.limit }
+    requires path { path.0 ≡ G.path_of group.value }
+    ensures entries { OnOk result (sums.new.entries ≡ with_pair G.cmp sums.old.entries group.value sum.value) }
+    ensures limit { sums.new.limit ≡ sums.old.limit }
+    ensures err { OnErr result (sums.new ≡ sums.old) }
+{
+    match sums.put_where_along(alloc, group, path, sum, &Always) {
+        Ok(_) => Ok(()),
+        Err(Refusal::NoMemory) => Err(NoMemory),
+        Err(_) => unreachable!(),
+    }
 }
 
 // The item combined with those that its group has.
@@ -56,11 +78,13 @@ fn next_item<G: PathKey + Drop, M: Monoid>(
     monoid: &M,
     sums: &Version<G, M::Item>,
     group: &G,
+    path: Path,
     item: &M::Item,
 ) -> M::Item
+    requires { path.0 ≡ G.path_of group.now }
     ensures { result ≡ M.combine monoid.now item.now (unwrap_or (value_at G.cmp sums.now.entries group.now) (M.unit_of monoid.now)) }
 {
-    match sums.get(group) {
+    match sums.get_along(group, path) {
         Some(old) => monoid.op(item, old),
         None => monoid.op(item, &monoid.unit()),
     }

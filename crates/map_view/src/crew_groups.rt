@@ -69,6 +69,8 @@ impl<K: PathKey + Drop + Send + Sync, V: Drop + Send + Sync, P: Keeps<K, V>> Vie
             monoid,
             item,
         };
-        self.worked_by(rt, &folds, crew)
+        let made = self.worked_by(rt, &folds, crew);
+        drop(folds);
+        made
     }
 }

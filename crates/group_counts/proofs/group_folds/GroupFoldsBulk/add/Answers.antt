@@ -16,6 +16,6 @@ returns-clause-added g c =
     on_ok_weaker c.add_item.result
     (λ is. one_summed_more (g.M.Monoid.combine monoid) (g.M.Monoid.unit_of monoid) (g.M.Monoid.is_item monoid)
     (laws.associative monoid) (laws.commutative monoid) (laws.neutral monoid) (laws.closed monoid) (laws.unit_is_item monoid)
-    g.K.Ord.cmp g.met.K.Ord.total g.G.Ord.cmp (λ k v group. MayAnswer g.F.Fn c.args.self.now.group k v (Ok group)) (MayAnswer g.I.Fn c.args.self.now.item) g.met.G.Ord.total
+    g.K.Ord.cmp g.met.K.Ord.total g.G.Ord.cmp (λ k v group. MayAnswer g.F.Fn c.args.self.now.group k v (Ok group)) (MayAnswer g.I.Fn c.args.self.now.item) g.met.K.PathKey.exact g.met.G.Ord.total g.met.G.PathKey.exact
     c.args.key.now.value c.args.value.now.value c.in_ok-group.group.value c.answer_at-item.result c.args.part.now c.add_item.new.sums c.in_ok-group.ensures c.answer_at-item.ensures is c.add_item.ensures.limit)
     c.add_item.ensures.entries

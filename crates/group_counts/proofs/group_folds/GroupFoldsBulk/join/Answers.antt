@@ -19,5 +19,5 @@ returns g c =
     let laws = g.met.M.Monoid in
     both_summed (g.M.Monoid.combine monoid) (g.M.Monoid.unit_of monoid) (g.M.Monoid.is_item monoid)
     (laws.associative monoid) (laws.commutative monoid) (laws.neutral monoid) (laws.closed monoid) (laws.unit_is_item monoid)
-    g.K.Ord.cmp g.met.K.Ord.total g.G.Ord.cmp (λ k v group. MayAnswer g.F.Fn c.args.self.now.group k v (Ok group)) (MayAnswer g.I.Fn c.args.self.now.item)
+    g.K.Ord.cmp g.met.K.Ord.total g.G.Ord.cmp (λ k v group. MayAnswer g.F.Fn c.args.self.now.group k v (Ok group)) (MayAnswer g.I.Fn c.args.self.now.item) g.met.K.PathKey.exact
     c.args.a.now c.args.b.now _ c.in_ok-both.ensures.each c.in_ok-both.ensures.limit c.in_ok-both.ensures.few
