@@ -4,7 +4,6 @@
 //! by a crew of threads. Each of its pairs keeps the rule of the map that it was taken of (`Keeps`).
 #![tactic(auto)]
 
-mod crew;
 mod crew_finds;
 mod crew_groups;
 mod crew_making;

@@ -12,7 +12,6 @@ mod many;
 mod together;
 mod walking;
 
-use crate::crew::within_limits;
 use crate::keys_and_values::{Keys, Values};
 use bulk_work::{Answer, Asks, ask};
 use combiner::Bulk;
@@ -234,7 +233,7 @@ impl<K: PathKey + Drop + Send + Sync, V: Drop + Send + Sync, P: Keeps<K, V>> Vie
         ensures { IfOk result (λ answer. IsAnswered (Q.answered query.now self.now) (Q.target_of query.now) answer.0 answer.1) }
     {
         let view = self.plain.try_clone()?;
-        ask_crew(rt, self.alloc, view, query, within_limits(crew))
+        ask_crew(rt, self.alloc, view, query, crew.within_limits())
     }
 
     /// The part of all pairs, worked by a crew as `par_query` works a query, for any operation on maps.
@@ -246,7 +245,7 @@ impl<K: PathKey + Drop + Send + Sync, V: Drop + Send + Sync, P: Keeps<K, V>> Vie
         requires { B.ready bulk.now }
         ensures { IfOk result (λ part. B.answers bulk.now self.now part) }
     {
-        let crew = within_limits(crew);
+        let crew = crew.within_limits();
         let report = run_crew(rt, self.alloc, &self.plain, bulk, crew, &Free)?;
         Ok(report.part)
     }

@@ -5,8 +5,8 @@ use Rattle.std.proofs.lemmas.List.{append-nil, map-append, length-map}
 use Rattle.std.proofs.lemmas.List.Elements.{All-nil, All-push}
 use Rattle.iter.specs.declared.interval.Interval.{Interval}
 use Rattle.ruled_deques.proofs.Steps.{push_at}
+use Rattle.partial_results.specs.Worked.{all_of}
 use Rattle.task_pool.specs.Asked.{EachAsked, KeepsAsked}
-use Rattle.task_pool.specs.Reports.{all_of}
 
 module _ (Asked : ℕ → Interval → Type 0) where
   pub kept_at : (p q : ℕ) (x y : List Interval) → p ≡ q → KeepsAsked Asked p x y → KeepsAsked Asked q x y

@@ -6,9 +6,9 @@ use Rattle.std.proofs.lemmas.List.Concat.{flat_map-append}
 use Rattle.iter.specs.declared.interval.Interval.{Interval}
 use Rattle.iter.specs.Intervals.{AreApart, Tile, cover, whole}
 use Rattle.ruled_deques.specs.EndsView.{given}
-use Rattle.task_pool.specs.Worked.{once}
-use Rattle.task_pool.specs.Reports.{all_of}
-use Rattle.task_pool.proofs.Covering.{cover_append, cover_cons, cover_push, once_le}
+use Rattle.iter.proofs.Tiling.{cover_append, cover_cons}
+use Rattle.partial_results.specs.Worked.{all_of, once}
+use Rattle.partial_results.proofs.Covering.{cover_push, once_le}
 use Rattle.task_pool.proofs.Halving.{Halved}
 
 -- what all lists cover is what each covers, added up
@@ -40,14 +40,6 @@ pub worked_next : (ws leftover all more rest now : List Interval) (i : Interval)
 worked_next ws leftover all more rest now i e sum is p =
     let c : cover now p ≡ once i p + cover rest p = ap (λ x. cover x p) e ∙ cover_cons i rest p in
     omega (arith, c, sum p, is p)
-
--- one list more, beside those so far
-pub apart_list : (ls ts rest : List (List Interval)) (t all : List Interval) → ts ≡ ls ++ t ∷ rest → all ≡ all_of ls → AreApart (all_of ts) → AreApart (all ++ t)
-apart_list ls ts rest t all e is apart p =
-    let split : all_of ts ≡ all_of ls ++ (t ++ all_of rest) = ap all_of e ∙ flat_map-append (λ x. x) ls (t ∷ rest) in
-    let c : cover (all_of ts) p ≡ cover (all_of ls) p + (cover t p + cover (all_of rest) p) = ap (λ x. cover x p) split ∙ (cover_append (all_of ls) (t ++ all_of rest) p ∙ ap (λ n. cover (all_of ls) p + n) (cover_append t (all_of rest) p)) in
-    let a : cover all p ≡ cover (all_of ls) p = ap (λ x. cover x p) is in
-    omega (arith, c, a, apart p, cover_append all t p)
 
 -- what the caller has worked of the rest is apart with what the workers have worked, and both tile
 pub whole_again : (ws leftover mine : List Interval) → ((p : ℕ) → cover mine p ≡ cover leftover p) → Tile (ws ++ leftover) whole → Tile (ws ++ mine) whole

@@ -1,6 +1,4 @@
 pub mod Asked
-pub mod Covering
-pub mod Partials
 pub mod Halving
 pub mod Reporting
 pub mod Places

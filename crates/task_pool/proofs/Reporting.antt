@@ -5,10 +5,10 @@ use Rattle.std.proofs.lemmas.List.Concat.{flat_map-append}
 use Rattle.trie_shape.specs.Map.{Map}
 use Rattle.iter.specs.declared.interval.Interval.{Interval}
 use Rattle.iter.specs.Intervals.{AreApart, Tile, parts, whole}
+use Rattle.partial_results.specs.Worked.{Uncut, all_of}
+use Rattle.partial_results.proofs.Covering.{all_of_push}
 use Rattle.task_pool.specs.Asked.{EachAsked}
-use Rattle.task_pool.specs.Worked.{Uncut}
-use Rattle.task_pool.specs.Reports.{IsReport, all_of}
-use Rattle.task_pool.proofs.Covering.{all_of_push}
+use Rattle.task_pool.specs.Reports.{IsReport}
 
 -- one list more
 pub listed : {X : Type 0} (f : X → List Interval) (ls ms : List X) (l : X) (all : List Interval) → ms ≡ ls ++ l ∷ [] → all_of (map f ls) ≡ all → all_of (map f ms) ≡ all ++ f l

@@ -3,11 +3,10 @@ ghost use Rattle.std.specs.Prelude.{◌≡◌, ◌<◌, [], ℕ, IfOk, Some, len
 ghost use Rattle.iter.specs.Intervals.{whole};
 ghost use Rattle.ruled_deques.specs.EndsView.{given};
 
-use crate::partial::{OfBulk, Partial};
-use crate::task::{OfView, Task};
 use crate::worker::{IdleWorker, WorkerState};
 use combiner::Bulk;
 use hash_path::PathKey;
+use partial_results::{OfBulk, OfView, Partial, Task};
 use ruled_deques::{Deques, WorkerEnds};
 use std::alloc::Global;
 use trie_node::NoMemory;

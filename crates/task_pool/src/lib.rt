@@ -7,12 +7,9 @@ mod crew;
 mod gate;
 mod gather;
 mod jobs;
-mod partial;
 mod report;
-mod runs;
 mod sequential;
 mod shared;
-mod task;
 mod threads;
 mod worker;
 

@@ -1,14 +1,13 @@
 //! The work of the caller.
 ghost use Rattle.std.specs.Prelude.{◌≡◌, ◌+◌, ◌++◌, ◌∷◌, [], ℕ, All, IfOk};
 ghost use Rattle.iter.specs.Intervals.{AreApart, cover};
-ghost use Rattle.task_pool.specs.Worked.{once};
+ghost use Rattle.partial_results.specs.Worked.{once};
 
 use crate::gate::Gate;
-use crate::partial::{OfBulk, Partial};
 use crate::shared::Shared;
-use crate::task::{OfView, Task};
 use combiner::Bulk;
 use hash_path::PathKey;
+use partial_results::{OfBulk, OfView, Partial, Task};
 use splitter::law_of_cuts;
 use trie_node::NoMemory;
 

@@ -3,12 +3,11 @@ ghost use Rattle.std.specs.Prelude.{◌≡◌, ◌<◌, ◌≤◌, ◌^◌, [], 
 ghost use Rattle.task_pool.specs.Asked.{KeepsAsked};
 
 use crate::gate::Gate;
-use crate::partial::OfBulk;
 use crate::shared::Shared;
-use crate::task::{OfView, Task};
 use crate::worker::IdleWorker;
 use combiner::Bulk;
 use hash_path::PathKey;
+use partial_results::{OfBulk, OfView, Task};
 use ruled_deques::Deques;
 use sized_threads::{Work, map_vec};
 use std::marker::PhantomData;

@@ -4,14 +4,13 @@ ghost use Rattle.iter.specs.Intervals.{cover, whole};
 ghost use Rattle.ruled_deques.specs.EndsView.{given};
 ghost use Rattle.splitter.specs.Cuts.{cut_point};
 ghost use Rattle.task_pool.specs.Asked.{KeepsAsked};
-ghost use Rattle.task_pool.specs.Worked.{once};
+ghost use Rattle.partial_results.specs.Worked.{once};
 
 use crate::gate::Gate;
-use crate::partial::{OfBulk, Partial};
 use crate::shared::Shared;
-use crate::task::{OfView, Task};
 use combiner::Bulk;
 use hash_path::PathKey;
+use partial_results::{OfBulk, OfView, Partial, Task};
 use ruled_deques::{Deques, WorkerEnds};
 use splitter::law_of_cuts;
 use std::thread;

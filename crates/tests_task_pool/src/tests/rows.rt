@@ -114,3 +114,19 @@ fn a_crew_has_at_least_one_worker_and_at_most_sixteen(rt: HostRuntime) {
         (1, 4, 16),
     );
 }
+
+// A crew beyond all limits, within them.
+#[test]
+fn a_crew_is_brought_within_its_limits(rt: HostRuntime) {
+    let beyond = Crew {
+        workers: 0,
+        grain: 65_537,
+        patience: 7,
+    };
+    let Crew {
+        workers,
+        grain,
+        patience,
+    } = beyond.within_limits();
+    assert_is(&rt, (workers, grain, patience), (1, 65_536, 7));
+}

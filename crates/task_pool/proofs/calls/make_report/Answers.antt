@@ -1,7 +1,7 @@
 use Rattle.std.proofs.Common.{◌≡◌, ◌++◌, inr, map, ap, sym, subst, ◌∙◌}
 use Rattle.std.proofs.lemmas.List.{append-nil}
 use Rattle.iter.specs.Intervals.{Tile, whole}
-use Rattle.task_pool.specs.Reports.{all_of}
+use Rattle.partial_results.specs.Worked.{all_of}
 use Rattle.std.specs.Prelude.{All}
 use Rattle.std.proofs.lemmas.List.Elements.{All-nil}
 use Rattle.task_pool.specs.Asked.{EachAsked}

@@ -1,7 +1,7 @@
 use Rattle.std.proofs.Common.{[], ◌∷◌, arith}
 use Rattle.iter.specs.Intervals.{cover, whole}
 use Rattle.task_pool.proofs.Balances.{balanced}
-use Rattle.task_pool.proofs.Covering.{cover_cons}
+use Rattle.iter.proofs.Tiling.{cover_cons}
 use Rattle.task_pool.proofs.calls.run_branded.Goals as goal
 
 pub make_report-requires-clause-tile : goal.make_report-requires-clause-tile

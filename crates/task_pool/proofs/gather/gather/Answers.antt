@@ -2,9 +2,9 @@ use Rattle.std.proofs.Common.{arith, ◌≡◌, ◌+◌, ◌<◌, length, ap, �
 use Rattle.std.specs.List.{sum_by}
 use Rattle.iter.specs.Intervals.{cover, whole}
 use Rattle.ruled_deques.specs.EndsView.{given}
-use Rattle.task_pool.specs.Worked.{once}
+use Rattle.partial_results.specs.Worked.{once}
 use Rattle.task_pool.proofs.Balances.{closed, given_later}
-use Rattle.task_pool.proofs.Covering.{cover_append}
+use Rattle.iter.proofs.Tiling.{cover_append}
 use Rattle.task_pool.proofs.Places.{sum_first}
 use Rattle.task_pool.proofs.gather.gather.Goals as goal
 
@@ -13,7 +13,7 @@ returns-clause-balance g c = λ p.
     let a = c.in_ok-ends.ensures in
     let parted = c.in_ok-ends.field-0 in
     let ends = parted.ends.items in
-    let left = parted.leftover.items in
+    let left = parted.gathered.leftover.items in
     let rest = c.in_ok-rest.rest.items in
     let len : length ends ≡ length c.args.done.items = a.len.0 in
     let some : 0 < length ends = omega (arith, len, c.requires.count.0, c.requires.count.1) in

@@ -5,7 +5,7 @@ use Rattle.iter.specs.Intervals.{cover, whole}
 use Rattle.ruled_deques.specs.EndsView.{given}
 use Rattle.ruled_deques.proofs.Steps.{places_push}
 use Rattle.std.specs.Prelude.{All}
-use Rattle.task_pool.specs.Worked.{once}
+use Rattle.partial_results.specs.Worked.{once}
 use Rattle.task_pool.proofs.Asked.{asked_push, none_asked}
 use Rattle.task_pool.proofs.Places.{first_ok, from_start, rest_ok}
 use Rattle.task_pool.proofs.gather.part_all.Goals as goal
@@ -31,8 +31,8 @@ loop-one-preserved g c =
     let rest = state.leftover.items in
     let inv = c.loop-one.invariant in
     let al : c.add.new.self.ends.items ≡ c.loop-one.parted.ends.items ++ ends ∷ [] = search rules in
-    let pr : c.add.new.self.partials.items ≡ c.loop-one.parted.partials.items ++ partial ∷ [] = search rules in
-    let lf : c.add.new.self.leftover.items ≡ c.loop-one.parted.leftover.items ++ rest = search rules in
+    let pr : c.add.new.self.gathered.partials.items ≡ c.loop-one.parted.gathered.partials.items ++ partial ∷ [] = search rules in
+    let lf : c.add.new.self.gathered.leftover.items ≡ c.loop-one.parted.gathered.leftover.items ++ rest = search rules in
     let it : into_iter_items c.loop-one.one-iterator ≡ c.in-Some.one ∷ into_iter_items c.next.new.self = search rules in
     let ll : length c.add.new.self.ends.items ≡ length c.loop-one.parted.ends.items + 1 = ap length al ∙ length-append _ _ in
     let Asked = g.G.Gate.asked c.args.gate.now in
@@ -51,10 +51,10 @@ loop-one-preserved g c =
             sum_by_push (λ e. cover (given whole e.place) p) c.loop-one.parted.ends.items ends,
             sum_by_push (λ e. cover e.taken p) c.loop-one.parted.ends.items ends,
             sum_by_push (λ e. cover e.pushed p) c.loop-one.parted.ends.items ends,
-            sum_by_push (λ t. cover t p) c.loop-one.parted.partials.items partial,
-            sum_by-append (λ x. once x p) c.loop-one.parted.leftover.items rest,
+            sum_by_push (λ t. cover t p) c.loop-one.parted.gathered.partials.items partial,
+            sum_by-append (λ x. once x p) c.loop-one.parted.gathered.leftover.items rest,
           ))),
-      (let tl : length c.add.new.self.partials.items ≡ length c.loop-one.parted.partials.items + 1 = ap length pr ∙ length-append _ _ in let h = inv.4 in omega (arith, tl, ll, h)),
+      (let tl : length c.add.new.self.gathered.partials.items ≡ length c.loop-one.parted.gathered.partials.items + 1 = ap length pr ∙ length-append _ _ in let h = inv.4 in omega (arith, tl, ll, h)),
       rest_ok (λ n w. All (Asked n) w.state.partial) _ _ _ _ _ it ll inv.5,
-      asked_push Asked c.loop-one.parted.partials.items c.add.new.self.partials.items partial pr inv.6 (subst (λ n. All (Asked n) partial) (sym inv.4) own),
+      asked_push Asked c.loop-one.parted.gathered.partials.items c.add.new.self.gathered.partials.items partial pr inv.6 (subst (λ n. All (Asked n) partial) (sym inv.4) own),
     )

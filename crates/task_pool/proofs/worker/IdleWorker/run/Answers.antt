@@ -2,7 +2,7 @@ use Rattle.std.proofs.Common.{ap, sym, subst, ◌∙◌, arith}
 use Rattle.iter.specs.Intervals.{cover, whole}
 use Rattle.ruled_deques.specs.EndsView.{given}
 use Rattle.task_pool.specs.Asked.{KeepsAsked}
-use Rattle.task_pool.specs.Worked.{once}
+use Rattle.partial_results.specs.Worked.{once}
 use Rattle.task_pool.proofs.Asked.{kept_at, kept_both}
 use Rattle.task_pool.proofs.worker.IdleWorker.run.Goals as goal
 use Rattle.task_pool.proofs.worker.IdleWorker.run.Goals.{in-Some+in_ok-state-in-Some+then-is_settled, in-Some+in_ok-state-in-Some+else-is_settled, in-None+else-failed-shared, else-loop-test, then-loop-test+then-is_stopped, then-loop-test+else-is_stopped+in-None+then-failed-shared}
