@@ -11,6 +11,7 @@ mod filled;
 mod hot_keys;
 mod made;
 mod many;
+mod many_written;
 mod once;
 mod races;
 mod ranks;

@@ -3,6 +3,7 @@ mod bounded;
 mod crews;
 mod halves;
 mod hashing;
+mod lists;
 mod memory;
 mod queries;
 mod rows;

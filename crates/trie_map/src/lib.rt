@@ -10,6 +10,7 @@ mod crew_groups;
 mod crew_making;
 mod crew_questions;
 mod origin;
+mod refused;
 mod shown;
 mod trie_map;
 
@@ -25,6 +26,7 @@ pub use keys::ByteText;
 pub use map_reader::{Reader, Readers, Since};
 pub use map_session::{PutError, Session, law_of_last_put};
 pub use map_view::{Keys, Values, View};
+pub use refused::{PutsRefused, RemovalsRefused};
 pub use stripes::{Anything, Keeps, MOST_PAIRS_OF_STRIPE};
 pub use task_pool::Crew;
 pub use top_pairs::{Ranked, Scored};

@@ -52,6 +52,9 @@ enum Ends {
     UpdateWith,
     // A put of another value, whose answer is nothing.
     Extend,
+    // Of a list, whose answer is dropped.
+    PutMany,
+    RemoveMany,
     Retain,
     ReplaceAll,
     // By a view of no pairs. What it returns has the old ones.
@@ -62,6 +65,16 @@ enum Ends {
 fn waiting(rt: &impl Abort, signs: &Arc<Signs, Global>) -> Waiting {
     let signs = Arc::try_clone(signs).expect(rt, "too many handles");
     Waiting { signs }
+}
+
+// Puts a pair by a list of one.
+fn put_all<R: AllocGlobal + Wait>(
+    rt: &R,
+    map: &Values,
+    pairs: [(ChosenKey, Waiting); 1],
+) -> Result<(), PutError> {
+    drop(map.put_many(rt, Vec::from_array(rt.alloc(), pairs)?)?);
+    Ok(())
 }
 
 // Puts a pair, and has the map let go of it.
@@ -76,6 +89,8 @@ fn put_and_end<R: AllocGlobal + Wait + Abort>(
         Ends::Clear => map.clear(rt)?,
         Ends::UpdateWith => map.update_with(rt, key(3, 0), |_| (None, ()))?,
         Ends::Extend => map.extend_from(rt, [(key(3, 0), waiting(rt, signs))])?,
+        Ends::PutMany => put_all(rt, map, [(key(3, 0), waiting(rt, signs))])?,
+        Ends::RemoveMany => drop(map.remove_many(rt, &[&key(3, 0)])?),
         Ends::Retain => drop(map.retain(rt, |_, _| false)?),
         Ends::ReplaceAll => drop(map.replace_all(rt, |_, _| waiting(rt, signs))?),
         Ends::Restore => {
@@ -127,6 +142,8 @@ fn what_a_map_lets_go_of_is_dropped_when_no_lock_is_held(rt: HostRuntime) {
         Ends::Clear,
         Ends::UpdateWith,
         Ends::Extend,
+        Ends::PutMany,
+        Ends::RemoveMany,
         Ends::Retain,
         Ends::ReplaceAll,
         Ends::Restore,

@@ -20,6 +20,8 @@ enum Calls {
     PutAndRemoveWhere,
     // Put it, replace it where it is present, and remove it.
     PutReplaceAndRemove,
+    // Put it twice by one list, and remove it twice by another.
+    PutAndRemoveMany,
     // Put a number of the thread's own, and remove the key where it still has that.
     PutOwn,
     // The same, where it is put only if the key is absent.
@@ -62,6 +64,18 @@ fn put_replace_and_remove<R: Wait>(rt: &R, map: &Map) -> PutResult {
     map.replace(rt, the_key(), 2)?;
     let removed = one_if(map.remove(rt, &the_key())?.is_some());
     Ok(added.wrapping_sub(removed))
+}
+
+fn put_and_remove_many<R: AllocGlobal + Wait>(rt: &R, map: &Map) -> PutResult {
+    let pairs = Vec::from_array(rt.alloc(), [(the_key(), 1), (the_key(), 2)])?;
+    let mut sum = 0u64;
+    for before in map.put_many(rt, pairs)? {
+        sum = sum.wrapping_add(one_if(before.is_none()));
+    }
+    for before in map.remove_many(rt, &[&the_key(), &the_key()])? {
+        sum = sum.wrapping_sub(one_if(before.is_some()));
+    }
+    Ok(sum)
 }
 
 // What this thread's numbers add to the value of the key: those that it put, less those that it replaced or removed.
@@ -118,11 +132,12 @@ fn enter<R: Wait>(rt: &R, map: &Map) -> PutResult {
     Ok(one_if(before == 0 || before > 3))
 }
 
-fn call<R: Wait>(rt: &R, map: &Map, calls: Calls, own: u64) -> PutResult {
+fn call<R: AllocGlobal + Wait>(rt: &R, map: &Map, calls: Calls, own: u64) -> PutResult {
     match calls {
         Calls::PutAndRemove => put_and_remove(rt, map),
         Calls::PutAndRemoveWhere => put_and_remove_where(rt, map),
         Calls::PutReplaceAndRemove => put_replace_and_remove(rt, map),
+        Calls::PutAndRemoveMany => put_and_remove_many(rt, map),
         Calls::PutOwn => put_own(rt, map, own),
         Calls::PutOwnIfAbsent => put_own_if_absent(rt, map, own),
         Calls::Replace => replace(rt, map),
@@ -132,7 +147,7 @@ fn call<R: Wait>(rt: &R, map: &Map, calls: Calls, own: u64) -> PutResult {
 }
 
 // The answers of all calls of the thread that has this number of its own.
-fn all_calls<R: Wait>(rt: &R, map: &Map, calls: Calls, own: u64) -> PutResult {
+fn all_calls<R: AllocGlobal + Wait>(rt: &R, map: &Map, calls: Calls, own: u64) -> PutResult {
     let mut sum = 0u64;
     for _ in 0..TIMES {
         sum = sum.wrapping_add(call(rt, map, calls, own)?);
@@ -165,6 +180,7 @@ fn what_is_added_is_removed_once(rt: HostRuntime) {
         Calls::PutAndRemove,
         Calls::PutAndRemoveWhere,
         Calls::PutReplaceAndRemove,
+        Calls::PutAndRemoveMany,
     ] {
         let map = empty(&rt);
         let left = sum_by_threads(&rt, &map, calls);

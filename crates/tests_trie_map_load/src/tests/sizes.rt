@@ -154,6 +154,23 @@ fn extended<R: Wait>(rt: &R, alloc: Global, map: &Map) -> Result<(), PutError> {
     map.extend(rt, pairs)
 }
 
+// Why a list is refused that puts a key of the full stripe, one that is new to it and one of another stripe, and how many
+// of them were put and are given back.
+fn listed<R: Wait>(
+    rt: &R,
+    alloc: Global,
+    map: &Map,
+) -> Result<Option<(PutError, [usize; 2])>, PutError> {
+    let mut pairs = Vec::new(alloc);
+    pairs.push((in_first_stripe(5), 13))?;
+    pairs.push((in_first_stripe(MOST_PAIRS_OF_STRIPE), 2))?;
+    pairs.push((key(2, 0), 3))?;
+    match map.put_many(rt, pairs) {
+        Ok(_) => Ok(None),
+        Err(refused) => Ok(Some((refused.error, [refused.put.len(), refused.rest.len()]))),
+    }
+}
+
 // Removes a key of the full stripe, and puts one that is new to it: what each is answered.
 fn made_room<R: Wait>(rt: &R, map: &Map) -> Result<[Option<u64>; 2], PutError> {
     Ok([
@@ -172,6 +189,8 @@ fn a_full_stripe(rt: HostRuntime) {
     assert_is(&rt, made_of_old(&rt, &map), Ok([8, 10, 11]));
     let extension = extended(&rt, rt.alloc(), &map);
     assert_is(&rt, extension, Err(PutError::Full));
+    let list = listed(&rt, rt.alloc(), &map);
+    assert_is(&rt, list, Ok(Some((PutError::Full, [1, 2]))));
     assert_is(&rt, map.contains_key(&rt, &key(1, 0)), true);
     assert_is(&rt, map.contains_key(&rt, &key(2, 0)), false);
     assert_is(&rt, made_room(&rt, &map), Ok([Some(9), None]));

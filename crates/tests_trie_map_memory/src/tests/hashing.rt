@@ -124,6 +124,30 @@ fn hashed_by_closures<R: Wait + Abort>(rt: &R, map: &Tallies, tally: &Tally) -> 
     counts
 }
 
+// How often keys are hashed where three pairs are put by one list, and removed by another.
+fn hashed_by_lists<R: AllocGlobal + Wait + Abort>(
+    rt: &R,
+    map: &Tallies,
+    tally: &Tally,
+) -> [u32; 2] {
+    let keys = [tally.key(rt, 7), tally.key(rt, 8), tally.key(rt, 7)];
+    let pairs = [7, 8, 7].map(|number: u64| (tally.key(rt, number), number));
+    let pairs = Vec::from_array(rt.alloc(), pairs).expect(rt, "no list");
+    tally.take();
+    assert_is(rt, map.put_many(rt, pairs).is_ok(), true);
+    let put = tally.take().0;
+    let sought = [&keys[0], &keys[1], &keys[2]];
+    assert_is(rt, map.remove_many(rt, &sought).is_ok(), true);
+    [put, tally.take().0]
+}
+
+#[test]
+fn a_list_hashes_each_key_once(rt: HostRuntime) {
+    let tally = Tally::new(&rt);
+    let map = filled(&rt, &tally);
+    assert_is(&rt, hashed_by_lists(&rt, &map, &tally), [3; 2]);
+}
+
 #[test]
 fn a_look_up_hashes_each_key_once(rt: HostRuntime) {
     let tally = Tally::new(&rt);

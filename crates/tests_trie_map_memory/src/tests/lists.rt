@@ -1,0 +1,123 @@
+//! Lists that are written with requests for memory refused.
+use super::{Map, assert_is, empty, key, put, view_of};
+use std::process::Abort;
+use std::sync::Wait;
+use test_keys::{ChosenKey, Shortage};
+use trie_map::{PutsRefused, RemovalsRefused};
+
+// How many sizes of room a list is given, and by how many bytes they differ.
+const STEPS: usize = 64;
+
+const STEP: usize = 64;
+
+// What became of a list: all, some or none of it was written.
+#[derive(Clone, Copy)]
+enum Written {
+    All,
+    Some,
+    None,
+}
+
+// What became of a list of which so many were written, before it was refused.
+fn partly(written: usize) -> Written {
+    if written == 0 {
+        Written::None
+    } else {
+        Written::Some
+    }
+}
+
+// Six pairs, in three stripes.
+fn six_pairs<R: AllocGlobal + Abort>(rt: &R) -> Vec<(ChosenKey, u64)> {
+    let mut pairs = Vec::new(rt.alloc());
+    for id in 0..6u32 {
+        pairs
+            .push((key(id % 3, id), u64::from(id)))
+            .expect(rt, "no list");
+    }
+    pairs
+}
+
+// Nothing but so many bytes is left.
+fn room<R: AllocGlobal + Abort>(rt: &R, bytes: usize) -> Shortage {
+    Shortage::with_bytes(rt.alloc(), bytes).expect(rt, "no room")
+}
+
+// What becomes of six pairs in such room. What was not put is given back, and is put once there is room.
+fn put_in_room<R: AllocGlobal + Wait + Abort>(rt: &R, bytes: usize) -> Written {
+    let map = empty(rt);
+    let pairs = six_pairs(rt);
+    let shortage = room(rt, bytes);
+    let answer = map.put_many(rt, pairs);
+    drop(shortage);
+    let Err(refused) = answer else {
+        assert_is(rt, map.len(rt), 6);
+        return Written::All;
+    };
+    let PutsRefused { put, rest, .. } = refused;
+    assert_is(
+        rt,
+        (map.len(rt), rest.len()),
+        (put.len() as u64, 6usize.wrapping_sub(put.len())),
+    );
+    assert_is(rt, map.put_many(rt, rest).is_ok(), true);
+    assert_is(rt, map.len(rt), 6);
+    partly(put.len())
+}
+
+// A map of six pairs, of which a view is kept: removals copy nodes.
+fn six<R: AllocGlobal + Wait + Abort>(rt: &R) -> Map {
+    let map = empty(rt);
+    for id in 0..6 {
+        put(rt, &map, key(id % 3, id), u64::from(id));
+    }
+    map
+}
+
+// What becomes of the removal of six keys in such room.
+fn remove_in_room<R: AllocGlobal + Wait + Abort>(rt: &R, bytes: usize) -> Written {
+    let map = six(rt);
+    let view = view_of(rt, &map);
+    let keys = [0u32, 1, 2, 3, 4, 5].map(|id| key(id % 3, id));
+    let sought = [&keys[0], &keys[1], &keys[2], &keys[3], &keys[4], &keys[5]];
+    let shortage = room(rt, bytes);
+    let answer = map.remove_many(rt, &sought);
+    drop(shortage);
+    drop(view);
+    let Err(refused) = answer else {
+        assert_is(rt, map.len(rt), 0);
+        return Written::All;
+    };
+    let RemovalsRefused { removed } = refused;
+    assert_is(rt, map.len(rt), 6u64.wrapping_sub(removed.len() as u64));
+    partly(removed.len())
+}
+
+// How often a list was written whole, in part and not at all.
+fn tallied<R: AllocGlobal + Wait + Abort>(rt: &R, removals: bool) -> [u32; 3] {
+    let mut tally = [0u32; 3];
+    for step in 0..STEPS {
+        let bytes = step.wrapping_mul(STEP);
+        let written = if removals {
+            remove_in_room(rt, bytes)
+        } else {
+            put_in_room(rt, bytes)
+        };
+        let place = match written {
+            Written::All => 0usize,
+            Written::Some => 1,
+            Written::None => 2,
+        };
+        tally[place] = tally[place].wrapping_add(1);
+    }
+    tally
+}
+
+// The room grows, so that each request is the first that is refused.
+#[test]
+fn a_list_is_parted_where_it_is_refused(rt: HostRuntime) {
+    for removals in [false, true] {
+        let tally = tallied(&rt, removals);
+        assert_is(&rt, tally.map(|times| times > 0), [true; 3]);
+    }
+}
