@@ -9,6 +9,7 @@ mod drops;
 mod equality;
 mod filled;
 mod hot_keys;
+mod let_go;
 mod made;
 mod many;
 mod many_written;
@@ -24,6 +25,7 @@ mod sessions;
 mod sets;
 mod texts;
 mod together;
+mod two_readers;
 mod updates;
 mod walks;
 
