@@ -3,7 +3,10 @@ ghost use Rattle.std.specs.Prelude.{◌<◌};
 
 use hash_path::Path;
 use std::alloc::Global;
+use stripes::STRIPES;
 use trie_node::NoMemory;
+
+const DIGITS: usize = STRIPES as usize;
 
 // No list has such a place.
 const NONE: usize = usize::MAX;
@@ -12,7 +15,7 @@ const NONE: usize = usize::MAX;
 #[derive(Drop)]
 pub(crate) struct Order {
     next: Vec<usize>,
-    last: [usize; 32],
+    last: [usize; DIGITS],
 }
 
 impl Order {
@@ -20,7 +23,7 @@ impl Order {
     pub(crate) fn with_room(alloc: Global, count: usize) -> Result<Order, NoMemory> {
         Ok(Order {
             next: Vec::with_capacity(alloc, count)?,
-            last: [NONE; 32],
+            last: [NONE; DIGITS],
         })
     }
 
