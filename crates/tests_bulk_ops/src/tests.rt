@@ -217,7 +217,10 @@ fn joined<K: PathKey + Drop, V: Drop, B: Bulk<K, V>>(
     let (lower, upper) = two_of(rt, alloc, view);
     let below = part_of(rt, alloc, &lower, bulk);
     let above = part_of(rt, alloc, &upper, bulk);
-    bulk.join(alloc, &below, &above).expect(rt, "no join")
+    drop((lower, upper));
+    let both = bulk.join(alloc, &below, &above).expect(rt, "no join");
+    drop((below, above));
+    both
 }
 
 // An answer or a part, as plain values: of a map, how many pairs it has and what it has at the three keys; of a pair

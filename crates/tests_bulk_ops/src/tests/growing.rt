@@ -45,8 +45,12 @@ fn joined_by_root<K: PathKey + Drop, V: Drop, B: Bulk<K, V>>(
 {
     let (lower, upper) = two_of(rt, alloc, view);
     let begun = part_of(rt, alloc, &lower, bulk);
+    drop(lower);
     let root = upper.root().expect(rt, "no root");
-    match bulk.join_root(alloc, begun, &root).expect(rt, "no part") {
+    drop(upper);
+    let joined = bulk.join_root(alloc, begun, &root).expect(rt, "no part");
+    drop(root);
+    match joined {
         Ok(part) => (part, true),
         Err(part) => (part, false),
     }

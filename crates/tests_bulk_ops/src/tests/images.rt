@@ -311,17 +311,32 @@ fn made_with(
     work(alloc, piece, &query)
 }
 
+// What their images have with `given` blocks of memory, if they are made.
+fn seen_with(
+    rt: &impl Abort,
+    alloc: Global,
+    piece: &Piece<ByteText, i64>,
+    given: usize,
+) -> Option<Seen> {
+    let made = made_with(rt, alloc, piece, given);
+    let seen = seen_if_made(rt, alloc, &made);
+    drop(made);
+    seen
+}
+
 #[test]
 fn images_are_refused_until_there_is_memory(rt: HostRuntime) {
     let alloc = rt.alloc();
     let piece = whole(alloc, first(&rt, alloc, 3));
+    let mut made = None;
     for given in 0..MOST_GIVEN {
-        let contents = seen_if_made(&rt, alloc, &made_with(&rt, alloc, &piece, given));
-        if let Some(contents) = contents {
-            return assert!(rt; given > 0 && is_of_initials(contents));
+        if made.is_none() {
+            made = seen_with(&rt, alloc, &piece, given);
+            assert!(rt; given > 0 || made.is_none());
         }
     }
-    assert!(rt; false, "images are refused with memory to spare");
+    drop(piece);
+    assert!(rt; matches!(made, Some(contents) if is_of_initials(contents)));
 }
 
 // A key and its value, shared.
@@ -402,7 +417,12 @@ fn joined_of_two(rt: &impl Abort, alloc: Global, given: usize) -> Option<Seen> {
     let taken = take_all_but(rt, alloc, given);
     let both = query.join(alloc, &left, &right);
     drop(taken);
-    seen_if_made(rt, alloc, &both)
+    drop((left, right));
+    drop((first, one));
+    drop((second, three));
+    let seen = seen_if_made(rt, alloc, &both);
+    drop(both);
+    seen
 }
 
 #[test]
