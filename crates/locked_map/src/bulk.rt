@@ -62,7 +62,10 @@ where
         };
         match self.finish(rt, seat, ticket, part) {
             Ok(answer) => Ok(answer),
-            Err((refusal, ticket, _)) => Err((refusal, Some(ticket))),
+            Err((refusal, ticket, part)) => {
+                drop(part);
+                Err((refusal, Some(ticket)))
+            }
         }
     }
 }

@@ -183,14 +183,47 @@ where
     ensures seats { IfOk result (λ r. All (λ e. e.seat < vec_len clients) r.1.journal) }
     ensures each { IfOk result (λ r. (k : ℕ) (c : C) (o : C.Out) → k < vec_len clients → (seat : _) × C.gives (slice_index_or clients.items k c) seat (slice_index_or r.0.items k o) × BearsOut k seat r.1.journal r.1.table) }
 {
-    let map = SharedMap::<K, V, Q, J>::new(alloc, entries, limits)?;
-    let jobs = seated::<K, V, Q, J, C>(alloc, clients)?;
-    let ended = run_all(rt, &map, jobs)?;
-    let (outs, seats) = parted(alloc, ended)?;
+    let Ok(map) = SharedMap::<K, V, Q, J>::new(alloc, entries, limits) else {
+        drop(clients);
+        return Err(NoJournal::NoMemory);
+    };
+    let Ok((outs, seats)) = run_seated(rt, &map, clients) else {
+        drop(map);
+        return Err(NoJournal::NoMemory);
+    };
     let Ok(closed) = closed_under(map, limits, seats) else {
+        drop(outs);
         return Err(NoJournal::Torn);
     };
     Ok((outs, closed))
+}
+
+// Each client by a thread of its own, with the seat of its number.
+fn run_seated<K, V, Q, J, C, R>(
+    rt: &R,
+    map: &SharedMap<K, V, Q, J>,
+    clients: Vec<C>,
+) -> Result<(Vec<C::Out>, Vec<Seat<K, V, Q, J>>), NoMemory>
+where
+    K: PathKey + Drop + Send + Sync,
+    V: Eq + Drop + Send + Sync,
+    Q: Asks<K, V> + Drop + Send + Sync,
+    Q::Item: Drop + Send + Sync,
+    Q::Part: Drop + Send + Sync,
+    J: JournalName + Send + Sync,
+    C: Client<K, V, Q> + Drop + Send + Sync,
+    C::Out: Drop + Send,
+    R: Threads + Wait + Sync,
+    requires seats { vec_len clients ≤ MOST_SEATS }
+    requires needs { All C.needs clients.items }
+    ensures outs { IfOk result (λ r. vec_len r.0 ≡ vec_len clients) }
+    ensures seats { IfOk result (λ r. vec_len r.1 ≡ vec_len clients) }
+    ensures each { IfOk result (λ r. (k : ℕ) (c : C) (o : C.Out) (s : _) → k < vec_len clients → C.gives (slice_index_or clients.items k c) (slice_index_or r.1.items k s) (slice_index_or r.0.items k o)) }
+{
+    let jobs = seated::<K, V, Q, J, C>(map.alloc, clients)?;
+    let ended = run_all(rt, map, jobs)?;
+    let (outs, seats) = parted(map.alloc, ended)?;
+    Ok((outs, seats))
 }
 
 // Each client with the seat of its number.
@@ -211,7 +244,10 @@ where
     let mut jobs = Vec::new(alloc);
     let mut number = 0;
     for client in clients {
-        jobs.push(with_seat(alloc, client, number))?;
+        let Ok(()) = jobs.push(with_seat(alloc, client, number)) else {
+            drop(jobs);
+            return Err(NoMemory);
+        };
         number += 1;
     }
     Ok(jobs)
@@ -330,8 +366,11 @@ where
     let mut seats = Vec::new(alloc);
     for one in ended {
         let Ended { out, seat } = one;
-        outs.push(out)?;
-        seats.push(seat)?;
+        let (put, seated) = (outs.push(out), seats.push(seat));
+        let (Ok(()), Ok(())) = (put, seated) else {
+            drop((outs, seats));
+            return Err(NoMemory);
+        };
     }
     Ok((outs, seats))
 }

@@ -9,6 +9,7 @@ use journal::Journal;
 /// <!-- quoted from crates/locked_map/src/clients.rt -->
 /// ```rust
 /// let Ok(closed) = closed_under(map, limits, seats) else {
+///     drop(outs);
 ///     return Err(NoJournal::Torn);
 /// };
 /// ```

@@ -116,9 +116,11 @@ where
     ensures back { IfErr result (λ e. e.1 ≡ user) }
 {
     let Ok(mut seats) = fresh_seats(alloc, seats) else {
+        drop(entries);
         return Err((NoMemory, user));
     };
     let Ok(map) = SharedMap::<K, V, Q, J>::new(alloc, entries, limits) else {
+        drop(seats);
         return Err((NoMemory, user));
     };
     let out = user.run(rt, alloc, &map, &mut seats);
@@ -141,6 +143,7 @@ where
     let closed = map.close(seats)?;
     // A lock's type says nothing of the limits of what lies under it, so they are looked at here.
     if closed.table.limits() != limits {
+        drop(closed);
         return Err(Torn);
     }
     Ok(closed)
@@ -159,7 +162,10 @@ where
     let mut seats = Vec::with_capacity(alloc, count as usize)?;
     let mut number = 0;
     while number < count {
-        seats.push(Seat::new(alloc, number))?;
+        let Ok(()) = seats.push(Seat::new(alloc, number)) else {
+            drop(seats);
+            return Err(NoMemory);
+        };
         number += 1;
     }
     Ok(seats)

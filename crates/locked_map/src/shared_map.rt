@@ -151,10 +151,14 @@ impl<K: PathKey + Drop, V: Eq + Drop, Q: Asks<K, V> + Drop, J: JournalName> Shar
                         token: opener,
                         room: PhantomData,
                     }),
-                    Err(refusal) => Err(refusal),
+                    Err(refusal) => {
+                        drop((kept, opener));
+                        Err(refusal)
+                    }
                 }
             }
             Err(refusal) => {
+                drop(kept);
                 seat.mark(refusal, None);
                 Err(refusal)
             }
@@ -182,6 +186,7 @@ impl<K: PathKey + Drop, V: Eq + Drop, Q: Asks<K, V> + Drop, J: JournalName> Shar
             .abandon(rt, &self.entries, caller, ticket.job, &ticket.token);
         match made {
             Ok(event) => {
+                drop(ticket);
                 file(&mut seat.list, &mut seat.floor, event);
                 Ok(())
             }
@@ -217,7 +222,10 @@ impl<K: PathKey + Drop, V: Eq + Drop, Q: Asks<K, V> + Drop, J: JournalName> Shar
             .lock(rt)
             .finish(rt, &self.entries, caller, ticket.job, &ticket.token, part);
         match made {
-            Ok(event) => Ok(file(&mut seat.list, &mut seat.floor, event)),
+            Ok(event) => {
+                drop(ticket);
+                Ok(file(&mut seat.list, &mut seat.floor, event))
+            }
             Err((refusal, part)) => {
                 seat.mark(refusal, Some(ticket.job));
                 Err((refusal, ticket, part))
@@ -254,11 +262,14 @@ impl<K: PathKey + Drop, V: Eq + Drop, Q: Asks<K, V> + Drop, J: JournalName> Shar
         } = self;
         let (table, tokens) = table.into_inner().into_parts();
         if !are_borne_out(&entries, &tokens, &table, &seats) {
+            drop((entries, tokens, table, seats));
             return Err(Torn);
         }
         if !are_of_seats(&entries, &tokens, seats.len()) || !are_all(&entries, &tokens, &seats) {
+            drop((entries, tokens, table, seats));
             return Err(Torn);
         }
+        drop(seats);
         Ok(Closed {
             table,
             journal: Journal::new(entries, tokens),

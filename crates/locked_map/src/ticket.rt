@@ -15,7 +15,10 @@ use versions::View;
 /// ```rust
 /// match self.finish(rt, seat, ticket, part) {
 ///     Ok(answer) => Ok(answer),
-///     Err((refusal, ticket, _)) => Err((refusal, Some(ticket))),
+///     Err((refusal, ticket, part)) => {
+///         drop(part);
+///         Err((refusal, Some(ticket)))
+///     }
 /// }
 /// ```
 ///
