@@ -5,16 +5,14 @@ ghost use Rattle.std.specs.Arc.{arc_value};
 ghost use Rattle.std.specs.Fmt.{decimal};
 ghost use Rattle.handles.specs.Machine.{abandon, finish, freeze, view};
 ghost use Rattle.handles.specs.Machine as machine;
-ghost use Rattle.handles.specs.Views.{frozen_outcome, lacks_memory, outcome_of, request_of, unit_outcome, view_outcome};
-ghost use Rattle.journal.specs.Answers.{answered, asked_of};
+ghost use Rattle.handles.specs.Views.{asked_of, frozen_outcome, lacks_memory, outcome_of, request_of, unit_outcome, view_outcome};
+ghost use Rattle.journal.specs.Answers.{answered};
 ghost use Rattle.audit.specs.Answers.{Answers, IsReplyTo, IsShownAs, IsTextOf, NoneAnswers, is_want};
 
 use crate::reply_parts::part_in_reply;
-use handles::{Call, CallReply, Table, is_entry};
-use journal::Asked;
-use journal_text::ProgramAsked;
+use handles::{Call, CallReply, Request, Table, is_entry};
 use keys::ByteText;
-use questions::{ScriptQuery, listing_of, reply_shown};
+use questions::{ScriptQuery, ScriptRequest, listing_of, reply_shown};
 use script::{LineReply, push_reply};
 use std::alloc::Global;
 use std::sync::Arc;
@@ -32,17 +30,17 @@ pub type ProgramTable = Table<ByteText, i64, ScriptQuery>;
 pub fn judge(
     alloc: Global,
     table: &mut ProgramTable,
-    asked: ProgramAsked,
+    asked: ScriptRequest,
     reply: &[u8],
 ) -> Result<bool, NoMemory>
     ensures { IfOk result (λ yes. MatchBool yes (Answers table.old (asked_of asked) reply.now table.new) (NoneAnswers table.old (asked_of asked) reply.now)) }
 {
     match asked {
-        Asked::Call(call) => served(alloc, table, call, reply),
-        Asked::View(handle) => viewed(alloc, table, handle, reply),
-        Asked::Freeze(handle, query) => frozen(alloc, table, handle, query, reply),
-        Asked::Finish(job) => finished(alloc, table, job, reply),
-        Asked::Abandon(job) => abandoned(alloc, table, job, reply),
+        Request::Call(call) => served(alloc, table, call, reply),
+        Request::View(handle) => viewed(alloc, table, handle, reply),
+        Request::Freeze(handle, query) => frozen(alloc, table, handle, query, reply),
+        Request::Finish(job) => finished(alloc, table, job, reply),
+        Request::Abandon(job) => abandoned(alloc, table, job, reply),
     }
 }
 

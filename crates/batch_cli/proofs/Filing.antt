@@ -160,6 +160,11 @@ pub answered_at_once : {E : Type 0} (s t : ProgramSeat) (statement : Statement) 
     → IfOk result (λ reply. FilesReply s request reply t) → IfOk result (λ reply. FilesAnswer s statement reply t)
 answered_at_once s t statement request result asked other served = answered_as_served s t statement request result asked other (served_at_once s t request result served)
 
+-- a statement that is no getorelse has none
+pub not_or_else : (statement : Statement) → ((handle : ℕ) (key : List ℕ) (value : ℤ) → statement ≡ GetOrElse handle key value → ⊥) → None ≡ or_else_in statement
+not_or_else (GetOrElse handle key value) other = absurd (other handle key value refl)
+not_or_else statement other = refl
+
 -- the statement is a getorelse of these
 is_or_else : (statement : Statement) (handle : ℕ) (key : List ℕ) (value : ℤ) → Some (handle, key, value) ≡ or_else_in statement → GetOrElse handle key value ≡ statement
 is_or_else (GetOrElse h k v) handle key value is = let asked : ℕ × List ℕ × ℤ = (handle, key, value) in let stands : ℕ × List ℕ × ℤ = (h, k, v) in let same : asked ≡ stands = cc in (λ i. GetOrElse (same i).0 (same i).1 (same i).2)

@@ -1,17 +1,17 @@
 //! The events of statements: what a client asks of the map for each, and what is returned.
 
-ghost use Rattle.std.specs.Prelude.{◌≡◌, IfOk, OnErr, OnOk, Some, false, true};
+ghost use Rattle.std.specs.Prelude.{◌≡◌, IfOk, None, OnErr, OnOk, Some, false, true};
 ghost use Rattle.std.specs.Arc.{arc_value};
-ghost use Rattle.handles.specs.Machine.{freeze, is_entry, view};
-ghost use Rattle.handles.specs.Views.{is_counted, outcome_of, request_of};
+ghost use Rattle.handles.specs.Machine.{freeze, is_entry, job_of, view};
+ghost use Rattle.handles.specs.Views.{asked_of, is_counted, outcome_of, request_of};
 ghost use Rattle.questions.specs.Program.{reply_to};
 ghost use Rattle.batch_cli.specs.CommandLine.{AreInRange};
 ghost use Rattle.batch_cli.specs.Filing.{FilesAnswer, FilesOrElse, FilesReply, FilesService};
 
-use handles::{Call, CallReply, is_entry};
+use handles::{Call, CallReply, Request, is_entry};
 use keys::ByteText;
 use locked_map::{JournalName, Seat, SharedMap};
-use questions::{Ask, ScriptQuery, ask_of, listing_of, reply_shown, reply_to_answer};
+use questions::{ScriptQuery, ScriptRequest, listing_of, reply_shown, reply_to_answer, request_of};
 use script::{LineReply, Statement};
 use std::alloc::Global;
 use std::sync::{Arc, Wait};
@@ -37,11 +37,35 @@ pub fn answer<J: JournalName, R: Threads + Wait + Sync>(
     requires crew { AreInRange crew.workers crew.grain }
     ensures { IfOk result (λ reply. FilesAnswer seat.old statement.now reply seat.new) }
 {
-    match ask_of(alloc, statement)? {
-        Ask::Call(call) => served(rt, map, seat, call),
-        Ask::View(handle) => listed(rt, alloc, map, seat, handle),
-        Ask::Job(handle, query) => worked(rt, alloc, map, seat, crew, handle, query),
-        Ask::GetOrElse(handle, key, value) => found_or_stored(rt, map, seat, handle, key, value),
+    match statement {
+        Statement::GetOrElse { handle, key, value } => {
+            found_or_stored(rt, map, seat, *handle, key.text()?, *value)
+        }
+        _ => {
+            let request = request_of(alloc, statement)?;
+            requested(rt, alloc, map, seat, crew, request)
+        }
+    }
+}
+
+/// Makes the events of the request, and returns the reply that shows the outcome of the last one.
+fn requested<J: JournalName, R: Threads + Wait + Sync>(
+    rt: &R,
+    alloc: Global,
+    map: &ProgramMap<J>,
+    seat: &mut ProgramSeat<J>,
+    crew: Crew,
+    request: ScriptRequest,
+) -> Result<LineReply, NoMemory>
+    requires crew { AreInRange crew.workers crew.grain }
+    requires no_job { job_of (asked_of request) ≡ None }
+    ensures { IfOk result (λ reply. FilesService seat.old (asked_of request) reply seat.new) }
+{
+    match request {
+        Request::Call(call) => served(rt, map, seat, call),
+        Request::View(handle) => listed(rt, alloc, map, seat, handle),
+        Request::Freeze(handle, query) => worked(rt, map, seat, crew, handle, query),
+        Request::Finish(_) | Request::Abandon(_) => unreachable!(),
     }
 }
 
@@ -55,7 +79,9 @@ fn served<J: JournalName, R: Wait>(
     ensures { IfOk result (λ reply. FilesReply seat.old (request_of call) reply seat.new) }
 {
     let answer = map.call(rt, seat, call);
-    reply_of(&answer)
+    let reply = reply_of(&answer);
+    drop(answer);
+    reply
 }
 
 /// Views the map of the handle, and gives the reply that lists its pairs.
@@ -80,19 +106,21 @@ fn listed<J: JournalName, R: Wait>(
 /// A ticket comes back with `NoMemory`, which ends the run. Its job stays open.
 fn worked<J: JournalName, R: Threads + Wait + Sync>(
     rt: &R,
-    alloc: Global,
     map: &ProgramMap<J>,
     seat: &mut ProgramSeat<J>,
     crew: Crew,
     handle: u32,
-    query: ScriptQuery,
+    query: Arc<ScriptQuery>,
 ) -> Result<LineReply, NoMemory>
     requires crew { AreInRange crew.workers crew.grain }
-    ensures { IfOk result (λ reply. FilesService seat.old (freeze handle query) reply seat.new) }
+    ensures { IfOk result (λ reply. FilesService seat.old (freeze handle (arc_value query)) reply seat.new) }
 {
-    match map.bulk(rt, seat, handle, Arc::new(alloc, query)?, crew, &Free) {
+    match map.bulk(rt, seat, handle, query, crew, &Free) {
         Ok(answer) => Ok(reply_to_answer(answer)),
-        Err((refusal, _)) => refused(refusal),
+        Err((refusal, ticket)) => {
+            drop(ticket);
+            refused(refusal)
+        }
     }
 }
 

@@ -7,7 +7,7 @@ use std::rt::Runtime;
 use std::sync::{Arc, Wait};
 use std::thread::Threads;
 use tambyulo_clients::{
-    Asked, ByteText, Call, CallReply, Closed, Command, Limits, NoQuery, Reply, Response,
+    ByteText, Call, CallReply, Closed, Command, Limits, NoQuery, Outcome, Reply, Request,
     with_clients,
 };
 
@@ -80,11 +80,11 @@ fn added_before_view(closed: &Closing, seat: u32) -> u64 {
         let Some(entry) = closed.journal.entry(place) else {
             return added;
         };
-        match (entry.asked(), entry.response()) {
-            (Asked::View(_), _) if entry.seat() == seat => return added,
+        match (entry.request(), entry.outcome()) {
+            (Request::View(_), _) if entry.seat() == seat => return added,
             (
-                Asked::Call(Call::On(_, Command::PutIfAbsent(_, _))),
-                Response::Reply(CallReply::Reply(Reply::Old(None))),
+                Request::Call(Call::On(_, Command::PutIfAbsent(_, _))),
+                Outcome::Reply(CallReply::Reply(Reply::Old(None))),
             ) => added = added.wrapping_add(1),
             _ => (),
         }

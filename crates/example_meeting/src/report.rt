@@ -5,7 +5,7 @@ use crate::meeting::met;
 use std::rt::Runtime;
 use std::sync::{Arc, Wait};
 use std::thread::Threads;
-use tambyulo_clients::{Asked, Call, CallReply, Command, Reply, Response};
+use tambyulo_clients::{Call, CallReply, Command, Outcome, Reply, Request};
 
 /// The key that the two seats speak of, and the value that the first gives it.
 const KEY: u64 = 7;
@@ -21,11 +21,11 @@ pub fn report<R: Runtime + AllocGlobal + Threads + Wait + Sync>(rt: &R) -> Resul
             return Ok(());
         };
         let seat = entry.seat();
-        match (entry.asked(), entry.response()) {
-            (Asked::Call(Call::On(_, Command::Put(_, value))), _) => {
+        match (entry.request(), entry.outcome()) {
+            (Request::Call(Call::On(_, Command::Put(_, value))), _) => {
                 rt.println(format_args!("seat {seat} put {value} at place {place}"))?;
             }
-            (Asked::Call(_), Response::Reply(CallReply::Reply(Reply::Old(Some(value))))) => {
+            (Request::Call(_), Outcome::Reply(CallReply::Reply(Reply::Old(Some(value))))) => {
                 rt.println(format_args!("seat {seat} got {value} at place {place}"))?;
             }
             _ => (),

@@ -1,12 +1,14 @@
 -- What follows of a request that is refused, or is not.
-use Rattle.std.proofs.Common.{◌≡◌, ℕ, ◌≤◌, Bool, true, false, not, cond, ◌&&◌, ◌||◌, refl, sym, ap, subst, arith, Option, Some, None}
+use Rattle.std.proofs.Common.{◌≡◌, ℕ, ◌≤◌, Bool, true, false, not, cond, ◌&&◌, ◌||◌, ◌∙◌, refl, sym, ap, subst, arith, Option, Some, None}
 use Rattle.std.specs.Prelude.{is_some, nat_lt}
 use Rattle.std.proofs.lemmas.Bool.Decides.{nat_tests}
+use Rattle.versions.specs.Commands.{Command}
 use Rattle.versions.specs.declared.refusal.Refusal.{Refusal}
-use Rattle.versions.specs.declared.refusal.Refusal.TheVariants.{JournalFull, BadNumber, NoJob}
-use Rattle.handles.specs.Machine.{Kind, State, Request, freeze, finish, refusal, is_bad, is_entry, lacks_place, needs_room, room, job_at}
+use Rattle.versions.specs.declared.refusal.Refusal.TheVariants.{JournalFull, BadNumber, NoHandle, NoJob, Full}
+use Rattle.held_maps.specs.declared.limits.TheConstants.{LAST_HANDLE}
+use Rattle.handles.specs.Machine.{Kind, State, Request, on, freeze, finish, refusal, is_bad, is_entry, lacks_place, needs_room, room, job_at, map_at}
 use Rattle.handles.specs.Jobs.{IsPlace}
-use Rattle.handles.specs.Views.{requested}
+use Rattle.handles.specs.Views.{IsFullAlone, requested}
 use Rattle.handles.specs.declared.request_ref.RequestRef.{RequestRef}
 use Rattle.handles.specs.declared.request_ref.RequestRef.TheVariants as requests
 
@@ -32,6 +34,11 @@ other_is : (a b : Bool) → a ≡ true → (a && b) ≡ false → b ≡ false
 other_is true b is e = e
 other_is false b is e = absurd (cc)
 
+no_journal_full : (b full : Bool) (rest : Option Refusal) → cond b (Some JournalFull) rest ≡ cond full (Some Full) None → b ≡ false
+no_journal_full true true rest e = absurd (cc)
+no_journal_full true false rest e = absurd (cc)
+no_journal_full false full rest e = refl
+
 is_place : (o : Option ℕ) → is_bad o ≡ false → IsPlace o
 is_place None e = tt
 is_place (Some to) e = let le : to ≤ 1023 = not_below 1023 to e in omega arith
@@ -54,6 +61,18 @@ module _ {K V Q A B : Type 0} (kind : Kind K V Q A B) where
   -- so has one that is refused, where that is an entry
   pub entry_has_room : (s : State K V Q) (r : Request K V Q) (e : Refusal) → needs_room r ≡ true → refusal kind s r ≡ Some e → is_entry e ≡ true → 2 ≤ room s
   entry_has_room s r e needs is entry = not_below (room s) 2 (other_is (needs_room r) (nat_lt (room s) 2) needs (full_is_no_entry _ _ e is entry))
+
+  -- a command on a live handle, for which there is room, is refused as `Full` alone
+  pub live_is_full_alone : (s : State K V Q) (h : ℕ) (c : Command K V) → nat_lt (room s) 2 ≡ false → nat_lt LAST_HANDLE h ≡ false → is_some (map_at s h) ≡ true → IsFullAlone kind s h c
+  live_is_full_alone s h c free place live = λ i. cond (free i) (Some JournalFull) (cond (place i || false) (Some BadNumber) (cond (not (live i)) (Some NoHandle) (cond (lacks_place kind s (on h c)) (Some Full) None)))
+
+  -- a command that is not refused is not refused as `Full`
+  pub full_alone : (s : State K V Q) (h : ℕ) (c : Command K V) → refusal kind s (on h c) ≡ None → IsFullAlone kind s h c
+  full_alone s h c none = none ∙ sym (none_first _ NoHandle _ (none_first _ BadNumber _ (none_first _ JournalFull _ none).1).1).1
+
+  -- a command that is refused as `Full` alone, if at all, has room
+  pub full_alone_has_room : (s : State K V Q) (h : ℕ) (c : Command K V) → IsFullAlone kind s h c → 2 ≤ room s
+  full_alone_has_room s h c alone = not_below (room s) 2 (no_journal_full _ _ _ alone)
 
   -- the target of a freeze that is not refused is the number of a place
   pub freeze_has_place : (s : State K V Q) (h : ℕ) (q : Q) → refusal kind s (freeze h q) ≡ None → IsPlace (kind.target q)

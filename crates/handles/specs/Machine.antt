@@ -1,5 +1,5 @@
 -- The machine of handles: its states, its step as a relation, and its runs.
-use Rattle.std.specs.Prelude.{◌≡◌, ℕ, ◌+◌, ◌-◌, Bool, true, false, not, ◌&&◌, ◌||◌, ◌==◌, nat_lt, List, [], ◌∷◌, ◌++◌, length, Option, Some, None, is_some, unwrap_or, if◌then◌else◌}
+use Rattle.std.specs.Prelude.{◌≡◌, ℕ, ◌+◌, ◌-◌, Bool, true, false, not, ◌&&◌, ◌||◌, ◌==◌, nat_le, nat_lt, List, [], ◌∷◌, ◌++◌, length, Option, Some, None, is_some, unwrap_or, if◌then◌else◌}
 use Rattle.std.specs.declared.cmp.Ordering.{Ordering}
 use Rattle.std.specs.Ordering.{nat_cmp}
 use Rattle.std.specs.List.{list_any}
@@ -9,6 +9,7 @@ use Rattle.versions.specs.declared.refusal.Refusal.{Refusal}
 use Rattle.versions.specs.declared.refusal.Refusal.TheVariants.{NoHandle, Taken, Full, NoJob, Unfinished, TooManyJobs, JournalFull, NoMemory, BadNumber}
 use Rattle.held_maps.specs.declared.limits.TheConstants.{LAST_HANDLE}
 use Rattle.handles.specs.declared.limits.Limits.{Limits}
+use Rattle.handles.specs.declared.limits.TheConstants.{MOST_JOBS}
 
 -- an open job: its query, and the map that its freeze recorded
 pub record Job (K V Q : Type 0) : Type 0 where
@@ -191,7 +192,7 @@ module _ {K V Q A B : Type 0} (kind : Kind K V Q A B) where
       ∷ (is_not_live s (source r), NoHandle)
       ∷ (is_unknown_job s (job_of r), NoJob)
       ∷ (is_taken s (wanted r), Taken)
-      ∷ (is_freeze r && nat_lt 63 (length s.jobs), TooManyJobs)
+      ∷ (is_freeze r && nat_le MOST_JOBS (length s.jobs), TooManyJobs)
       ∷ (lacks_place s r, Full)
       ∷ []
 

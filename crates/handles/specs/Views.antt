@@ -1,9 +1,11 @@
 -- How the table's calls and their answers appear to the machine.
-use Rattle.std.specs.Prelude.{◌≡◌, ℕ, ⊤, Bool, List, Option, Some, None, Result, Ok, Err, map, true, false}
+use Rattle.std.specs.Prelude.{◌≡◌, ℕ, ⊤, Bool, List, Option, Some, None, Result, Ok, Err, map, true, false, if◌then◌else◌}
+use Rattle.std.specs.Arc.{arc_value}
 use Rattle.std.specs.declared.cmp.Ordering.{Ordering}
+use Rattle.versions.specs.Commands.{Command}
 use Rattle.versions.specs.Map.{Map}
 use Rattle.versions.specs.declared.refusal.Refusal.{Refusal}
-use Rattle.versions.specs.declared.refusal.Refusal.TheVariants.{NoMemory}
+use Rattle.versions.specs.declared.refusal.Refusal.TheVariants.{Full, NoMemory}
 use Rattle.bulk_work.specs.Answers as plain
 use Rattle.bulk_work.specs.Summaries.{summary_of}
 use Rattle.bulk_work.specs.declared.asks.Answer.{Answer}
@@ -11,11 +13,15 @@ pub use Rattle.held_maps.specs.Commands.{IsPathFor, command_of, lacks_memory, le
 use Rattle.held_maps.specs.declared.reply.Reply.{Reply}
 use Rattle.handles.specs.declared.call.Call.{Call}
 use Rattle.handles.specs.declared.call.Call.TheVariants.{Open, Snapshot, Drop, On}
+use Rattle.handles.specs.declared.outcome.Outcome as told
+use Rattle.handles.specs.declared.outcome.Outcome.TheVariants as tells
+use Rattle.handles.specs.declared.request.Request as asking
+use Rattle.handles.specs.declared.request.Request.TheVariants as asks
 use Rattle.handles.specs.declared.request_ref.RequestRef.{RequestRef}
 use Rattle.handles.specs.declared.request_ref.RequestRef.TheVariants as requests
 use Rattle.handles.specs.declared.call_reply.CallReply.{CallReply}
 use Rattle.handles.specs.declared.call_reply.CallReply.TheVariants as call_replies
-use Rattle.handles.specs.Machine.{Kind, State, Request, open_handle, snapshot, drop_handle, on, view, freeze, finish, abandon, takes_no_memory, Outcome, Step, made, replied, viewed, frozen, finished, refused, refusal, is_entry}
+use Rattle.handles.specs.Machine.{Kind, State, Request, open_handle, snapshot, drop_handle, on, view, freeze, finish, abandon, takes_no_memory, Outcome, Step, made, replied, viewed, frozen, finished, refused, refusal, is_entry, lacks_place}
 
 -- the machine of a table, whose queries reserve these targets and have these answers
 abbrev pub machine : {K V Q I : Type 0} → (K → K → Ordering) → (V → V → Bool) → (Q → Option ℕ) → (Q → Map K V → plain.Answer K V I → Type 0) → Kind K V Q (plain.Answer K V I) (plain.Summary K V I)
@@ -53,6 +59,14 @@ abbrev pub IsPathOf : {K V : Type 0} → (K → ℕ) → Call K V → ℕ → Ty
 IsPathOf path_of (On h c) w = IsPathFor path_of (command_of c) w
 IsPathOf path_of call w = ⊤
 
+-- the request that is asked, wherever its key, values and query lie
+abbrev pub asked_of : {K V Q : Type 0} → asking.Request K V Q → Request K V Q
+asked_of (asks.Call c) = request_of c
+asked_of (asks.View h) = view h
+asked_of (asks.Freeze h q) = freeze h (arc_value q)
+asked_of (asks.Finish j) = finish j
+asked_of (asks.Abandon j) = abandon j
+
 -- the request whose refusal is asked for
 abbrev pub requested : {K V Q : Type 0} → RequestRef Q → Request K V Q
 requested (requests.Open h) = open_handle h
@@ -67,6 +81,15 @@ requested (requests.Abandon j) = abandon j
 abbrev pub call_outcome : {K V B : Type 0} → CallReply V → Outcome K V B
 call_outcome call_replies.Unit = made
 call_outcome (call_replies.Reply y) = replied (reply_of y)
+
+-- the outcome that is returned, wherever its values lie
+abbrev pub told_of : {K V I : Type 0} → told.Outcome K V I → Outcome K V (plain.Summary K V I)
+told_of (tells.Reply y) = call_outcome y
+told_of (tells.View m) = viewed m
+told_of (tells.Frozen j m) = frozen j m
+told_of (tells.Answer a) = finished (summary_of a)
+told_of tells.Abandoned = made
+told_of (tells.Refused e) = refused e
 
 -- the outcome of a call with this result
 abbrev pub outcome_of : {K V B : Type 0} → Result (CallReply V) Refusal → Outcome K V B
@@ -91,6 +114,11 @@ outcomes_of answers = map outcome_of answers
 abbrev pub is_counted : {T : Type 0} → Result T Refusal → Bool
 is_counted (Ok x) = true
 is_counted (Err e) = is_entry e
+
+module _ {K V Q A B : Type 0} (kind : Kind K V Q A B) where
+  -- a command on the handle is refused as `Full` where it lacks a place, and for no other reason
+  abbrev pub IsFullAlone : State K V Q → ℕ → Command K V → Type 0
+  IsFullAlone s h c = refusal kind s (on h c) ≡ (if lacks_place kind s (on h c) then Some Full else None)
 
 module _ {K V Q A B T : Type 0} (kind : Kind K V Q A B) where
   -- a call is a step of the machine, with the outcome that its result shows; if memory runs out it changes nothing

@@ -6,15 +6,13 @@ ghost use Rattle.handles.specs.Jobs.{Opened, job_of};
 ghost use Rattle.handles.specs.Machine.{is_number};
 ghost use Rattle.versions.specs.Map.{value_at, with_pair, without};
 
+use crate::limits::MOST_JOBS;
 use bulk_work::Asks;
 use hash_path::PathKey;
 use std::alloc::Global;
 use std::marker::Model;
 use std::sync::Arc;
 use versions::{NoMemory, View};
-
-/// How many jobs may be open.
-pub const MOST_JOBS: usize = 64;
 
 /// An open job: its number, its query, and the map that its freeze recorded.
 #[derive(Drop)]
@@ -37,7 +35,7 @@ pub struct Jobs<K: PathKey, V, Q> {
 impl<K: PathKey, V, Q> Model for Jobs<K, V, Q> {
     ghost use Rattle.std.specs.Prelude.{◌≤◌, vec_capacity, vec_len};
     ghost use Rattle.handles.specs.Jobs.{AllBelow, Opened, jobs_of};
-    ghost use Rattle.handles.specs.declared.jobs.TheConstants.{MOST_JOBS};
+    ghost use Rattle.handles.specs.declared.limits.TheConstants.{MOST_JOBS};
 
     ghost Value = { Opened K V Q };
 

@@ -13,6 +13,8 @@ mod jobs;
 mod laws;
 mod limits;
 mod no_query;
+mod outcome;
+mod request;
 mod request_ref;
 mod table;
 
@@ -26,4 +28,6 @@ pub use laws::{
 };
 pub use limits::{Limits, MOST_ENTRIES};
 pub use no_query::NoQuery;
+pub use outcome::Outcome;
+pub use request::Request;
 pub use table::Table;

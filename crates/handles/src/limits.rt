@@ -3,6 +3,9 @@
 /// The most entries that a journal may be limited to.
 pub const MOST_ENTRIES: u32 = 1_048_576;
 
+/// How many jobs may be open.
+pub const MOST_JOBS: usize = 64;
+
 /// How much a table may hold.
 ///
 /// <!-- quoted from crates/example_registry/src/tables.rt -->

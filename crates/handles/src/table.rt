@@ -205,12 +205,12 @@ impl<K: PathKey + Drop, V: Eq + Drop, Q: Asks<K, V> + Drop> Table<K, V, Q> {
         ensures memory { AnswersWithoutMemory (machine K.cmp V.eq Q.target_of Q.answered) (on handle (command_of command)) result }
         ensures due { IsDue (machine K.cmp V.eq Q.target_of Q.answered) self.old (on handle (command_of command)) result }
     {
-        let path = command.path();
-        if let Err(refusal) = self.version_for(handle, &command, path) {
+        if let Err(refusal) = self.version_for(handle) {
             drop(command);
             return counted(&mut self.entries, Err(refusal));
         }
-        self.call_granted(alloc, handle, command, path)
+        let path = command.path();
+        self.call_live(alloc, handle, command, path)
     }
 
     /// Closes the handle: it is not live then.

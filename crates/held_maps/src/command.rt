@@ -67,22 +67,6 @@ impl<K: PathKey + Drop, V: Eq + Drop> Command<K, V> {
         }
     }
 
-    /// Whether the command, whose key has this path word, would put a new key into a map that holds as many pairs as it
-    /// may. The key is looked up only where the map is full.
-    ///
-    /// Cost: O(1), no lock; O(log n) where the map is full. Refused: never.
-    pub fn lacks_place(&self, path: Path, version: &Version<K, V>) -> bool
-        requires path { IsPathFor K.path_of (command_of self.now) path.0 }
-        ensures { result ≡ is_full K.cmp version.now.limit version.now.entries (command_of self.now) }
-    {
-        match self {
-            Command::Put(key, _) | Command::PutIfAbsent(key, _) => {
-                version.len() == version.limit() && version.get_along(key, path).is_none()
-            }
-            _ => false,
-        }
-    }
-
     /// Makes the command, whose key has this path word, on a map, by one walk.
     ///
     /// It is refused as `Full` where it would put a new key into a map that holds as many pairs as it may, and as

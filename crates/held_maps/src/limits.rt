@@ -4,4 +4,4 @@
 pub const HANDLES: usize = 1024;
 
 /// The last handle number.
-pub const LAST_HANDLE: u32 = 1023;
+pub const LAST_HANDLE: u32 = HANDLES as u32 - 1;

@@ -11,38 +11,38 @@ use Rattle.std.specs.declared.cmp.PartialOrd as PartialOrd
 use Rattle.hash_path.specs.declared.key.PathKey as PathKey
 use Rattle.bulk_work.specs.declared.asks.Asks as Asks
 use Rattle.combiner.specs.declared.bulk.Bulk as Bulk
+use Rattle.handles.specs.contracts.request.Request as Request
+use Rattle.handles.specs.contracts.outcome.Outcome as Outcome
 use Rattle.handles.specs.contracts.table.Table as Table
 use Rattle.journal.specs.declared.journal_name.JournalName as JournalName
-use Rattle.journal.specs.contracts.asked.Asked as Asked
-use Rattle.journal.specs.contracts.response.Response as Response
 use Rattle.journal.specs.contracts.entry.Entry as Entry
 use Rattle.journal.specs.contracts.entry.Entry.TheInside as Inside
 use Rattle.journal.specs.contracts.journaled_table.JournaledTable as JournaledTable
-use Rattle.journal.proofs.asked.Asked.TheSendSync as asked
+use Rattle.handles.proofs.request.Request.TheSendSync as requests
 
 module _ (K V Q I : RattleType) (key : PathKey.Ghosts K.Denot) (order : Ord.Ghosts K.Denot) (keq : PartialEq.Ghosts K.Denot) (kord : PartialOrd.Ghosts K.Denot) where
-  response_send : IsSend K → IsSync K → IsSend V → IsSync V → IsSend I → IsSync I → IsSend (Response.the_field K V I key order keq kord).row
-  response_send ks ky vs vy is iy = search (sendable, heap.crosses, maps.view_send) depth 30
+  outcome_send : IsSend K → IsSync K → IsSend V → IsSync V → IsSend I → IsSync I → IsSend (Outcome.the_field K V I key order keq kord).row
+  outcome_send ks ky vs vy is iy = search (sendable, heap.crosses, maps.view_send) depth 30
 
-  response_sync : IsSend K → IsSync K → IsSend V → IsSync V → IsSend I → IsSync I → IsSync (Response.the_field K V I key order keq kord).row
-  response_sync ks ky vs vy is iy = search (sendable, heap.crosses, maps.view_sync) depth 30
+  outcome_sync : IsSend K → IsSync K → IsSend V → IsSync V → IsSend I → IsSync I → IsSync (Outcome.the_field K V I key order keq kord).row
+  outcome_sync ks ky vs vy is iy = search (sendable, heap.crosses, maps.view_sync) depth 30
 
-  asked_send : IsSend K → IsSync K → IsSend V → IsSync V → IsSend Q → IsSync Q → IsSend (Asked.the_field K V Q).row
-  asked_send ks ky vs vy qs qy = search (heap.crosses, asked.the_field_send) depth 20
+  request_send : IsSend K → IsSync K → IsSend V → IsSync V → IsSend Q → IsSync Q → IsSend (Request.the_field K V Q).row
+  request_send ks ky vs vy qs qy = search (heap.crosses, requests.the_field_send) depth 20
 
-  asked_sync : IsSend K → IsSync K → IsSend V → IsSync V → IsSend Q → IsSync Q → IsSync (Asked.the_field K V Q).row
-  asked_sync ks ky vs vy qs qy = search (heap.crosses, asked.the_field_sync) depth 20
+  request_sync : IsSend K → IsSync K → IsSend V → IsSync V → IsSend Q → IsSync Q → IsSync (Request.the_field K V Q).row
+  request_sync ks ky vs vy qs qy = search (heap.crosses, requests.the_field_sync) depth 20
 
   pub entry_send : IsSend K → IsSync K → IsSend V → IsSync V → IsSend Q → IsSync Q → IsSend I → IsSync I → IsSend (Entry.the_row K V Q I key order keq kord)
   entry_send ks ky vs vy qs qy is iy =
       let T = Inside.the_type K V Q I key order keq kord in
-      let fields : AllSend (Declared.fields T) = (search sendable, (asked_send ks ky vs vy qs qy, (response_send ks ky vs vy is iy, tt))) in
+      let fields : AllSend (Declared.fields T) = (search sendable, (request_send ks ky vs vy qs qy, (outcome_send ks ky vs vy is iy, tt))) in
       view_send _ _ _ _ _ (recorded_send _ _ _ T.to_one (struct_send (Declared.shape T) fields))
 
   pub entry_sync : IsSend K → IsSync K → IsSend V → IsSync V → IsSend Q → IsSync Q → IsSend I → IsSync I → IsSync (Entry.the_row K V Q I key order keq kord)
   entry_sync ks ky vs vy qs qy is iy =
       let T = Inside.the_type K V Q I key order keq kord in
-      let fields : AllSync (Declared.fields T) = (search sendable, (asked_sync ks ky vs vy qs qy, (response_sync ks ky vs vy is iy, tt))) in
+      let fields : AllSync (Declared.fields T) = (search sendable, (request_sync ks ky vs vy qs qy, (outcome_sync ks ky vs vy is iy, tt))) in
       view_sync _ _ _ _ _ (recorded_sync _ _ _ T.to_one (struct_sync (Declared.shape T) fields))
 
 module _ (K V Q J I P : RattleType) (key : PathKey.Ghosts K.Denot) (order : Ord.Ghosts K.Denot) (keq : PartialEq.Ghosts K.Denot) (kord : PartialOrd.Ghosts K.Denot) (veq : PartialEq.Ghosts V.Denot) (asks : Asks.Ghosts Q.Denot K.Denot V.Denot I.Denot P.Denot) (bulk : Bulk.Ghosts Q.Denot K.Denot V.Denot P.Denot) (room : JournalName.Ghosts J.Denot) where

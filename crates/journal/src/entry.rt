@@ -1,9 +1,8 @@
 //! The entries of a journal.
 ghost use Rattle.std.specs.Prelude.{◌≡◌};
-ghost use Rattle.journal.specs.Answers.{asked_of, response_outcome};
+ghost use Rattle.handles.specs.Views.{asked_of, told_of};
 
-use crate::asked::Asked;
-use crate::response::Response;
+use handles::{Outcome, Request};
 use hash_path::PathKey;
 use std::marker::Model;
 
@@ -14,39 +13,39 @@ use std::marker::Model;
 /// let Some(entry) = closed.journal.entry(place) else {
 ///     return added;
 /// };
-/// match (entry.asked(), entry.response()) {
-///     (Asked::View(_), _) if entry.seat() == seat => return added,
+/// match (entry.request(), entry.outcome()) {
+///     (Request::View(_), _) if entry.seat() == seat => return added,
 /// ```
 #[derive(Drop)]
 pub struct Entry<K: PathKey, V, Q, I> {
     seat: u32,
-    asked: Asked<K, V, Q>,
-    response: Response<K, V, I>,
+    request: Request<K, V, Q>,
+    outcome: Outcome<K, V, I>,
 }
 
 impl<K: PathKey, V, Q, I> Model for Entry<K, V, Q, I> {
     ghost use Rattle.bulk_work.specs.Answers as plain;
-    ghost use Rattle.journal.specs.Answers.{asked_of, response_outcome};
+    ghost use Rattle.handles.specs.Views.{asked_of, told_of};
     ghost use Rattle.journal.specs.Journals.{Entered};
 
     ghost Value = { Entered K V Q (plain.Summary K V I) };
 
-    ghost view = { λ e. record { seat = e.seat; request = asked_of e.asked; outcome = response_outcome e.response } };
+    ghost view = { λ e. record { seat = e.seat; request = asked_of e.request; outcome = told_of e.outcome } };
 }
 
 impl<K: PathKey, V, Q, I> Entry<K, V, Q, I> {
     /// The entry of a seat that asked this, with what was returned.
     pub(crate) fn new(
         seat: u32,
-        asked: Asked<K, V, Q>,
-        response: Response<K, V, I>,
+        request: Request<K, V, Q>,
+        outcome: Outcome<K, V, I>,
     ) -> Entry<K, V, Q, I>
-        ensures { result ≡ record { seat = seat; request = asked_of asked; outcome = response_outcome response } }
+        ensures { result ≡ record { seat = seat; request = asked_of request; outcome = told_of outcome } }
     {
         Entry {
             seat,
-            asked,
-            response,
+            request,
+            outcome,
         }
     }
 
@@ -62,18 +61,18 @@ impl<K: PathKey, V, Q, I> Entry<K, V, Q, I> {
     /// What the seat asked.
     ///
     /// Cost: O(1), no lock. Refused: never.
-    pub fn asked(&self) -> &Asked<K, V, Q>
+    pub fn request(&self) -> &Request<K, V, Q>
         ensures { asked_of result.now ≡ self.now.request }
     {
-        &self.asked
+        &self.request
     }
 
     /// What was returned to the seat.
     ///
     /// Cost: O(1), no lock. Refused: never.
-    pub fn response(&self) -> &Response<K, V, I>
-        ensures { response_outcome result.now ≡ self.now.outcome }
+    pub fn outcome(&self) -> &Outcome<K, V, I>
+        ensures { told_of result.now ≡ self.now.outcome }
     {
-        &self.response
+        &self.outcome
     }
 }

@@ -3,18 +3,17 @@ ghost use Rattle.std.specs.Prelude.{◌≡◌, ◌<◌, Err, IfErr, IfOk, IsTrue
 ghost use Rattle.boxcar.specs.Table.{Shows};
 ghost use Rattle.bulk_work.specs.Answers as plain;
 ghost use Rattle.handles.specs.Machine.{Job, finish, finished, freeze, is_entry, job_at, view};
-ghost use Rattle.handles.specs.Views.{call_outcome, frozen_outcome, is_counted, request_of, view_outcome};
-ghost use Rattle.journal.specs.Answers.{answered, asked_of, response_outcome};
+ghost use Rattle.handles.specs.Views.{asked_of, call_outcome, frozen_outcome, is_counted, request_of, told_of, view_outcome};
+ghost use Rattle.journal.specs.Answers.{answered};
 ghost use Rattle.journal.specs.Tokens.{entry_at};
 
-use crate::asked::Asked;
 use crate::caller::Caller;
 use crate::entry::Entry;
 use crate::frozen::Frozen;
 use crate::journal_name::{Entries, Token};
-use crate::response::{Response, response_to_call, response_to_freeze, response_to_view};
+use crate::outcomes::{outcome_of_call, outcome_of_freeze, outcome_of_view};
 use bulk_work::Asks;
-use handles::{Call, CallReply, Table, is_entry};
+use handles::{Call, CallReply, Outcome, Request, Table, is_entry};
 use hash_path::PathKey;
 use std::sync::{Arc, Wait};
 use versions::{NoMemory, Refusal, View};
@@ -62,14 +61,14 @@ pub(crate) fn entered<K: PathKey + Drop, V: Drop, Q: Drop, I: Drop, R: Wait>(
     entries: &Entries<K, V, Q, I>,
     journal: &mut Vec<Token<K, V, Q, I>>,
     caller: Caller,
-    asked: Asked<K, V, Q>,
-    told: Response<K, V, I>,
+    asked: Request<K, V, Q>,
+    told: Outcome<K, V, I>,
 ) -> Result<Twice<K, V, Q, I>, NoMemory>
     ensures room { OnOk result (IsTrue caller.has_room) }
     ensures spare { OnOk result (vec_len journal.new < vec_capacity journal.new) }
     ensures items { journal.new.items ≡ journal.old.items }
     ensures shown { IfOk result (λ r. Shows entries.now r.0) }
-    ensures entry { IfOk result (λ r. entry_at r.0 ≡ record { seat = caller.seat; request = asked_of asked; outcome = response_outcome told }) }
+    ensures entry { IfOk result (λ r. entry_at r.0 ≡ record { seat = caller.seat; request = asked_of asked; outcome = told_of told }) }
     ensures same { IfOk result (λ r. r.1 ≡ r.0) }
 {
     let Ok(()) = caller.room() else {
@@ -111,12 +110,12 @@ pub(crate) fn entered_call<K: PathKey + Drop, V: Drop, Q: Drop, I: Drop, R: Wait
     ensures entry { IfOk result (λ r. entry_at r.0 ≡ record { seat = caller.seat; request = request_of call.now; outcome = answered call_outcome answer.now }) }
     ensures same { IfOk result (λ r. r.1 ≡ r.0) }
 {
-    let told = response_to_call(answer)?;
+    let told = outcome_of_call(answer)?;
     let Ok(copy) = call.try_clone::<Q>() else {
         drop(told);
         return Err(NoMemory);
     };
-    entered(rt, entries, journal, caller, Asked::Call(copy), told)
+    entered(rt, entries, journal, caller, Request::Call(copy), told)
 }
 
 /// Places the entry of a view that returns this, and gives its token twice, with room for one in the journal.
@@ -135,8 +134,8 @@ pub(crate) fn entered_view<K: PathKey + Drop, V: Drop, Q: Drop, I: Drop, R: Wait
     ensures entry { IfOk result (λ r. entry_at r.0 ≡ record { seat = caller.seat; request = view handle; outcome = answered view_outcome answer.now }) }
     ensures same { IfOk result (λ r. r.1 ≡ r.0) }
 {
-    let told = response_to_view(answer)?;
-    entered(rt, entries, journal, caller, Asked::View(handle), told)
+    let told = outcome_of_view(answer)?;
+    entered(rt, entries, journal, caller, Request::View(handle), told)
 }
 
 /// Places the entry of a freeze that returns this, and gives its token twice, with room for one in the journal and
@@ -162,7 +161,7 @@ pub(crate) fn entered_freeze<K: PathKey + Drop, V: Drop, Q: Drop, I: Drop, R: Wa
 {
     freezes.reserve(1)?;
     let query = Arc::try_clone(query)?;
-    let Ok(told) = response_to_freeze(answer) else {
+    let Ok(told) = outcome_of_freeze(answer) else {
         drop(query);
         return Err(NoMemory);
     };
@@ -171,7 +170,7 @@ pub(crate) fn entered_freeze<K: PathKey + Drop, V: Drop, Q: Drop, I: Drop, R: Wa
         entries,
         journal,
         caller,
-        Asked::Freeze(handle, query),
+        Request::Freeze(handle, query),
         told,
     )
 }
@@ -198,6 +197,6 @@ pub(crate) fn entered_finish<K: PathKey + Drop, V: Eq + Drop, Q: Asks<K, V> + Dr
     let Ok(answer) = table.foresee_finish(job, part) else {
         return Err(NoMemory);
     };
-    let (asked, told) = (Asked::Finish(job), Response::Answer(answer));
+    let (asked, told) = (Request::Finish(job), Outcome::Answer(answer));
     entered(rt, entries, journal, caller, asked, told)
 }

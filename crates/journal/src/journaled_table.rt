@@ -12,14 +12,12 @@ ghost use Rattle.journal.specs.Tokens.{AllShown, entries_of};
 
 mod filed_calls;
 
-use crate::asked::Asked;
 use crate::caller::Caller;
 use crate::filing::{Event, Opened, entered, entered_finish, to_be_filed};
 use crate::frozen::{Frozen, beside, close};
 use crate::journal_name::{Entries, JournalName, Token};
-use crate::response::Response;
 use bulk_work::{Answer, Asks};
-use handles::{Call, CallReply, Limits, MOST_ENTRIES, Table};
+use handles::{Call, CallReply, Limits, MOST_ENTRIES, Outcome, Request, Table};
 use hash_path::PathKey;
 use std::alloc::Global;
 use std::marker::{Model, PhantomData};
@@ -194,7 +192,7 @@ impl<K: PathKey + Drop, V: Eq + Drop, Q: Asks<K, V> + Drop, J: JournalName> Jour
         if !self.was_opened_by(entries, job, opener) {
             return Err(Refusal::NoJob);
         }
-        let (asked, told) = (Asked::Abandon(job), Response::Abandoned);
+        let (asked, told) = (Request::Abandon(job), Outcome::Abandoned);
         let place = self.journal.len() as u64;
         let journal = &mut self.journal;
         let (token, mine) = entered(rt, entries, journal, caller, asked, told)?;

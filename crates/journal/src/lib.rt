@@ -6,7 +6,6 @@
 //! tokens, and whoever asked keeps a token of each of its entries.
 #![tactic(auto)]
 
-mod asked;
 mod caller;
 mod entry;
 mod filing;
@@ -14,13 +13,11 @@ mod frozen;
 mod journal;
 mod journal_name;
 mod journaled_table;
-mod response;
+mod outcomes;
 
-pub use asked::Asked;
 pub use caller::Caller;
 pub use entry::Entry;
 pub use filing::{Event, Opened};
 pub use journal::Journal;
 pub use journal_name::{Entries, JournalName, Token};
 pub use journaled_table::JournaledTable;
-pub use response::Response;

@@ -9,19 +9,15 @@ use Rattle.std.proofs.lemmas.Bool.Decides.{Decides-eqb}
 use Rattle.std.proofs.lemmas.List.{take-append-drop}
 use Rattle.std.proofs.Math.Seq.{take-append_seam}
 use Rattle.keys.specs.Order.{bytes_eq}
-use Rattle.versions.specs.Commands.{get, put, put_if_absent, replace, replace_if, remove, remove_if, size, clear}
-use Rattle.handles.specs.Machine.{open_handle, snapshot, drop_handle, on, view, freeze, finish, abandon, worker_step, is_freeze}
-use Rattle.handles.specs.declared.call.Call.TheVariants as calls
+use Rattle.handles.specs.Machine.{open_handle, snapshot, drop_handle, on, view, freeze, finish, abandon, worker_step}
 use Rattle.script.specs.Lines.{fields_of}
 use Rattle.script.specs.Statements.{words_of, IsLawful}
 use Rattle.script.specs.declared.statement.Statement.{Statement}
 use Rattle.script.specs.declared.statement.Statement.TheVariants.{Open, Drop, GetOrElse, Pairs}
 use Rattle.script.proofs.WordLemmas.{same_statement}
-use Rattle.questions.specs.declared.ask.Ask.{Ask}
-use Rattle.questions.specs.declared.ask.Ask.TheVariants as asks
-use Rattle.questions.specs.Program.{ProgramRequest, asked, or_else_asked, or_else_in, question_statement, request_for}
+use Rattle.questions.specs.Program.{ProgramRequest, question_statement, request_for}
 use Rattle.journal_text.specs.Calls.{IsLawfulRequest, call_text}
-use Rattle.journal_text.specs.Hearing.{IsHeard, IsUnheard, IsNoCall, is_call, asks_call, asks_job}
+use Rattle.journal_text.specs.Hearing.{IsHeard, IsUnheard, IsNoCall, is_call}
 use Rattle.journal_text.proofs.WordLemmas.{IsWord, literal_word, split_word}
 use Rattle.journal_text.proofs.CallLemmas.{Said, plain, behind_freeze, seen, ended, dropped, said, first_word, words_said, IsLawfulSaid, words_are, lawful_said, heard, heard_said, no_verb, head_of, is_first, same_said, split_call, same_request}
 use Rattle.journal_text.proofs.FieldLemmas.{fields_said, fields_call}
@@ -109,36 +105,6 @@ heard_call text s heard m fields is = record {
   only = λ r l e. (request_is r s l m (words_heard text r l e ∙ fields)).1 ∙ sym is;
 }
 
-abbrev or_else_said : Said → Option (ℕ × List ℕ × ℤ)
-or_else_said (plain s) = or_else_in s
-or_else_said a = None
-
-no_or_else : (r : ProgramRequest) → or_else_said (said r) ≡ None
-no_or_else (on h (get k)) = refl
-no_or_else (on h (put k v)) = refl
-no_or_else (on h (put_if_absent k v)) = refl
-no_or_else (on h (replace k v)) = refl
-no_or_else (on h (replace_if k was v)) = refl
-no_or_else (on h (remove k)) = refl
-no_or_else (on h (remove_if k v)) = refl
-no_or_else (on h size) = refl
-no_or_else (on h clear) = refl
-no_or_else r = refl
-
-call_asked : (ask : Ask) → is_call (asked ask) ≡ true → or_else_asked ask ≡ None → asks_call ask ≡ true
-call_asked (asks.Call c) is none = refl
-call_asked (asks.View h) is none = cc
-call_asked (asks.Job h q) is none = cc
-call_asked (asks.GetOrElse h k v) is none = cc
-
-pub unheard_call : (text : List ℕ) (s : Statement) (ask : Ask) → IsLawful s → fields_of text ≡ words_of s → asked ask ≡ request_for s → or_else_asked ask ≡ or_else_in s → asks_call ask ≡ false → IsNoCall text
-unheard_call text s ask m fields is other never r l call e =
-    let p = request_is r s l m (words_heard text r l e ∙ fields) in
-    let none : or_else_asked ask ≡ None = other ∙ ap or_else_said (sym p.0) ∙ no_or_else r in
-    let there : is_call (asked ask) ≡ true = ap is_call (is ∙ sym p.1) ∙ call in
-    let bad : true ≡ false = sym (call_asked ask there none) ∙ never in
-    cc
-
 plain_call : (r : ProgramRequest) → is_call r ≡ true → (s : Statement) × (said r ≡ plain s)
 plain_call (open_handle h) is = (_, refl)
 plain_call (snapshot h to) is = (_, refl)
@@ -173,26 +139,6 @@ heard_freeze question s heard m fields is = record {
   only = λ r l e. (question_is question s r m fields l e).1 ∙ sym is;
 }
 
-freezes : (r : ProgramRequest) (s : Statement) → said r ≡ behind_freeze s → is_freeze r ≡ true
-freezes (freeze h q) s e = refl
-freezes r s e = cc
-
-job_asked : (ask : Ask) → is_freeze (asked ask) ≡ true → asks_job ask ≡ true
-job_asked (asks.Job h q) is = refl
-job_asked (asks.Call (calls.Open h)) is = cc
-job_asked (asks.Call (calls.Snapshot h to)) is = cc
-job_asked (asks.Call (calls.Drop h)) is = cc
-job_asked (asks.Call (calls.On h c)) is = cc
-job_asked (asks.View h) is = cc
-job_asked (asks.GetOrElse h k v) is = cc
-
-pub unheard_question : (question : List ℕ) (s : Statement) (ask : Ask) → IsLawful s → fields_of question ≡ words_of s → asked ask ≡ request_for s → asks_job ask ≡ false → IsUnheard (codes "freeze " ++ question)
-unheard_question question s ask m fields is never r l e =
-    let p = question_is question s r m fields l e in
-    let there : is_freeze (asked ask) ≡ true = ap is_freeze (is ∙ sym p.1) ∙ freezes r s p.0 in
-    let bad : true ≡ false = sym (job_asked ask there) ∙ never in
-    cc
-
 pub unheard_freeze : (question : List ℕ) → ((s : Statement) → IsLawful s → fields_of question ≡ words_of s → ⊥) → IsUnheard (codes "freeze " ++ question)
 unheard_freeze question none r l e = let p = behind question r l e in none p.0 p.1 p.3
 
@@ -213,16 +159,6 @@ no_statement text found e h = none_of _ (λ s. IsLawful s × (fields_of text ≡
 
 pub a_statement : (text : List ℕ) (found : Option Statement) (s : Statement) → found ≡ Some s → IsStatementOf text found → IsLawful s × (fields_of text ≡ words_of s)
 a_statement text found s e h = some_of ((s : Statement) → IsLawful s → fields_of text ≡ words_of s → ⊥) _ found s e h
-
-pub call_read : {A : Type 0} (of : A → ProgramRequest) (read : Option A) (text : List ℕ) (s : Statement) (ask : Ask) → IsLawful s × (fields_of text ≡ words_of s) → asked ask ≡ request_for s → or_else_asked ask ≡ or_else_in s
-    → MatchOption read (asks_call ask ≡ false) (λ a. of a ≡ asked ask) → MatchOption read (IsNoCall text) (λ a. IsHeard text (of a))
-call_read of None text s ask l is other never = unheard_call text s ask l.0 l.1 is other never
-call_read of (Some a) text s ask l is other same = heard_call text s (of a) l.0 l.1 (same ∙ is)
-
-pub freeze_read : {A : Type 0} (of : A → ProgramRequest) (read : Option A) (question : List ℕ) (s : Statement) (ask : Ask) → IsLawful s × (fields_of question ≡ words_of s) → asked ask ≡ request_for s
-    → MatchOption read (asks_job ask ≡ false) (λ a. of a ≡ asked ask) → MatchOption read (IsUnheard (codes "freeze " ++ question)) (λ a. IsHeard (codes "freeze " ++ question) (of a))
-freeze_read of None question s ask l is never = unheard_question question s ask l.0 l.1 is never
-freeze_read of (Some a) question s ask l is same = heard_freeze question s (of a) l.0 l.1 (same ∙ is)
 
 -- a number that is one, or is none
 pub a_number : (text : List ℕ) (found : Option ℕ) (n : ℕ) → found ≡ Some n → MatchOption found ((n : ℕ) → n < 2 ^ 32 → text ≢ decimal n) (λ n. text ≡ decimal n) → text ≡ decimal n

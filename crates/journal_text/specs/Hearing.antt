@@ -1,8 +1,6 @@
 -- What is read of the text of a call, where any number of spaces may stand between its words.
 use Rattle.std.specs.Prelude.{◌≡◌, Bool, true, false, ℕ, List}
 use Rattle.handles.specs.Machine.{open_handle, snapshot, drop_handle, on}
-use Rattle.questions.specs.declared.ask.Ask.{Ask}
-use Rattle.questions.specs.declared.ask.Ask.TheVariants as asks
 use Rattle.questions.specs.Program.{ProgramRequest}
 use Rattle.journal_text.specs.Calls.{IsLawfulRequest, call_text}
 
@@ -26,13 +24,3 @@ is_call r = false
 -- the text is that of no lawful call on handles
 abbrev pub IsNoCall : List ℕ → Type 0
 IsNoCall text = (r : ProgramRequest) → IsLawfulRequest r → is_call r ≡ true → text ≡ call_text r → ⊥
-
--- whether what a statement asks is a call on handles
-abbrev pub asks_call : Ask → Bool
-asks_call (asks.Call call) = true
-asks_call ask = false
-
--- whether it is a query of a map
-abbrev pub asks_job : Ask → Bool
-asks_job (asks.Job handle question) = true
-asks_job ask = false

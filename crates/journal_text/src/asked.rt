@@ -1,18 +1,17 @@
 //! What a text asks.
 
 ghost use Rattle.std.specs.Prelude.{◌≡◌, ◌≢◌, ◌++◌, IfOk, List, MatchOption, codes, false, ℕ};
-ghost use Rattle.journal.specs.Answers.{asked_of};
-ghost use Rattle.questions.specs.Program.{ProgramRequest, asked};
+ghost use Rattle.handles.specs.Views.{asked_of};
+ghost use Rattle.questions.specs.Program.{ProgramRequest};
 ghost use Rattle.journal_text.specs.Calls.{IsLawfulRequest, call_text};
-ghost use Rattle.journal_text.specs.Hearing.{IsHeard, IsNoCall, IsUnheard, asks_call, asks_job};
+ghost use Rattle.journal_text.specs.Hearing.{IsHeard, IsNoCall, IsUnheard};
 
-use crate::call::{ProgramAsked, push_call};
+use crate::call::push_call;
 use arguments::number_of;
-use journal::Asked;
-use questions::{Ask, ask_of};
+use handles::Request;
+use questions::{ScriptRequest, request_of};
 use script::statement_in;
-use std::alloc::{AllocError, Global};
-use std::sync::Arc;
+use std::alloc::Global;
 use versions::NoMemory;
 
 /// What the text asks, if it asks something: the text is the one spelling of that.
@@ -21,7 +20,7 @@ use versions::NoMemory;
 ///
 /// Memory was refused.
 #[tactic(auto, using(crate::proofs::HeardLemmas::is_spelled, crate::proofs::HeardLemmas::not_spelled))]
-pub fn asked_in(alloc: Global, text: &[u8]) -> Result<Option<ProgramAsked>, NoMemory>
+pub fn asked_in(alloc: Global, text: &[u8]) -> Result<Option<ScriptRequest>, NoMemory>
     ensures { IfOk result (λ read. MatchOption read ((r : ProgramRequest) → IsLawfulRequest r → text.now ≡ call_text r → ⊥) (λ asked. IsLawfulRequest (asked_of asked) × (text.now ≡ call_text (asked_of asked)))) }
 {
     let Some(asked) = heard(alloc, text)? else {
@@ -38,9 +37,10 @@ pub fn asked_in(alloc: Global, text: &[u8]) -> Result<Option<ProgramAsked>, NoMe
     }
 }
 
-/// What the text asks, however many spaces stand between its words.
+/// What the text asks, however many spaces stand between its words. Where it is no text of a request, what is heard is
+/// spelled otherwise.
 #[tactic(auto, using(crate::proofs::HeardLemmas::read_of_any, crate::proofs::HeardLemmas::read_behind, crate::proofs::HeardLemmas::some_behind))]
-fn heard(alloc: Global, text: &[u8]) -> Result<Option<ProgramAsked>, NoMemory>
+fn heard(alloc: Global, text: &[u8]) -> Result<Option<ScriptRequest>, NoMemory>
     ensures { IfOk result (λ read. MatchOption read (IsUnheard text.now) (λ asked. IsHeard text.now (asked_of asked))) }
 {
     if let Some(number) = behind(text, b"view ") {
@@ -66,77 +66,51 @@ fn behind<'t>(text: &'t [u8], front: &[u8]) -> Option<&'t [u8]>
 }
 
 /// The view of the handle whose number is written behind `view`.
-fn view_heard(number: &[u8]) -> Option<ProgramAsked>
+fn view_heard(number: &[u8]) -> Option<ScriptRequest>
     ensures { MatchOption result (IsUnheard (codes "view " ++ number.now)) (λ asked. IsHeard (codes "view " ++ number.now) (asked_of asked)) }
 {
     match number_of(number) {
-        Some(handle) => Some(Asked::View(handle)),
+        Some(handle) => Some(Request::View(handle)),
         None => None,
     }
 }
 
 /// The finish of the job whose number is written behind `finish`.
-fn finish_heard(number: &[u8]) -> Option<ProgramAsked>
+fn finish_heard(number: &[u8]) -> Option<ScriptRequest>
     ensures { MatchOption result (IsUnheard (codes "finish " ++ number.now)) (λ asked. IsHeard (codes "finish " ++ number.now) (asked_of asked)) }
 {
     match number_of(number) {
-        Some(job) => Some(Asked::Finish(u64::from(job))),
+        Some(job) => Some(Request::Finish(u64::from(job))),
         None => None,
     }
 }
 
 /// The end of the job whose number is written behind `abandon`.
-fn abandon_heard(number: &[u8]) -> Option<ProgramAsked>
+fn abandon_heard(number: &[u8]) -> Option<ScriptRequest>
     ensures { MatchOption result (IsUnheard (codes "abandon " ++ number.now)) (λ asked. IsHeard (codes "abandon " ++ number.now) (asked_of asked)) }
 {
     match number_of(number) {
-        Some(job) => Some(Asked::Abandon(u64::from(job))),
+        Some(job) => Some(Request::Abandon(u64::from(job))),
         None => None,
     }
 }
 
-/// The freeze that the words behind `freeze` ask for.
-fn freeze_heard(alloc: Global, question: &[u8]) -> Result<Option<ProgramAsked>, NoMemory>
+/// The request of the words behind `freeze`.
+fn freeze_heard(alloc: Global, question: &[u8]) -> Result<Option<ScriptRequest>, NoMemory>
     ensures { IfOk result (λ read. MatchOption read (IsUnheard (codes "freeze " ++ question.now)) (λ asked. IsHeard (codes "freeze " ++ question.now) (asked_of asked))) }
 {
     match statement_in(alloc, question)? {
-        Some(statement) => {
-            let ask = ask_of(alloc, &statement)?;
-            Ok(freeze_of(alloc, ask)?)
-        }
+        Some(statement) => Ok(Some(request_of(alloc, &statement)?)),
         None => Ok(None),
     }
 }
 
-/// The call that the words ask for.
-fn call_heard(alloc: Global, text: &[u8]) -> Result<Option<ProgramAsked>, NoMemory>
+/// The request of the words.
+fn call_heard(alloc: Global, text: &[u8]) -> Result<Option<ScriptRequest>, NoMemory>
     ensures { IfOk result (λ read. MatchOption read (IsNoCall text.now) (λ asked. IsHeard text.now (asked_of asked))) }
 {
     match statement_in(alloc, text)? {
-        Some(statement) => {
-            let ask = ask_of(alloc, &statement)?;
-            Ok(call_of(ask))
-        }
+        Some(statement) => Ok(Some(request_of(alloc, &statement)?)),
         None => Ok(None),
-    }
-}
-
-/// The freeze that a statement asks for, if it asks for one.
-fn freeze_of(alloc: Global, ask: Ask) -> Result<Option<ProgramAsked>, AllocError>
-    ensures { IfOk result (λ read. MatchOption read (asks_job ask ≡ false) (λ a. asked_of a ≡ asked ask)) }
-{
-    match ask {
-        Ask::Job(handle, query) => Ok(Some(Asked::Freeze(handle, Arc::new(alloc, query)?))),
-        _ => Ok(None),
-    }
-}
-
-/// The call that a statement asks for, if it asks for one.
-fn call_of(ask: Ask) -> Option<ProgramAsked>
-    ensures { MatchOption result (asks_call ask ≡ false) (λ a. asked_of a ≡ asked ask) }
-{
-    match ask {
-        Ask::Call(call) => Some(Asked::Call(call)),
-        _ => None,
     }
 }

@@ -4,33 +4,28 @@ ghost use Rattle.std.specs.Prelude.{◌≡◌, ◌++◌, ◌∷◌, OnOk};
 ghost use Rattle.std.specs.Fmt.{decimal, signed_decimal};
 ghost use Rattle.versions.specs.Commands.{put_if_absent};
 ghost use Rattle.handles.specs.Machine.{on};
-ghost use Rattle.handles.specs.Views.{command_of, request_of};
-ghost use Rattle.journal.specs.Answers.{asked_of};
+ghost use Rattle.handles.specs.Views.{asked_of, command_of, request_of};
 ghost use Rattle.journal_text.specs.Calls.{call_text};
 
-use handles::{Call, Command};
-use journal::Asked;
+use handles::{Call, Command, Request};
 use keys::ByteText;
-use questions::ScriptQuery;
+use questions::ScriptRequest;
 use std::io;
 use std::io::Write;
 
-/// What is asked of the table of a program.
-pub type ProgramAsked = Asked<ByteText, i64, ScriptQuery>;
-
 /// Appends the text of what is asked.
-pub fn push_call(out: &mut Vec<u8>, asked: &ProgramAsked) -> io::Result<()>
+pub fn push_call(out: &mut Vec<u8>, asked: &ScriptRequest) -> io::Result<()>
     ensures { OnOk result (out.new.items ≡ out.old.items ++ call_text (asked_of asked.now)) }
 {
     match asked {
-        Asked::Call(call) => push_table_call(out, call),
-        Asked::View(handle) => write!(out, "view {handle}"),
-        Asked::Freeze(handle, query) => {
+        Request::Call(call) => push_table_call(out, call),
+        Request::View(handle) => write!(out, "view {handle}"),
+        Request::Freeze(handle, query) => {
             write!(out, "freeze ")?;
             query.push_to(out, *handle)
         }
-        Asked::Finish(job) => write!(out, "finish {job}"),
-        Asked::Abandon(job) => write!(out, "abandon {job}"),
+        Request::Finish(job) => write!(out, "finish {job}"),
+        Request::Abandon(job) => write!(out, "abandon {job}"),
     }
 }
 

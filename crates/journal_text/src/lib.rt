@@ -13,7 +13,7 @@ mod outcome;
 mod text;
 
 pub use asked::asked_in;
-pub use call::{ProgramAsked, push_call};
+pub use call::push_call;
 pub use laws::law_of_calls;
-pub use outcome::{ProgramResponse, push_response};
+pub use outcome::{ScriptOutcome, push_outcome};
 pub use text::{ProgramJournal, journal_text};

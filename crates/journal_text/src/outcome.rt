@@ -3,13 +3,13 @@
 ghost use Rattle.std.specs.Prelude.{◌≡◌, ◌++◌, IfOk, OnOk};
 ghost use Rattle.bulk_work.specs.Summaries.{summary_of};
 ghost use Rattle.handles.specs.Machine.{finished};
+ghost use Rattle.handles.specs.Views.{told_of};
 ghost use Rattle.script.specs.Replies.{text_of};
-ghost use Rattle.journal.specs.Answers.{response_outcome};
 ghost use Rattle.journal_text.specs.Calls.{outcome_text};
 
 use arguments::MapKey;
 use bulk_work::Answer;
-use journal::Response;
+use handles::Outcome;
 use keys::ByteText;
 use questions::{listing_of, reply_shown};
 use script::{LineReply, push_reply};
@@ -19,23 +19,23 @@ use std::sync::Arc;
 use versions::NoMemory;
 
 /// What the table of a program returns.
-pub type ProgramResponse = Response<ByteText, i64, Option<i128>>;
+pub type ScriptOutcome = Outcome<ByteText, i64, Option<i128>>;
 
 /// Appends the text of what is returned.
-pub fn push_response(
+pub fn push_outcome(
     alloc: Global,
     out: &mut Vec<u8>,
-    response: &ProgramResponse,
+    outcome: &ScriptOutcome,
 ) -> Result<(), NoMemory>
-    ensures { OnOk result (out.new.items ≡ out.old.items ++ outcome_text (response_outcome response.now)) }
+    ensures { OnOk result (out.new.items ≡ out.old.items ++ outcome_text (told_of outcome.now)) }
 {
-    let done = match response {
-        Response::Frozen(job, _) => write!(out, "job {job}"),
-        Response::Reply(reply) => push_reply(out, &reply_shown(reply)),
-        Response::View(view) => push_reply(out, &LineReply::Pairs(listing_of(alloc, view)?)),
-        Response::Answer(answer) => push_reply(out, &answer_shown(alloc, answer)?),
-        Response::Abandoned => push_reply(out, &LineReply::Done),
-        Response::Refused(refusal) => push_reply(out, &LineReply::Refused(*refusal)),
+    let done = match outcome {
+        Outcome::Frozen(job, _) => write!(out, "job {job}"),
+        Outcome::Reply(reply) => push_reply(out, &reply_shown(reply)),
+        Outcome::View(view) => push_reply(out, &LineReply::Pairs(listing_of(alloc, view)?)),
+        Outcome::Answer(answer) => push_reply(out, &answer_shown(alloc, answer)?),
+        Outcome::Abandoned => push_reply(out, &LineReply::Done),
+        Outcome::Refused(refusal) => push_reply(out, &LineReply::Refused(*refusal)),
     };
     match done {
         Ok(()) => Ok(()),

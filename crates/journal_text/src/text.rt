@@ -6,7 +6,7 @@ ghost use Rattle.journal_text.specs.Calls.{call_text, outcome_text};
 ghost use Rattle.journal_text.specs.Entries.{AreLawful, entry_line, text_of_journal};
 
 use crate::call::push_call;
-use crate::outcome::push_response;
+use crate::outcome::push_outcome;
 use journal::{Entry, Journal};
 use journal_lines::{last_line, line_text};
 use keys::ByteText;
@@ -53,11 +53,11 @@ fn push_entry(
     ensures { OnOk result (text.new.items ≡ text.old.items ++ ended (entry_line number entry.now)) }
 {
     let mut call = Vec::new(alloc);
-    if push_call(&mut call, entry.asked()).is_err() {
+    if push_call(&mut call, entry.request()).is_err() {
         return Err(NoMemory);
     }
     let mut reply = Vec::new(alloc);
-    push_response(alloc, &mut reply, entry.response())?;
+    push_outcome(alloc, &mut reply, entry.outcome())?;
     let call = as_text(&call);
     let reply = as_text(&reply);
     let line = line_text(alloc, number, call, reply, u64::from(entry.seat()))?;

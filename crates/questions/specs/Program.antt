@@ -1,12 +1,11 @@
 -- The machine of a program of scripts, and the replies that show its outcomes.
 use Rattle.std.specs.Prelude.{ℕ, ℤ, Bool, true, false, List, length, Option, Some, None}
 use Rattle.std.specs.Ordering.{int_eq}
-use Rattle.std.specs.Arc.{arc_value}
 use Rattle.versions.specs.Commands.{Command, get, put, put_if_absent, replace, replace_if, remove, remove_if, size, clear, old, done, cleared}
 use Rattle.versions.specs.Commands as commands
 use Rattle.handles.specs.declared.limits.Limits.{Limits}
 use Rattle.handles.specs.Machine.{Kind, State, Request, open_handle, snapshot, drop_handle, on, view, freeze, Outcome, made, replied, viewed, finished, refused}
-use Rattle.handles.specs.Views.{machine, request_of}
+use Rattle.handles.specs.Views.{machine}
 use Rattle.bulk_work.specs.Answers as plain
 use Rattle.keys.specs.Order.{bytes_cmp}
 use Rattle.script.specs.declared.statement.Statement.{Statement}
@@ -14,8 +13,6 @@ use Rattle.script.specs.declared.statement.Statement.TheVariants.{Open, Snap, Dr
 use Rattle.script.specs.declared.reply.LineReply.{LineReply}
 use Rattle.script.specs.declared.reply.LineReply.TheVariants as replies
 use Rattle.questions.specs.Folds.{Item}
-use Rattle.questions.specs.declared.ask.Ask.{Ask}
-use Rattle.questions.specs.declared.ask.Ask.TheVariants as asks
 use Rattle.questions.specs.Queries.{ScriptQuestion, count, exists, for_all, find, filtered, mapped, paired, fold, answers, target_of}
 
 -- what a question is answered
@@ -118,22 +115,10 @@ question_statement h (mapped mapping to) = MapValues h mapping to
 question_statement h (paired mapping to) = MapPairs h mapping to
 question_statement h (fold folding) = Fold h folding
 
--- the request that something asked of the map is, or the first of two
-abbrev pub asked : Ask → ProgramRequest
-asked (asks.Call call) = request_of call
-asked (asks.View handle) = view handle
-asked (asks.Job handle question) = freeze handle question
-asked (asks.GetOrElse handle key value) = on handle (get (arc_value key))
-
 -- the handle, the key and the value of a getorelse
 abbrev pub or_else_in : Statement → Option (ℕ × List ℕ × ℤ)
 or_else_in (GetOrElse handle key value) = Some (handle, key, value)
 or_else_in statement = None
-
--- the same of what was asked
-abbrev pub or_else_asked : Ask → Option (ℕ × List ℕ × ℤ)
-or_else_asked (asks.GetOrElse handle key value) = Some (handle, arc_value key, value)
-or_else_asked ask = None
 
 -- whether the question asks for some pair, of which there may be several
 abbrev pub asks_pair : ScriptQuestion → Bool

@@ -8,14 +8,15 @@
 
 pub use bulk_work::{ask, work};
 pub use handles::{
-    Call, CallReply, Command, Limits, MOST_ENTRIES, NoQuery, Reply, Table, law_of_answers,
-    law_of_foresight, law_of_freezes, law_of_open_jobs, law_of_other_handles, law_of_refusals,
+    Call, CallReply, Command, Limits, MOST_ENTRIES, NoQuery, Outcome, Reply, Request, Table,
+    law_of_answers, law_of_foresight, law_of_freezes, law_of_open_jobs, law_of_other_handles,
+    law_of_refusals,
 };
 pub use hash_path::Path;
 pub use iter::{Pairs, pairs};
 pub use locked_map::{
-    Asked, CLIENT_STACK, Client, Closed, Crew, Entry, Free, Gate, Journal, JournalName, MOST_SEATS,
-    NoJournal, Response, Seat, SharedMap, Ticket, Torn, Use, with, with_clients,
+    CLIENT_STACK, Client, Closed, Crew, Entry, Free, Gate, Journal, JournalName, MOST_SEATS,
+    NoJournal, Seat, SharedMap, Ticket, Torn, Use, with, with_clients,
 };
 pub use task_pool::ask_crew;
 pub use trie_map::{

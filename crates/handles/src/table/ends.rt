@@ -5,7 +5,7 @@ ghost use Rattle.bulk_work.specs.Answers as plain;
 ghost use Rattle.bulk_work.specs.Summaries.{summary_of};
 ghost use Rattle.handles.specs.Jobs.{AllCanFinish, Concludes, Tells};
 ghost use Rattle.handles.specs.Machine.{Job};
-ghost use Rattle.handles.specs.declared.jobs.TheConstants.{MOST_JOBS};
+ghost use Rattle.handles.specs.declared.limits.TheConstants.{MOST_JOBS};
 ghost use Rattle.versions.specs.Map.{value_at, with_pair};
 
 use crate::jobs::Jobs;

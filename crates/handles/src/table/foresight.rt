@@ -71,7 +71,7 @@ impl<K: PathKey + Drop, V: Eq + Drop, Q: Asks<K, V> + Drop> Table<K, V, Q> {
         ensures now { Foresees (machine K.cmp V.eq Q.target_of Q.answered) self.now (on handle (command_of command.now)) reply_outcome result }
         ensures memory { AnswersWithoutMemory (machine K.cmp V.eq Q.target_of Q.answered) (on handle (command_of command.now)) result }
     {
-        match self.version_for(handle, command, path) {
+        match self.version_for(handle) {
             Ok(version) => command.foresee_on(path, version),
             Err(refusal) => Err(refusal),
         }

@@ -1,7 +1,7 @@
 //! Calls of a table that are not refused: what is left to do once that was decided.
 ghost use Rattle.std.specs.Prelude.{◌≡◌, None, false};
 ghost use Rattle.handles.specs.Machine.{drop_handle, on, open_handle, refusal, snapshot};
-ghost use Rattle.handles.specs.Views.{AnswersWithoutMemory, IsPathFor, IsPathOf, IsStep, call_outcome, command_of, lacks_memory, machine, reply_outcome, request_of, unit_outcome};
+ghost use Rattle.handles.specs.Views.{AnswersWithoutMemory, IsDue, IsFullAlone, IsPathFor, IsPathOf, IsStep, call_outcome, command_of, lacks_memory, machine, reply_outcome, request_of, unit_outcome};
 
 use super::{Table, counted};
 use crate::call::Call;
@@ -31,8 +31,9 @@ impl<K: PathKey + Drop, V: Eq + Drop, Q: Asks<K, V> + Drop> Table<K, V, Q> {
         counted(&mut self.entries, answer)
     }
 
-    // Makes the command, whose key has this path word, on the handle.
-    pub(super) fn call_granted(
+    // Makes the command, whose key has this path word, on the handle, where it is refused as `Full` alone, if at all.
+    #[tactic(auto, using(crate::proofs::Refusals::full_alone_has_room))]
+    pub(super) fn call_live(
         &mut self,
         alloc: Global,
         handle: u32,
@@ -40,9 +41,10 @@ impl<K: PathKey + Drop, V: Eq + Drop, Q: Asks<K, V> + Drop> Table<K, V, Q> {
         path: Path,
     ) -> Result<Reply<V>, Refusal>
         requires path { IsPathFor K.path_of (command_of command) path.0 }
-        requires granted { refusal (machine K.cmp V.eq Q.target_of Q.answered) self.old (on handle (command_of command)) ≡ None }
+        requires live { IsFullAlone (machine K.cmp V.eq Q.target_of Q.answered) self.old handle (command_of command) }
         ensures step { IsStep (machine K.cmp V.eq Q.target_of Q.answered) self.old (on handle (command_of command)) reply_outcome result self.new }
         ensures memory { AnswersWithoutMemory (machine K.cmp V.eq Q.target_of Q.answered) (on handle (command_of command)) result }
+        ensures due { IsDue (machine K.cmp V.eq Q.target_of Q.answered) self.old (on handle (command_of command)) result }
     {
         let answer = self.places.run(alloc, handle, command, path);
         counted(&mut self.entries, answer)
@@ -59,6 +61,7 @@ impl<K: PathKey + Drop, V: Eq + Drop, Q: Asks<K, V> + Drop> Table<K, V, Q> {
     }
 
     // Makes the call, whose key has this path word.
+    #[tactic(auto, using(crate::proofs::Refusals::full_alone))]
     pub(super) fn serve_granted(
         &mut self,
         alloc: Global,
@@ -83,7 +86,7 @@ impl<K: PathKey + Drop, V: Eq + Drop, Q: Asks<K, V> + Drop> Table<K, V, Q> {
                 Ok(()) => Ok(CallReply::Unit),
                 Err(refusal) => Err(refusal),
             },
-            Call::On(handle, command) => match self.call_granted(alloc, handle, command, path) {
+            Call::On(handle, command) => match self.call_live(alloc, handle, command, path) {
                 Ok(reply) => Ok(CallReply::Reply(reply)),
                 Err(refusal) => Err(refusal),
             },

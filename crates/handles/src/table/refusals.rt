@@ -1,14 +1,15 @@
 //! Why the calls of a table are refused, `NoMemory` aside.
-ghost use Rattle.std.specs.Prelude.{◌≡◌, ◌-◌, IfErr, IfOk, None, OnOk, Some, false};
-ghost use Rattle.handles.specs.Machine.{held_by, is_bad, is_not_live, is_taken, is_unknown_job, on, refusal, room};
-ghost use Rattle.handles.specs.Views.{IsPathFor, command_of, lacks_memory, machine, requested};
+ghost use Rattle.std.specs.Prelude.{◌≡◌, ◌≤◌, ◌-◌, IfErr, IfOk, Some, false, true};
+ghost use Rattle.handles.specs.Machine.{held_by, is_bad, is_entry, is_not_live, is_taken, is_unknown_job, on, refusal, room};
+ghost use Rattle.handles.specs.Views.{IsFullAlone, lacks_memory, machine, requested};
+ghost use Rattle.versions.specs.Commands as commands;
 
 use super::Table;
-use crate::jobs::MOST_JOBS;
+use crate::limits::MOST_JOBS;
 use crate::request_ref::RequestRef;
 use bulk_work::Asks;
-use hash_path::{Path, PathKey};
-use held_maps::{Command, LAST_HANDLE};
+use hash_path::PathKey;
+use held_maps::LAST_HANDLE;
 use versions::{Refusal, Version};
 
 // How much room the journal has to have for a call to be made.
@@ -44,18 +45,15 @@ impl<K: PathKey + Drop, V: Eq + Drop, Q: Asks<K, V> + Drop> Table<K, V, Q> {
         None
     }
 
-    /// The version of the handle, where a command on it, whose key has this path word, is not refused; else the first
-    /// reason why it is. The handle is looked up once.
-    pub(super) fn version_for(
-        &self,
-        handle: u32,
-        command: &Command<K, V>,
-        path: Path,
-    ) -> Result<&Version<K, V>, Refusal>
-        requires path { IsPathFor K.path_of (command_of command.now) path.0 }
-        ensures granted { OnOk result (refusal (machine K.cmp V.eq Q.target_of Q.answered) self.now (on handle (command_of command.now)) ≡ None) }
+    /// The version of the handle, where a command on it is refused as `Full` alone, if at all; else the first reason why
+    /// it is refused. The handle is looked up once.
+    #[tactic(auto, using(crate::proofs::Refusals::live_is_full_alone))]
+    pub(super) fn version_for(&self, handle: u32) -> Result<&Version<K, V>, Refusal>
+        ensures ok { IfOk result (λ version. (c : commands.Command K V) → IsFullAlone (machine K.cmp V.eq Q.target_of Q.answered) self.now handle c) }
         ensures entries { IfOk result (λ version. version.now.entries ≡ held_by self.now handle) }
-        ensures refused { IfErr result (λ e. refusal (machine K.cmp V.eq Q.target_of Q.answered) self.now (on handle (command_of command.now)) ≡ Some e) }
+        ensures limit { IfOk result (λ version. version.now.limit ≡ self.now.limits.pairs) }
+        ensures err { IfErr result (λ e. (c : commands.Command K V) → refusal (machine K.cmp V.eq Q.target_of Q.answered) self.now (on handle c) ≡ Some e) }
+        ensures room { IfErr result (λ e. is_entry e ≡ true → 2 ≤ room self.now) }
         ensures memory { lacks_memory result ≡ false }
     {
         if self.room() < LEAST_ROOM {
@@ -67,9 +65,6 @@ impl<K: PathKey + Drop, V: Eq + Drop, Q: Asks<K, V> + Drop> Table<K, V, Q> {
         let Some(version) = self.places.version(handle) else {
             return Err(Refusal::NoHandle);
         };
-        if command.lacks_place(path, version) {
-            return Err(Refusal::Full);
-        }
         Ok(version)
     }
 

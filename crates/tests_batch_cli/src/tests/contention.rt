@@ -1,5 +1,5 @@
 //! Two clients that add the same keys to one handle.
-use super::entries::assert_responses;
+use super::entries::assert_outcomes;
 use super::gates::Meeting;
 use super::{assert_is, assert_text, ran, text};
 use batch_cli::Journal;
@@ -99,7 +99,7 @@ fn assert_replies<R: AllocGlobal + Abort>(rt: &R, replies: &[&str], journal: &Jo
     }
     for client in 0..2 {
         let printed = replies_to(rt, rt.alloc(), replies, client);
-        assert_responses(rt, journal, client, &printed);
+        assert_outcomes(rt, journal, client, &printed);
     }
 }
 

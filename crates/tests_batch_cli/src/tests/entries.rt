@@ -1,18 +1,17 @@
-//! Journals as text. An entry is a request, a colon and its response.
+//! Journals as text. An entry is a request, a colon and its outcome.
 use super::assert_text;
 use batch_cli::{Journal, ScriptQuery};
 use bulk_work::Answer;
-use handles::{Call, CallReply, Command, Reply};
+use handles::{Call, CallReply, Command, Outcome, Reply, Request};
 use keys::ByteText;
-use locked_map::{Asked, Response};
 use std::alloc::AllocError;
 use std::panic::Expect;
 use std::process::Abort;
 
-// What a client asks, and the response.
-type ScriptAsked = Asked<ByteText, i64, ScriptQuery>;
+// What a client asks, and the outcome.
+type ScriptRequest = Request<ByteText, i64, ScriptQuery>;
 
-type ScriptResponse = Response<ByteText, i64, Option<i128>>;
+type ScriptOutcome = Outcome<ByteText, i64, Option<i128>>;
 
 /// The entries of the seat are these in order, each on a line of its own.
 pub fn assert_entries<R: AllocGlobal + Abort>(rt: &R, journal: &Journal, seat: u32, wanted: &str) {
@@ -20,24 +19,19 @@ pub fn assert_entries<R: AllocGlobal + Abort>(rt: &R, journal: &Journal, seat: u
     for place in 0..journal.len() {
         let entry = journal.entry(place).expect(rt, "no entry");
         if entry.seat() == seat {
-            push_entry(&mut text, entry.asked(), entry.response()).expect(rt, "no room");
+            push_entry(&mut text, entry.request(), entry.outcome()).expect(rt, "no room");
         }
     }
     assert_text(rt, &text, wanted);
 }
 
-/// The responses of the seat's entries are these in order, each on a line of its own.
-pub fn assert_responses<R: AllocGlobal + Abort>(
-    rt: &R,
-    journal: &Journal,
-    seat: u32,
-    wanted: &str,
-) {
+/// The outcomes of the seat's entries are these in order, each on a line of its own.
+pub fn assert_outcomes<R: AllocGlobal + Abort>(rt: &R, journal: &Journal, seat: u32, wanted: &str) {
     let mut text = String::new(rt.alloc());
     for place in 0..journal.len() {
         let entry = journal.entry(place).expect(rt, "no entry");
         if entry.seat() == seat {
-            push_line(&mut text, entry.response()).expect(rt, "no room");
+            push_line(&mut text, entry.outcome()).expect(rt, "no room");
         }
     }
     assert_text(rt, &text, wanted);
@@ -55,26 +49,26 @@ pub fn seats_of<R: AllocGlobal + Abort>(rt: &R, journal: &Journal) -> Vec<u32> {
 
 fn push_entry(
     text: &mut String,
-    asked: &ScriptAsked,
-    response: &ScriptResponse,
+    request: &ScriptRequest,
+    outcome: &ScriptOutcome,
 ) -> Result<(), AllocError> {
-    push_asked(text, asked)?;
+    push_request(text, request)?;
     text.push_str(": ")?;
-    push_line(text, response)
+    push_line(text, outcome)
 }
 
-fn push_line(text: &mut String, response: &ScriptResponse) -> Result<(), AllocError> {
-    push_response(text, response)?;
+fn push_line(text: &mut String, outcome: &ScriptOutcome) -> Result<(), AllocError> {
+    push_outcome(text, outcome)?;
     text.push_str("\n")
 }
 
-fn push_asked(text: &mut String, asked: &ScriptAsked) -> Result<(), AllocError> {
-    match asked {
-        Asked::Call(call) => push_call(text, call),
-        Asked::View(handle) => write!(text, "view {handle}"),
-        Asked::Freeze(handle, _) => write!(text, "freeze {handle}"),
-        Asked::Finish(job) => write!(text, "finish {job}"),
-        Asked::Abandon(job) => write!(text, "abandon {job}"),
+fn push_request(text: &mut String, request: &ScriptRequest) -> Result<(), AllocError> {
+    match request {
+        Request::Call(call) => push_call(text, call),
+        Request::View(handle) => write!(text, "view {handle}"),
+        Request::Freeze(handle, _) => write!(text, "freeze {handle}"),
+        Request::Finish(job) => write!(text, "finish {job}"),
+        Request::Abandon(job) => write!(text, "abandon {job}"),
     }
 }
 
@@ -124,14 +118,14 @@ fn push_write(
     Ok(())
 }
 
-fn push_response(text: &mut String, response: &ScriptResponse) -> Result<(), AllocError> {
-    match response {
-        Response::Reply(reply) => push_reply(text, reply),
-        Response::View(view) => write!(text, "pairs {}", view.len()),
-        Response::Frozen(job, view) => write!(text, "job {job} of {}", view.len()),
-        Response::Answer(answer) => push_answer(text, answer),
-        Response::Abandoned => text.push_str("abandoned"),
-        Response::Refused(refusal) => write!(text, "refused {refusal:?}"),
+fn push_outcome(text: &mut String, outcome: &ScriptOutcome) -> Result<(), AllocError> {
+    match outcome {
+        Outcome::Reply(reply) => push_reply(text, reply),
+        Outcome::View(view) => write!(text, "pairs {}", view.len()),
+        Outcome::Frozen(job, view) => write!(text, "job {job} of {}", view.len()),
+        Outcome::Answer(answer) => push_answer(text, answer),
+        Outcome::Abandoned => text.push_str("abandoned"),
+        Outcome::Refused(refusal) => write!(text, "refused {refusal:?}"),
     }
 }
 

@@ -29,8 +29,8 @@ pub struct Entered {
 fn plainly(entry: &Entry<ChosenKey, u64, Query, i128>) -> Entered {
     Entered {
         seat: entry.seat(),
-        request: request_of(entry.asked()),
-        outcome: plain_outcome(entry.response()),
+        request: request_of(entry.request()),
+        outcome: plain_outcome(entry.outcome()),
     }
 }
 

@@ -1,8 +1,7 @@
 //! The outcomes of seats, as plain values.
 use super::KEYS;
 use bulk_work::Answer;
-use handles::CallReply;
-use locked_map::Response;
+use handles::{CallReply, Outcome as Filed};
 use std::sync::Arc;
 use test_keys::ChosenKey;
 use test_machine::{PlainPair, TableOutcome, outcome_of_reply, value_of};
@@ -141,14 +140,14 @@ pub fn outcome_of(returned: TableOutcome, seen: Seen, found: Option<(u64, u64)>)
     }
 }
 
-/// A response as a plain value.
-pub fn plain_outcome(returned: &Response<ChosenKey, u64, i128>) -> Outcome {
+/// The outcome of an entry as a plain value.
+pub fn plain_outcome(returned: &Filed<ChosenKey, u64, i128>) -> Outcome {
     match returned {
-        Response::Reply(reply) => reply_outcome(reply),
-        Response::View(view) => Outcome::View(seen_in(view)),
-        Response::Frozen(job, view) => Outcome::Frozen(*job, seen_in(view)),
-        Response::Answer(answer) => answer_outcome(answer),
-        Response::Abandoned => Outcome::Abandoned,
-        Response::Refused(refusal) => Outcome::Refused(*refusal),
+        Filed::Reply(reply) => reply_outcome(reply),
+        Filed::View(view) => Outcome::View(seen_in(view)),
+        Filed::Frozen(job, view) => Outcome::Frozen(*job, seen_in(view)),
+        Filed::Answer(answer) => answer_outcome(answer),
+        Filed::Abandoned => Outcome::Abandoned,
+        Filed::Refused(refusal) => Outcome::Refused(*refusal),
     }
 }

@@ -1,7 +1,6 @@
 //! What seats do, as plain values.
 use super::questions::{Query, question_of};
-use handles::{Call, Command};
-use locked_map::Asked;
+use handles::{Call, Command, Request as Filed};
 use std::alloc::{AllocError, Global};
 use std::sync::Arc;
 use test_keys::ChosenKey;
@@ -62,13 +61,13 @@ pub fn prepare(alloc: Global, deed: Deed) -> Result<Prepared, AllocError> {
 }
 
 /// What was asked, as a plain value.
-pub fn request_of(asked: &Asked<ChosenKey, u64, Query>) -> Request {
+pub fn request_of(asked: &Filed<ChosenKey, u64, Query>) -> Request {
     match asked {
-        Asked::Call(call) => plain_call(call),
-        Asked::View(handle) => Request::View(*handle),
-        Asked::Freeze(handle, query) => Request::Freeze(*handle, question_of(query)),
-        Asked::Finish(job) => Request::Finish(*job),
-        Asked::Abandon(job) => Request::Abandon(*job),
+        Filed::Call(call) => plain_call(call),
+        Filed::View(handle) => Request::View(*handle),
+        Filed::Freeze(handle, query) => Request::Freeze(*handle, question_of(query)),
+        Filed::Finish(job) => Request::Finish(*job),
+        Filed::Abandon(job) => Request::Abandon(*job),
     }
 }
 

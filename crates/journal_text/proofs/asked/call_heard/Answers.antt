@@ -1,11 +1,11 @@
-use Rattle.journal.specs.Answers.{asked_of}
-use Rattle.journal_text.proofs.HeardLemmas.{a_statement, no_statement, call_read, unheard_words}
+use Rattle.handles.specs.Views.{asked_of}
+use Rattle.journal_text.proofs.HeardLemmas.{a_statement, heard_call, no_statement, unheard_words}
 use Rattle.journal_text.proofs.asked.call_heard.Goals as goal
 
-pub returns-in_ok-ask-in-Some : goal.returns-in_ok-ask-in-Some
-returns-in_ok-ask-in-Some c =
+pub returns-in_ok-request_of-in-Some : goal.returns-in_ok-request_of-in-Some
+returns-in_ok-request_of-in-Some c =
     let there = a_statement c.args.text.now c.in_ok-statement.field-0 c.in-Some.statement c.in-Some.is c.in_ok-statement.ensures in
-    call_read (λ a. asked_of a) c.call_of.result c.args.text.now c.in-Some.statement c.in_ok-ask-in-Some.ask there c.in_ok-ask-in-Some.ensures.request c.in_ok-ask-in-Some.ensures.or_else c.call_of.ensures
+    heard_call c.args.text.now c.in-Some.statement (asked_of c.in_ok-request_of-in-Some.field-0) there.0 there.1 c.in_ok-request_of-in-Some.ensures.request
 
 pub returns-in-None : goal.returns-in-None
 returns-in-None c = unheard_words c.args.text.now (no_statement c.args.text.now c.in_ok-statement.field-0 c.in-None.is c.in_ok-statement.ensures)

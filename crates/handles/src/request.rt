@@ -1,17 +1,17 @@
-//! What a seat may ask.
+//! The requests of a table as values.
 
-use handles::Call;
+use crate::call::Call;
 use std::sync::Arc;
 
-/// What a seat asked of the table.
+/// What a table may be asked.
 ///
 /// <!-- quoted from crates/example_meeting/src/report.rt -->
 /// ```rust
-/// match (entry.asked(), entry.response()) {
-///     (Asked::Call(Call::On(_, Command::Put(_, value))), _) => {
+/// match (entry.request(), entry.outcome()) {
+///     (Request::Call(Call::On(_, Command::Put(_, value))), _) => {
 /// ```
 #[derive(Drop)]
-pub enum Asked<K, V, Q> {
+pub enum Request<K, V, Q> {
     /// That the call is made.
     Call(Call<K, V>),
     /// That the handle's map is shown.
