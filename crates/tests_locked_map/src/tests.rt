@@ -22,6 +22,7 @@ mod running;
 mod script;
 mod steps;
 mod torn;
+mod unfiled;
 mod waiting;
 mod wanting;
 

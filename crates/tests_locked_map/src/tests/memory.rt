@@ -1,4 +1,5 @@
-//! How a seat does something with requests for memory refused: all of them, or the first, the second and so on.
+//! How a seat does something with requests for memory refused: all of them, those that so many bytes do not serve, or
+//! the first, the second and so on.
 use super::any_map::AnyMap;
 use super::making::{take, taken};
 use super::outcomes::Outcome;
@@ -28,6 +29,24 @@ pub fn dry<M: AnyMap, R: Threads + Wait + Sync>(
     prepared: &Prepared,
 ) -> Outcome {
     let Ok(shortage) = Shortage::new(alloc) else {
+        return Outcome::Lost;
+    };
+    let returned = take(rt, alloc, map, seat, tickets, prepared);
+    drop(shortage);
+    returned
+}
+
+/// The seat does it with this many bytes of memory next to one another.
+pub fn scarce<M: AnyMap, R: Threads + Wait + Sync>(
+    rt: &R,
+    alloc: Global,
+    map: &M,
+    seat: &mut M::Seat,
+    tickets: &mut Vec<M::Ticket>,
+    prepared: &Prepared,
+    bytes: usize,
+) -> Outcome {
+    let Ok(shortage) = Shortage::with_bytes(alloc, bytes) else {
         return Outcome::Lost;
     };
     let returned = take(rt, alloc, map, seat, tickets, prepared);

@@ -6,7 +6,7 @@ ghost use Rattle.std.specs.Prelude.{⊤};
 use super::any_map::{AnyMap, Lent};
 use super::entries::{Entered, TestClosed};
 use super::making::{act, take, taken};
-use super::memory::{dry, short};
+use super::memory::{dry, scarce, short};
 use super::model::replayed;
 use super::outcomes::{Outcome, seen_in};
 use super::questions::Query;
@@ -128,6 +128,7 @@ fn take_turn<M: AnyMap, R: Threads + Wait + Sync>(
         Memory::Ample => take(rt, alloc, map, seat, tickets, &prepared),
         Memory::Wanting => short(rt, alloc, map, seat, tickets, &prepared),
         Memory::None => dry(rt, alloc, map, seat, tickets, &prepared),
+        Memory::Bytes(bytes) => scarce(rt, alloc, map, seat, tickets, &prepared, bytes),
     }
 }
 
@@ -282,6 +283,24 @@ pub fn closed_len<R: AllocGlobal + Abort + Threads + Wait + Sync>(
         Some(closed) => Some(closed.journal.len()),
         None => None,
     }
+}
+
+/// Plays the steps and closes the map by these seats: the outcome of the last step, and whether the map was closed.
+pub fn last_and_closed<R: AllocGlobal + Abort + Threads + Wait + Sync>(
+    rt: &R,
+    seats: u32,
+    steps: &[Step],
+    limits: Limits,
+    ending: Ending,
+) -> (Outcome, bool) {
+    let script = script_of(rt, rt.alloc(), steps, ending);
+    let (played, closed) = lent(rt, seats, limits, script);
+    let (returned, _) = played;
+    let last = match returned.last() {
+        Some(last) => *last,
+        None => Outcome::Lost,
+    };
+    (last, closed.is_some())
 }
 
 // Each step has its outcome.

@@ -16,6 +16,8 @@ pub enum Step {
     Dry(u32, Request, Outcome),
     /// The same with requests for memory refused until one more is not.
     Short(u32, Request, Outcome),
+    /// The same with this many bytes of memory. No outcome is looked for.
+    Scarce(u32, Request, usize),
     /// The seat gets the value of the key on the handle or stores this one, with this outcome.
     GetOrStore(u32, u32, ChosenKey, u64, Outcome),
     /// The same with requests for memory refused until one more is not.
@@ -44,6 +46,8 @@ pub enum Memory {
     Ample,
     Wanting,
     None,
+    /// This many bytes next to one another.
+    Bytes(usize),
 }
 
 /// What a seat does in a step, and its outcome.
@@ -66,6 +70,10 @@ pub fn turn_of(step: Step) -> Option<Turn> {
         )),
         Step::Short(seat, request, returned) => {
             Some((seat, Memory::Wanting, Deed::Ask(request), returned))
+        }
+        Step::Scarce(seat, request, bytes) => {
+            let memory = Memory::Bytes(bytes);
+            Some((seat, memory, Deed::Ask(request), Outcome::Lost))
         }
         Step::GetOrStore(seat, handle, key, value, returned) => {
             let deed = Deed::GetOrStore(handle, key, value);
