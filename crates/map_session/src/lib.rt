@@ -10,7 +10,7 @@ mod put_error;
 mod session;
 mod steps;
 
-pub use handles::handles_on;
+pub use handles::handles_in;
 pub use history_law::law_of_last_put;
 pub use put_error::PutError;
 pub use session::Session;

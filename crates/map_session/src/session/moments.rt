@@ -11,7 +11,7 @@ ghost use Rattle.write_history.specs.Histories.{value_in};
 ghost use Rattle.write_history.specs.Signers.{Made, signed_once};
 
 use super::Session;
-use crate::handles::handles_on;
+use crate::handles::handles_in;
 use hash_path::{PathKey, Sought};
 use map_view::View;
 use std::sync::{Arc, Wait};
@@ -76,7 +76,9 @@ impl<'m, K: PathKey + Drop, V: Drop, P: Keeps<K, V>, J: Naming> Session<'m, K, V
     {
         let view = self.view(rt)?;
         view.law();
-        handles_on(self.alloc, view.get_many(keys)?.as_slice())
+        let values = handles_in(self.alloc, &view, keys);
+        drop(view);
+        values
     }
 
     /// Removes all pairs, as one entry of the history, which is the last that was seen then.

@@ -9,7 +9,7 @@ use super::TrieMap;
 use crate::refused::{PutsRefused, RemovalsRefused};
 use hash_path::{PathKey, Sought};
 use many_writes::{Unput, put_each, remove_each};
-use map_session::{PutError, handles_on};
+use map_session::{PutError, handles_in};
 use std::sync::{Arc, Wait};
 use stripes::Keeps;
 use trie_node::NoMemory;
@@ -31,7 +31,9 @@ impl<K: PathKey + Drop, V: Drop, P: Keeps<K, V>, J: Naming> TrieMap<K, V, P, J> 
     {
         let view = self.view(rt)?;
         view.law();
-        handles_on(self.alloc, view.get_many(keys)?.as_slice())
+        let values = handles_in(self.alloc, &view, keys);
+        drop(view);
+        values
     }
 
     /// Puts each of the pairs, and returns for each, in the order of the list, the value before, or none. Of several
