@@ -1,5 +1,5 @@
 //! Lists that are written with requests for memory refused.
-use super::{Map, assert_is, empty, key, put, view_of};
+use super::{Map, assert_is, empty, put, view_of};
 use std::process::Abort;
 use std::sync::Wait;
 use test_keys::{ChosenKey, Shortage};
@@ -9,6 +9,9 @@ use trie_map::{PutsRefused, RemovalsRefused};
 const STEPS: usize = 64;
 
 const STEP: usize = 64;
+
+// How many pairs a list has.
+const PAIRS: u32 = 12;
 
 // What became of a list: all, some or none of it was written.
 #[derive(Clone, Copy)]
@@ -27,12 +30,21 @@ fn partly(written: usize) -> Written {
     }
 }
 
-// Six pairs, in three stripes.
-fn six_pairs<R: AllocGlobal + Abort>(rt: &R) -> Vec<(ChosenKey, u64)> {
+// A key of one of three stripes, each with a digit of its own behind its first.
+fn spread(id: u32) -> ChosenKey {
+    let second = u64::from(id).wrapping_mul(32);
+    ChosenKey {
+        path: u64::from(id % 3).wrapping_add(second),
+        id,
+    }
+}
+
+// The pairs of a list.
+fn pairs_of<R: AllocGlobal + Abort>(rt: &R) -> Vec<(ChosenKey, u64)> {
     let mut pairs = Vec::new(rt.alloc());
-    for id in 0..6u32 {
+    for id in 0..PAIRS {
         pairs
-            .push((key(id % 3, id), u64::from(id)))
+            .push((spread(id), u64::from(id)))
             .expect(rt, "no list");
     }
     pairs
@@ -43,43 +55,44 @@ fn room<R: AllocGlobal + Abort>(rt: &R, bytes: usize) -> Shortage {
     Shortage::with_bytes(rt.alloc(), bytes).expect(rt, "no room")
 }
 
-// What becomes of six pairs in such room. What was not put is given back, and is put once there is room.
+// What becomes of such pairs in such room. What was not put is given back, and is put once there is room.
 fn put_in_room<R: AllocGlobal + Wait + Abort>(rt: &R, bytes: usize) -> Written {
     let map = empty(rt);
-    let pairs = six_pairs(rt);
+    let pairs = pairs_of(rt);
     let shortage = room(rt, bytes);
     let answer = map.put_many(rt, pairs);
     drop(shortage);
     let Err(refused) = answer else {
-        assert_is(rt, map.len(rt), 6);
+        assert_is(rt, map.len(rt), u64::from(PAIRS));
         return Written::All;
     };
     let PutsRefused { put, rest, .. } = refused;
     assert_is(
         rt,
         (map.len(rt), rest.len()),
-        (put.len() as u64, 6usize.wrapping_sub(put.len())),
+        (put.len() as u64, (PAIRS as usize).wrapping_sub(put.len())),
     );
     assert_is(rt, map.put_many(rt, rest).is_ok(), true);
-    assert_is(rt, map.len(rt), 6);
+    assert_is(rt, map.len(rt), u64::from(PAIRS));
     partly(put.len())
 }
 
-// A map of six pairs, of which a view is kept: removals copy nodes.
-fn six<R: AllocGlobal + Wait + Abort>(rt: &R) -> Map {
+// A map of these pairs, of which a view is kept: the first removal of a stripe copies a row.
+fn filled<R: AllocGlobal + Wait + Abort>(rt: &R) -> Map {
     let map = empty(rt);
-    for id in 0..6 {
-        put(rt, &map, key(id % 3, id), u64::from(id));
+    for id in 0..PAIRS {
+        put(rt, &map, spread(id), u64::from(id));
     }
     map
 }
 
-// What becomes of the removal of six keys in such room.
+// What becomes of the removal of their keys in such room.
 fn remove_in_room<R: AllocGlobal + Wait + Abort>(rt: &R, bytes: usize) -> Written {
-    let map = six(rt);
+    let map = filled(rt);
     let view = view_of(rt, &map);
-    let keys = [0u32, 1, 2, 3, 4, 5].map(|id| key(id % 3, id));
-    let sought = [&keys[0], &keys[1], &keys[2], &keys[3], &keys[4], &keys[5]];
+    let keys = [0u32, 1, 2, 3, 4, 5, 6, 7, 8, 9, 10, 11].map(spread);
+    let [a, b, c, d, e, f, g, h, i, j, k, l] = &keys;
+    let sought = [a, b, c, d, e, f, g, h, i, j, k, l];
     let shortage = room(rt, bytes);
     let answer = map.remove_many(rt, &sought);
     drop(shortage);
@@ -89,7 +102,11 @@ fn remove_in_room<R: AllocGlobal + Wait + Abort>(rt: &R, bytes: usize) -> Writte
         return Written::All;
     };
     let RemovalsRefused { removed } = refused;
-    assert_is(rt, map.len(rt), 6u64.wrapping_sub(removed.len() as u64));
+    assert_is(
+        rt,
+        map.len(rt),
+        u64::from(PAIRS).wrapping_sub(removed.len() as u64),
+    );
     partly(removed.len())
 }
 
@@ -113,11 +130,15 @@ fn tallied<R: AllocGlobal + Wait + Abort>(rt: &R, removals: bool) -> [u32; 3] {
     tally
 }
 
-// The room grows, so that each request is the first that is refused.
+// The room grows, so that a list is refused before its first write, after some, and not at all.
 #[test]
-fn a_list_is_parted_where_it_is_refused(rt: HostRuntime) {
-    for removals in [false, true] {
-        let tally = tallied(&rt, removals);
-        assert_is(&rt, tally.map(|times| times > 0), [true; 3]);
-    }
+fn puts_are_parted_where_one_is_refused(rt: HostRuntime) {
+    let tally = tallied(&rt, false);
+    assert_is(&rt, tally.map(|times| times > 0), [true; 3]);
+}
+
+#[test]
+fn removals_are_parted_where_one_is_refused(rt: HostRuntime) {
+    let tally = tallied(&rt, true);
+    assert_is(&rt, tally.map(|times| times > 0), [true; 3]);
 }
