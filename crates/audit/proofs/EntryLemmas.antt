@@ -1,7 +1,8 @@
 -- A line, and the next entry.
-use Rattle.std.proofs.Common.{◌≡◌, ◌≢◌, Bool, true, false, ℕ, ◌+◌, ◌<◌, ◌^◌, ◌∙◌, List, Result, Ok, Err, IfOk, sym, ap, subst, arith}
+use Rattle.std.proofs.Common.{◌≡◌, ◌≢◌, Bool, true, false, ℕ, ◌+◌, ◌≤◌, ◌<◌, ◌^◌, ◌∙◌, List, Result, Ok, Err, IfOk, sym, ap, subst, arith}
 use Rattle.std.specs.Prelude.{IsUtf8, MatchBool, MatchOption, Option, Some, None}
 use Rattle.handles.specs.Machine.{Step}
+use Rattle.script.specs.declared.limits.TheConstants.{MOST_CLIENTS}
 use Rattle.questions.specs.Program.{program, ProgramState, ProgramRequest}
 use Rattle.journal_lines.specs.Lines.{ended, line_of}
 use Rattle.journal_lines.proofs.LineLemmas.{same_members}
@@ -39,7 +40,7 @@ members s t line bytes call reply m seat l is few fits b next =
     same_members m m call reply (call_text next.entry.request) (outcome_text next.entry.outcome) seat next.entry.seat few few fits (omega (arith, next.lawful.seat)) (sym b ∙ same_line s t line bytes m l is next)
 
 -- an entry of no seat
-pub no_seat : (s : ProgramState) (line bytes call reply : List ℕ) (m seat : ℕ) → line ≡ ended bytes → m ≡ s.entries + 1 → m < 2 ^ 64 → seat < 2 ^ 64 → bytes ≡ line_of m call reply seat → 63 < seat → IsNoneNext s line
+pub no_seat : (s : ProgramState) (line bytes call reply : List ℕ) (m seat : ℕ) → line ≡ ended bytes → m ≡ s.entries + 1 → m < 2 ^ 64 → seat < 2 ^ 64 → bytes ≡ line_of m call reply seat → MOST_CLIENTS ≤ seat → IsNoneNext s line
 no_seat s line bytes call reply m seat l is few fits b far t next =
     let p = members s t line bytes call reply m seat l is few fits b next in
     omega (arith, p.3, next.lawful.seat)

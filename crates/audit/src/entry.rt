@@ -7,6 +7,7 @@ ghost use Rattle.audit.specs.Answers.{IsNext, IsNoneNext};
 use crate::judging::{ProgramTable, judge};
 use journal_lines::{last_line, line_in};
 use journal_text::asked_in;
+use script::MOST_CLIENTS;
 use std::alloc::Global;
 use versions::NoMemory;
 
@@ -50,7 +51,7 @@ pub fn is_next(alloc: Global, table: &mut ProgramTable, line: &[u8]) -> Result<b
     let Some(found) = line_in(alloc, number, bytes)? else {
         return Ok(false);
     };
-    if found.seat > 63 {
+    if found.seat >= u64::from(MOST_CLIENTS) {
         return Ok(false);
     }
     let Some(asked) = asked_in(alloc, found.call.as_bytes())? else {

@@ -12,6 +12,7 @@ ghost use Rattle.bulk_work.specs.Answers.{IsImage};
 ghost use Rattle.bulk_ops.specs.Queries.{answer_of};
 ghost use Rattle.handles.specs.Machine.{finished};
 ghost use Rattle.questions.specs.Queries.{IsPartFor, paired};
+ghost use Rattle.script.specs.Replies.{text_of};
 ghost use Rattle.journal_text.specs.Calls.{outcome_text};
 ghost use Rattle.audit.specs.Answers.{NoneInReply};
 ghost use Rattle.audit.specs.Images.{HasAllRead, IsPutIfRead};
@@ -48,15 +49,40 @@ pub fn images_in_reply(
     ensures { IfOk result (λ found. MatchOption found (NoneInReply query.now view.now reply.now) (λ part. IsPartFor query.now view.now part × (reply.now ≡ outcome_text (finished (plain.summary (answer_of part)))))) }
 {
     let some = some_images(alloc, mapping, query, view)?;
-    let read = values_in_reply(alloc, &some, reply)?;
-    let map = with_read(alloc, mapping, view, some, &read)?;
-    let images = map.view()?;
-    let shown = LineReply::Pairs(listing_of(alloc, &images)?);
-    if is_shown_as(alloc, &Some(shown), reply)? {
-        Ok(Some(Part::Images(map, images)))
-    } else {
-        Ok(None)
+    let Ok(read) = values_in_reply(alloc, &some, reply) else {
+        drop(some);
+        return Err(NoMemory);
+    };
+    let made = with_read(alloc, mapping, view, some, &read);
+    drop(read);
+    let map = made?;
+    let Ok(images) = map.view() else {
+        drop(map);
+        return Err(NoMemory);
+    };
+    match is_listed_as(alloc, &images, reply) {
+        Ok(true) => Ok(Some(Part::Images(map, images))),
+        Ok(false) => {
+            drop(images);
+            drop(map);
+            Ok(None)
+        }
+        Err(wanting) => {
+            drop(images);
+            drop(map);
+            Err(wanting)
+        }
     }
+}
+
+/// Whether this is the text that lists all pairs of the map.
+fn is_listed_as(alloc: Global, images: &View<ByteText, i64>, text: &[u8]) -> Result<bool, NoMemory>
+    ensures { IfOk result (λ yes. IsTrue yes ↔ (text.now ≡ text_of (LineReply.Pairs images.now))) }
+{
+    let shown = Some(LineReply::Pairs(listing_of(alloc, images)?));
+    let is_so = is_shown_as(alloc, &shown, text);
+    drop(shown);
+    is_so
 }
 
 /// Some map that answers the query for the map.

@@ -51,11 +51,23 @@ fn other_part_in_reply(
     let Some(part) = only_part(alloc, query, view, reply)? else {
         return Ok(None);
     };
-    let shown = reply_to_answer(query.tell(&part)?);
-    if is_shown_as(alloc, &Some(shown), reply)? {
-        Ok(Some(part))
-    } else {
-        Ok(None)
+    let Ok(told) = query.tell(&part) else {
+        drop(part);
+        return Err(NoMemory);
+    };
+    let shown = Some(reply_to_answer(told));
+    let is_so = is_shown_as(alloc, &shown, reply);
+    drop(shown);
+    match is_so {
+        Ok(true) => Ok(Some(part)),
+        Ok(false) => {
+            drop(part);
+            Ok(None)
+        }
+        Err(wanting) => {
+            drop(part);
+            Err(wanting)
+        }
     }
 }
 

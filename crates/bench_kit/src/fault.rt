@@ -1,10 +1,8 @@
 //! Why a benchmark stops.
 
-use locked_map::NoJournal;
 use std::alloc::{AllocError, AllocFailed};
 use std::io;
 use thiserror::Error;
-use trie_map::PutError;
 use trie_node::NoMemory;
 use versions::Refusal;
 
@@ -18,8 +16,8 @@ pub enum Fault {
     #[error("out of memory")]
     Memory,
     /// There is no journal of a shared map's calls.
-    #[error("no journal: {0:?}")]
-    NoJournal(#[from] NoJournal),
+    #[error("no journal")]
+    NoJournal,
     /// The clock, an argument or an output failed.
     #[error(transparent)]
     System(#[from] io::Error),
@@ -46,12 +44,6 @@ impl From<NoMemory> for Fault {
 // A map of the benchmarks is never full, nor is a stripe or a journal, so a refusal is always `NoMemory`.
 impl From<Refusal> for Fault {
     fn from(_: Refusal) -> Fault {
-        Fault::Memory
-    }
-}
-
-impl From<PutError> for Fault {
-    fn from(_: PutError) -> Fault {
         Fault::Memory
     }
 }

@@ -4,8 +4,8 @@ use crate::fault::Fault;
 use keys::ByteText;
 use rand::seq::SliceRandom;
 use rand_pcg::Pcg32;
+use slots::KeySlots;
 use std::alloc::Global;
-use std::sync::Arc;
 
 /// The key of the number: `k0000000`, `k0000001` and so on.
 pub fn text_key(alloc: Global, number: u32) -> Result<ByteText, Fault> {
@@ -13,7 +13,7 @@ pub fn text_key(alloc: Global, number: u32) -> Result<ByteText, Fault> {
     Ok(ByteText::new(text.into_bytes()))
 }
 
-/// The keys of the numbers from 0 to `count` - 1, each of which stands in the list itself.
+/// The keys of the numbers from 0 to `count` - 1, as they are.
 pub fn plain_text_keys(alloc: Global, count: u32) -> Result<Vec<ByteText>, Fault> {
     let mut keys = Vec::with_capacity(alloc, count as usize)?;
     for number in 0..count {
@@ -22,29 +22,44 @@ pub fn plain_text_keys(alloc: Global, count: u32) -> Result<Vec<ByteText>, Fault
     Ok(keys)
 }
 
-/// The keys of the numbers from 0 to `count` - 1, each behind a pointer, as a map takes them.
-pub fn text_keys(alloc: Global, count: u32) -> Result<Vec<Arc<ByteText>>, Fault> {
+/// The keys of the numbers from 0 to `count` - 1, as they lie in the rows of a map.
+pub fn text_keys<S: KeySlots<ByteText>>(alloc: Global, count: u32) -> Result<Vec<S::Key>, Fault>
+where
+    S::Key: Drop,
+{
     let mut keys = Vec::with_capacity(alloc, count as usize)?;
     for number in 0..count {
-        keys.push(Arc::new(alloc, text_key(alloc, number)?)?)?;
+        keys.push(S::new_key(alloc, text_key(alloc, number)?)?)?;
     }
     Ok(keys)
 }
 
-/// The numbers from 0 to `count` - 1, as keys behind pointers.
-pub fn number_keys(alloc: Global, count: u32) -> Result<Vec<Arc<u64>>, Fault> {
+/// The numbers from 0 to `count` - 1, as they lie as keys in the rows of a map.
+pub fn number_keys<S: KeySlots<u64>>(alloc: Global, count: u32) -> Result<Vec<S::Key>, Fault>
+where
+    S::Key: Drop,
+{
     let mut keys = Vec::with_capacity(alloc, count as usize)?;
     for number in 0..count {
-        keys.push(Arc::new(alloc, u64::from(number))?)?;
+        keys.push(S::new_key(alloc, u64::from(number))?)?;
     }
     Ok(keys)
+}
+
+/// The keys as look-ups and removals take them.
+pub fn sought<K, S: KeySlots<K>>(alloc: Global, keys: &[S::Key]) -> Result<Vec<&K>, Fault> {
+    let mut sought = Vec::with_capacity(alloc, keys.len())?;
+    for key in keys {
+        sought.push(S::lend_key(key))?;
+    }
+    Ok(sought)
 }
 
 /// The keys in a random order, the same in each run.
-pub fn shuffled<K: Drop>(alloc: Global, keys: &[Arc<K>]) -> Result<Vec<Arc<K>>, Fault> {
+pub fn shuffled<'a, K>(alloc: Global, keys: &[&'a K]) -> Result<Vec<&'a K>, Fault> {
     let mut shuffled = Vec::with_capacity(alloc, keys.len())?;
     for key in keys {
-        shuffled.push(Arc::try_clone(key)?)?;
+        shuffled.push(*key)?;
     }
     shuffled.as_mut_slice().shuffle(&mut Pcg32::new(1, 1));
     Ok(shuffled)

@@ -1,6 +1,6 @@
 //! The map with a limit.
 ghost use Rattle.std.specs.Prelude.{◌≡◌, ◌≤◌, IfOk, IfSome, IsTrue};
-ghost use Rattle.stripes.specs.Rules.{AllKeep};
+ghost use Rattle.stripe.specs.Rules.{AllKeep};
 ghost use Rattle.versions.specs.declared.version.TheConstants.{MOST_PAIRS};
 
 mod deciding;
@@ -11,8 +11,10 @@ use crate::places::Places;
 use hash_path::{PathKey, Sought};
 use map_view::View;
 use std::alloc::Global;
-use std::sync::{Arc, Wait};
+use std::sync::Wait;
 use trie_map::{Anything, Keeps, NoMemory, TrieMap};
+use trie_node::{Shared, Slots};
+use write_history::Unnamed;
 
 /// A [`TrieMap`] that never has more pairs than its limit, so that a service bounds its memory: a put of a new key
 /// beyond that is refused as `Full`.
@@ -45,22 +47,26 @@ use trie_map::{Anything, Keeps, NoMemory, TrieMap};
 /// pairs are counted right, tests show. Questions are asked of a [`view`](BoundedMap::view), of which
 /// `TrieMap::from_view` makes a map with no limit.
 #[derive(Drop)]
-pub struct BoundedMap<K: PathKey, V, P: Keeps<K, V> = Anything> {
+pub struct BoundedMap<K: PathKey, V, P: Keeps<K, V> = Anything, S: Slots<K, V> = Shared> {
     alloc: Global,
-    map: TrieMap<K, V, P>,
+    map: TrieMap<K, V, P, Unnamed, S>,
     places: Places,
     // The view of a map with no pairs, which `clear` puts in the place of all.
-    empty: View<K, V, P>,
+    empty: View<K, V, P, S>,
 }
 
-impl<K: PathKey + Drop, V: Drop, P: Keeps<K, V>> BoundedMap<K, V, P> {
+impl<K: PathKey + Drop, V: Drop, P: Keeps<K, V>, S: Slots<K, V>> BoundedMap<K, V, P, S>
+where
+    S::Key: Drop,
+    S::Value: Drop,
+{
     /// A map with no pairs, which is to have no more than `limit`.
     ///
     /// Cost: O(1), under the locks of the new map. Refused: `NoMemory`, if memory runs out.
     pub fn with_limit<R: AllocGlobal + Wait>(
         rt: &R,
         limit: u64,
-    ) -> Result<BoundedMap<K, V, P>, NoMemory>
+    ) -> Result<BoundedMap<K, V, P, S>, NoMemory>
         ensures { IfOk result (λ map. map.places.limit ≡ limit) }
     {
         let map = TrieMap::new(rt)?;
@@ -86,8 +92,8 @@ impl<K: PathKey + Drop, V: Drop, P: Keeps<K, V>> BoundedMap<K, V, P> {
     ///
     /// Cost: O(log n), under the lock of the key's stripe. Refused: `NoMemory`, where the handle on the value cannot be
     /// cloned.
-    pub fn get<R: Wait, Q: Sought<K>>(&self, rt: &R, key: Q) -> Result<Option<Arc<V>>, NoMemory>
-        ensures kept { IfOk result (λ found. IfSome found (λ value. P.holds (Q.key_of key) value.value)) }
+    pub fn get<R: Wait, Q: Sought<K>>(&self, rt: &R, key: Q) -> Result<Option<S::Value>, NoMemory>
+        ensures kept { IfOk result (λ found. IfSome found (λ value. P.holds (Q.key_of key) (S.value_of value))) }
     {
         self.map.get(rt, key)
     }
@@ -120,14 +126,18 @@ impl<K: PathKey + Drop, V: Drop, P: Keeps<K, V>> BoundedMap<K, V, P> {
     /// The map as it stands at one moment of the call, to be read and asked with no lock.
     ///
     /// Cost: O(1), under all locks. Refused: `NoMemory`, if memory runs out.
-    pub fn view<R: Wait>(&self, rt: &R) -> Result<View<K, V, P>, NoMemory>
+    pub fn view<R: Wait>(&self, rt: &R) -> Result<View<K, V, P, S>, NoMemory>
         ensures { IfOk result (λ view. AllKeep K.cmp P.holds view) }
     {
         self.map.view(rt)
     }
 }
 
-impl<K: PathKey + Drop, V: Copy + Drop, P: Keeps<K, V>> BoundedMap<K, V, P> {
+impl<K: PathKey + Drop, V: Copy + Drop, P: Keeps<K, V>, S: Slots<K, V>> BoundedMap<K, V, P, S>
+where
+    S::Key: Drop,
+    S::Value: Drop,
+{
     /// A copy of the value of the key, or none.
     ///
     /// Cost: O(log n), under the lock of the key's stripe. Refused: never.

@@ -12,4 +12,4 @@ mod walking;
 pub use answering::ask;
 pub use asks::{Answer, Asks};
 pub use pairs::Pair;
-pub use walking::{work, work_into};
+pub use walking::{grow_in, work, work_in, work_into};

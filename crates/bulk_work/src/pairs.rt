@@ -1,6 +1,6 @@
-//! Pairs behind shared pointers.
+//! Pairs as they lie in the rows of a map.
 
-use std::sync::Arc;
+use trie_node::{KeySlots, Shared, ValueSlots};
 
-/// A pair of a map.
-pub type Pair<K, V> = (Arc<K>, Arc<V>);
+/// A pair of a map, as it lies in its rows: two handles with `Shared`.
+pub type Pair<K, V, S = Shared> = (<S as KeySlots<K>>::Key, <S as ValueSlots<V>>::Value);

@@ -11,11 +11,10 @@ use crate::answer::Page;
 use crate::map::Map;
 use crate::shown::Shown;
 use keys::ByteText;
-use std::sync::Arc;
 use trie_fetch::{KeysAndValues, fetch_levels};
 use trie_node::{
-    Look, Node, bitmap_counts_children, branch_is_its_children, child, leaf_is_its_pairs, look,
-    root_walks_in_order, size, trie_follows_digits, walk_lists_map,
+    Look, Node, Pair, Shared, bitmap_counts_children, branch_is_its_children, child,
+    leaf_is_its_pairs, look, root_walks_in_order, size, trie_follows_digits, walk_lists_map,
 };
 
 /// The bytes of the two numbers with which a pair begins.
@@ -109,7 +108,7 @@ fn fill<V: Shown>(
             branch_is_its_children::<ByteText, V>();
             let is_small = size <= MOST_FETCHED;
             if is_small && !is_fetched {
-                fetch_levels::<KeysAndValues, ByteText, V>(node);
+                fetch_levels::<KeysAndValues, ByteText, V, Shared>(node);
             }
             let mut at = at;
             for n in 0..bitmap.count_ones() {
@@ -121,18 +120,14 @@ fn fill<V: Shown>(
 }
 
 /// Writes the pairs of a leaf or bucket.
-fn fill_pairs<V: Shown>(
-    pairs: &[(Arc<ByteText>, Arc<V>)],
-    at: Filling,
-    buffer: &mut [u8],
-) -> Filling
+fn fill_pairs<V: Shown>(pairs: &[Pair<ByteText, V>], at: Filling, buffer: &mut [u8]) -> Filling
     requires few { at.pairs ≤ at.used }
     ensures filled { (result, buffer.new) ≡ filled (spelled V.number V.bytes) (at, buffer.old) (map pair_values pairs.now) }
     ensures few { result.pairs ≤ result.used }
 {
     let mut at = at;
-    for (key, value) in pairs {
-        at = fill_one(key.as_bytes(), value.as_ref(), at, buffer);
+    for pair in pairs {
+        at = fill_one(pair.key().as_bytes(), pair.value(), at, buffer);
     }
     at
 }

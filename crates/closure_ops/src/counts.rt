@@ -1,10 +1,9 @@
 //! How many pairs pass a plain closure.
-use crate::closure::answer_at;
-use combiner::Bulk;
+use crate::closure::answer_in;
+use combiner::BulkIn;
 use hash_path::PathKey;
 use std::alloc::Global;
-use std::sync::Arc;
-use trie_node::NoMemory;
+use trie_node::{KeySlots, NoMemory, Node, Slots, ValueSlots};
 
 /// How many pairs pass a test. It makes no request for memory, and is never settled before all pairs are counted.
 #[derive(Drop)]
@@ -13,7 +12,14 @@ pub struct Counts<F> {
     pub test: F,
 }
 
-impl<K: PathKey + Drop, V: Drop, F: Fn(&K, &V) -> bool> Bulk<K, V> for Counts<F> {
+impl<
+    K: PathKey,
+    V,
+    S: Slots<K, V> + KeySlots<K, Key = A> + ValueSlots<V, Value = B>,
+    A: Drop,
+    B: Drop,
+    F: Fn(&K, &V) -> bool,
+> BulkIn<K, V, S> for Counts<F> {
     type Part = u64;
 
     ghost use Rattle.bulk_ops.specs.Meanings.{MayAnswer};
@@ -29,8 +35,8 @@ impl<K: PathKey + Drop, V: Drop, F: Fn(&K, &V) -> bool> Bulk<K, V> for Counts<F>
         Ok(0)
     }
 
-    fn one(&self, _alloc: Global, key: &Arc<K>, value: &Arc<V>) -> Result<u64, NoMemory> {
-        Ok(u64::from(answer_at(&self.test, key, value)))
+    fn one(&self, _alloc: Global, key: &A, value: &B) -> Result<u64, NoMemory> {
+        Ok(u64::from(answer_in::<K, V, S, _, _>(&self.test, key, value)))
     }
 
     fn join(&self, _alloc: Global, a: &u64, b: &u64) -> Result<u64, NoMemory> {
@@ -41,14 +47,21 @@ impl<K: PathKey + Drop, V: Drop, F: Fn(&K, &V) -> bool> Bulk<K, V> for Counts<F>
         false
     }
 
-    fn add(
+    fn add(&self, _alloc: Global, part: &mut u64, key: &A, value: &B) -> Result<(), NoMemory> {
+        *part += u64::from(answer_in::<K, V, S, _, _>(&self.test, key, value));
+        Ok(())
+    }
+
+    fn of_root(&self, _alloc: Global, _root: &Node<K, V, S>) -> Result<Option<u64>, NoMemory> {
+        Ok(None)
+    }
+
+    fn join_root(
         &self,
         _alloc: Global,
-        part: &mut u64,
-        key: &Arc<K>,
-        value: &Arc<V>,
-    ) -> Result<(), NoMemory> {
-        *part += u64::from(answer_at(&self.test, key, value));
-        Ok(())
+        part: u64,
+        _root: &Node<K, V, S>,
+    ) -> Result<Result<u64, u64>, NoMemory> {
+        Ok(Err(part))
     }
 }

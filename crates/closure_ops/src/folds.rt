@@ -1,10 +1,9 @@
 //! The items of all pairs combined, by a plain closure.
-use crate::closure::answer_at;
-use combiner::{Bulk, Monoid};
+use crate::closure::answer_in;
+use combiner::{BulkIn, Monoid};
 use hash_path::PathKey;
 use std::alloc::Global;
-use std::sync::Arc;
-use trie_node::NoMemory;
+use trie_node::{KeySlots, NoMemory, Node, Slots, ValueSlots};
 
 /// The items of all pairs combined by a monoid. It makes no request for memory but those of the monoid, and is never
 /// settled before all items are combined.
@@ -16,8 +15,16 @@ pub struct Folds<'a, M, G> {
     pub item: G,
 }
 
-impl<'a, K: PathKey + Drop, V: Drop, M: Monoid, G: Fn(&K, &V) -> M::Item> Bulk<K, V>
-    for Folds<'a, M, G> {
+impl<
+    'a,
+    K: PathKey,
+    V,
+    S: Slots<K, V> + KeySlots<K, Key = A> + ValueSlots<V, Value = B>,
+    A: Drop,
+    B: Drop,
+    M: Monoid,
+    G: Fn(&K, &V) -> M::Item,
+> BulkIn<K, V, S> for Folds<'a, M, G> {
     type Part = M::Item;
 
     ghost use Rattle.bulk_ops.specs.Meanings.{MayAnswer};
@@ -33,8 +40,8 @@ impl<'a, K: PathKey + Drop, V: Drop, M: Monoid, G: Fn(&K, &V) -> M::Item> Bulk<K
         Ok(self.monoid.unit())
     }
 
-    fn one(&self, _alloc: Global, key: &Arc<K>, value: &Arc<V>) -> Result<M::Item, NoMemory> {
-        let item = answer_at(&self.item, key, value);
+    fn one(&self, _alloc: Global, key: &A, value: &B) -> Result<M::Item, NoMemory> {
+        let item = answer_in::<K, V, S, _, _>(&self.item, key, value);
         Ok(self.monoid.op(&item, &self.monoid.unit()))
     }
 
@@ -46,15 +53,24 @@ impl<'a, K: PathKey + Drop, V: Drop, M: Monoid, G: Fn(&K, &V) -> M::Item> Bulk<K
         false
     }
 
-    fn add(
-        &self,
-        _alloc: Global,
-        part: &mut M::Item,
-        key: &Arc<K>,
-        value: &Arc<V>,
-    ) -> Result<(), NoMemory> {
-        let all = self.monoid.op(&answer_at(&self.item, key, value), part);
+    fn add(&self, _alloc: Global, part: &mut M::Item, key: &A, value: &B) -> Result<(), NoMemory> {
+        let all = self
+            .monoid
+            .op(&answer_in::<K, V, S, _, _>(&self.item, key, value), part);
         *part = all;
         Ok(())
+    }
+
+    fn of_root(&self, _alloc: Global, _root: &Node<K, V, S>) -> Result<Option<M::Item>, NoMemory> {
+        Ok(None)
+    }
+
+    fn join_root(
+        &self,
+        _alloc: Global,
+        part: M::Item,
+        _root: &Node<K, V, S>,
+    ) -> Result<Result<M::Item, M::Item>, NoMemory> {
+        Ok(Err(part))
     }
 }

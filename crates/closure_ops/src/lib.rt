@@ -11,7 +11,7 @@ mod folds;
 mod made;
 mod new_values;
 
-pub use closure::answer_at;
+pub use closure::{answer_at, answer_in};
 pub use counts::Counts;
 pub use filters::Filters;
 pub use folds::Folds;

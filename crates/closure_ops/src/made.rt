@@ -5,19 +5,21 @@ ghost use Rattle.versions.specs.declared.version.TheConstants.{MOST_PAIRS};
 
 use hash_path::PathKey;
 use std::alloc::Global;
-use std::sync::Arc;
-use trie_node::{NoMemory, Stamp};
+use trie_node::{NoMemory, Slots, Stamp, empty_root};
 use versions::{MOST_PAIRS, Refusal, Version};
 
 /// Puts a pair into a map that has room. After `NoMemory` the map is as before.
-pub fn put_within<K: PathKey + Drop, V: Drop>(
+pub fn put_within<K: PathKey, V, S: Slots<K, V>>(
     alloc: Global,
-    map: &mut Version<K, V>,
-    key: Arc<K>,
-    value: Arc<V>,
+    map: &mut Version<K, V, S>,
+    key: S::Key,
+    value: S::Value,
 ) -> Result<(), NoMemory>
+where
+    S::Key: Drop,
+    S::Value: Drop,
     requires { length map.old.entries < map.old.limit }
-    ensures entries { OnOk result (map.new.entries ≡ with_pair K.cmp map.old.entries key.value value.value) }
+    ensures entries { OnOk result (map.new.entries ≡ with_pair K.cmp map.old.entries (S.key_of key) (S.value_of value)) }
     ensures limit { map.new.limit ≡ map.old.limit }
     ensures err { OnErr result (map.new ≡ map.old) }
 {
@@ -29,40 +31,50 @@ pub fn put_within<K: PathKey + Drop, V: Drop>(
 }
 
 /// A map of no pairs, with the largest limit.
-pub fn no_pairs<K: PathKey + Drop, V: Drop>(alloc: Global) -> Result<Version<K, V>, NoMemory>
+pub fn no_pairs<K: PathKey, V, S: Slots<K, V>>(alloc: Global) -> Result<Version<K, V, S>, NoMemory>
+where
+    S::Key: Drop,
+    S::Value: Drop,
     ensures entries { IfOk result (λ map. map.entries ≡ []) }
     ensures limit { IfOk result (λ map. map.limit ≡ MOST_PAIRS) }
 {
-    Version::empty(alloc, MOST_PAIRS, Stamp::LOOSE)
+    let root = empty_root(alloc, Stamp::LOOSE)?;
+    Ok(Version::from_root(root, MOST_PAIRS, Stamp::LOOSE))
 }
 
 /// The map of one pair, with another handle on its key.
-pub(crate) fn one_pair<K: PathKey + Drop, V: Drop>(
+pub(crate) fn one_pair<K: PathKey, V, S: Slots<K, V>>(
     alloc: Global,
-    key: &Arc<K>,
-    value: Arc<V>,
-) -> Result<Version<K, V>, NoMemory>
-    ensures entries { IfOk result (λ map. map.entries ≡ (key.now.value, value.value) ∷ []) }
+    key: &S::Key,
+    value: S::Value,
+) -> Result<Version<K, V, S>, NoMemory>
+where
+    S::Key: Drop,
+    S::Value: Drop,
+    ensures entries { IfOk result (λ map. map.entries ≡ (S.key_of key.now, S.value_of value) ∷ []) }
     ensures limit { IfOk result (λ map. map.limit ≡ MOST_PAIRS) }
 {
-    let key = Arc::try_clone(key)?;
+    let key = S::another_key(key)?;
     let mut map = no_pairs(alloc)?;
     put_within(alloc, &mut map, key, value)?;
     Ok(map)
 }
 
 /// The map of the pair, if it passes, or of none.
-pub(crate) fn pair_if<K: PathKey + Drop, V: Drop>(
+pub(crate) fn pair_if<K: PathKey, V, S: Slots<K, V>>(
     alloc: Global,
     passes: bool,
-    key: &Arc<K>,
-    value: &Arc<V>,
-) -> Result<Version<K, V>, NoMemory>
-    ensures entries { IfOk result (λ map. map.entries ≡ cond passes ((key.now.value, value.now.value) ∷ []) []) }
+    key: &S::Key,
+    value: &S::Value,
+) -> Result<Version<K, V, S>, NoMemory>
+where
+    S::Key: Drop,
+    S::Value: Drop,
+    ensures entries { IfOk result (λ map. map.entries ≡ cond passes ((S.key_of key.now, S.value_of value.now) ∷ []) []) }
     ensures limit { IfOk result (λ map. map.limit ≡ MOST_PAIRS) }
 {
     if passes {
-        one_pair(alloc, key, Arc::try_clone(value)?)
+        one_pair::<K, V, S>(alloc, key, S::another_value(value)?)
     } else {
         no_pairs(alloc)
     }

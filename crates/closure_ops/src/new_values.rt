@@ -1,11 +1,10 @@
 //! The map of the same keys, each with what a plain closure makes of its pair.
-use crate::closure::answer_at;
+use crate::closure::answer_in;
 use crate::made::{no_pairs, one_pair};
-use combiner::{Bulk, merge};
+use combiner::{BulkIn, merge};
 use hash_path::PathKey;
 use std::alloc::Global;
-use std::sync::Arc;
-use trie_node::{NoMemory, Node, Stamp};
+use trie_node::{KeySlots, NoMemory, Node, Slots, Stamp, ValueSlots};
 use trie_values::with_new_values;
 use versions::{MOST_PAIRS, Version};
 
@@ -17,8 +16,19 @@ pub struct NewValues<G> {
     pub change: G,
 }
 
-impl<K: PathKey + Drop, V: Drop, W: Drop, G: Fn(&K, &V) -> W> Bulk<K, V> for NewValues<G> {
-    type Part = Version<K, W>;
+impl<
+    K: PathKey,
+    V,
+    W: Drop,
+    S: Slots<K, V> + KeySlots<K, Key = A> + ValueSlots<V, Value = B> + Slots<K, W>,
+    A: Drop,
+    B: Drop,
+    G: Fn(&K, &V) -> W,
+> BulkIn<K, V, S> for NewValues<G>
+where
+    <S as ValueSlots<W>>::Value: Drop,
+{
+    type Part = Version<K, W, S>;
 
     ghost use Rattle.bulk_ops.specs.Meanings.{MayAnswer};
     ghost use Rattle.closure_ops.specs.Parts.{IsMapped};
@@ -29,28 +39,31 @@ impl<K: PathKey + Drop, V: Drop, W: Drop, G: Fn(&K, &V) -> W> Bulk<K, V> for New
 
     ghost ready = { λ values. G.IsAlwaysCallable values.change };
 
-    fn unit(&self, alloc: Global) -> Result<Version<K, W>, NoMemory> {
+    fn unit(&self, alloc: Global) -> Result<Version<K, W, S>, NoMemory> {
         let none = no_pairs(alloc)?;
         Ok(none)
     }
 
-    fn one(&self, alloc: Global, key: &Arc<K>, value: &Arc<V>) -> Result<Version<K, W>, NoMemory> {
-        let new = Arc::new(alloc, answer_at(&self.change, key, value))?;
-        let made = one_pair(alloc, key, new)?;
+    fn one(&self, alloc: Global, key: &A, value: &B) -> Result<Version<K, W, S>, NoMemory> {
+        let new = <S as ValueSlots<W>>::new_value(
+            alloc,
+            answer_in::<K, V, S, _, _>(&self.change, key, value),
+        )?;
+        let made = one_pair::<K, W, S>(alloc, key, new)?;
         Ok(made)
     }
 
     fn join(
         &self,
         alloc: Global,
-        a: &Version<K, W>,
-        b: &Version<K, W>,
-    ) -> Result<Version<K, W>, NoMemory> {
+        a: &Version<K, W, S>,
+        b: &Version<K, W, S>,
+    ) -> Result<Version<K, W, S>, NoMemory> {
         let both = merge(alloc, a, b)?;
         Ok(both)
     }
 
-    fn settled(&self, _part: &Version<K, W>) -> bool {
+    fn settled(&self, _part: &Version<K, W, S>) -> bool {
         false
     }
 
@@ -58,8 +71,36 @@ impl<K: PathKey + Drop, V: Drop, W: Drop, G: Fn(&K, &V) -> W> Bulk<K, V> for New
         true
     }
 
-    fn of_root(&self, alloc: Global, root: &Node<K, V>) -> Result<Option<Version<K, W>>, NoMemory> {
-        let made = with_new_values(alloc, root, Stamp::LOOSE, &self.change)?;
+    fn of_root(
+        &self,
+        alloc: Global,
+        root: &Node<K, V, S>,
+    ) -> Result<Option<Version<K, W, S>>, NoMemory> {
+        let made = with_new_values::<K, V, W, S, G>(alloc, root, Stamp::LOOSE, &self.change)?;
         Ok(Some(Version::from_root(made, MOST_PAIRS, Stamp::LOOSE)))
+    }
+
+    fn add(
+        &self,
+        alloc: Global,
+        part: &mut Version<K, W, S>,
+        key: &A,
+        value: &B,
+    ) -> Result<(), NoMemory> {
+        let one = self.one(alloc, key, value)?;
+        *part = self.join(alloc, &one, part)?;
+        Ok(())
+    }
+
+    fn join_root(
+        &self,
+        alloc: Global,
+        part: Version<K, W, S>,
+        root: &Node<K, V, S>,
+    ) -> Result<Result<Version<K, W, S>, Version<K, W, S>>, NoMemory> {
+        match self.of_root(alloc, root)? {
+            Some(made) => Ok(Ok(self.join(alloc, &part, &made)?)),
+            None => Ok(Err(part)),
+        }
     }
 }

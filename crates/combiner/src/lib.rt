@@ -6,16 +6,20 @@
 
 mod both;
 mod bulk;
+mod bulk_in;
 mod extremes;
 mod laws;
 mod merging;
 mod monoid;
+mod on_handles;
 mod sum;
 
 pub use both::Both;
 pub use bulk::Bulk;
+pub use bulk_in::BulkIn;
 pub use extremes::{Greatest, Least};
 pub use laws::{law_of_sums, law_of_sums_within};
 pub use merging::merge;
 pub use monoid::Monoid;
+pub use on_handles::OnHandles;
 pub use sum::Sum;

@@ -4,18 +4,21 @@ ghost use Rattle.versions.specs.Map.{union};
 
 use hash_path::PathKey;
 use std::alloc::Global;
-use trie_node::{NoMemory, Stamp, merged, union_of_maps};
+use trie_node::{NoMemory, Slots, Stamp, merged, union_of_maps};
 use versions::Version;
 
 /// The pairs of both maps; where both have a key, the left value wins.
 ///
 /// It goes down both tries at once and shares each part where one map alone has pairs, so that maps of disjoint
 /// intervals are put together at the cost of the nodes where the intervals meet. Both maps are unchanged.
-pub fn merge<K: PathKey + Drop, V: Drop>(
+pub fn merge<K: PathKey, V, S: Slots<K, V>>(
     alloc: Global,
-    left: &Version<K, V>,
-    right: &Version<K, V>,
-) -> Result<Version<K, V>, NoMemory>
+    left: &Version<K, V, S>,
+    right: &Version<K, V, S>,
+) -> Result<Version<K, V, S>, NoMemory>
+where
+    S::Key: Drop,
+    S::Value: Drop,
     requires limits { left.now.limit ≡ right.now.limit }
     requires room { length left.now.entries + length right.now.entries ≤ left.now.limit }
     ensures entries { IfOk result (λ both. both.entries ≡ union K.cmp left.now.entries right.now.entries) }

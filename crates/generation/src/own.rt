@@ -9,13 +9,13 @@ ghost use Rattle.generation.specs.Owned.{own_below};
 
 use hash_path::PathKey;
 use trie_node::{
-    Look, Node, Stamp, bitmap_counts_children, child, look, root_has_few_nodes, stamp,
+    Look, Node, Slots, Stamp, bitmap_counts_children, child, look, root_has_few_nodes, stamp,
 };
 
 /// How many nodes carry the stamp, from this node down. It walks over all of them and takes no memory.
 ///
 /// Of a root these are all nodes of its map.
-pub fn own_nodes<K: PathKey, V>(node: &Node<K, V>, own: Stamp) -> u64
+pub fn own_nodes<K: PathKey, V, S: Slots<K, V>>(node: &Node<K, V, S>, own: Stamp) -> u64
     requires fits { Fits (tree node.now) }
     requires few { node_count (tree node.now) < 2 ^ 64 }
     ensures below { result ≡ own_below own.0 (tree node.now) }
@@ -26,7 +26,7 @@ pub fn own_nodes<K: PathKey, V>(node: &Node<K, V>, own: Stamp) -> u64
 }
 
 /// The nodes of a subtrie that carry the stamp.
-fn count_own<K, V>(node: &Node<K, V>, own: Stamp) -> u64
+fn count_own<K, V, S: Slots<K, V>>(node: &Node<K, V, S>, own: Stamp) -> u64
     requires fits { Fits (tree node.now) }
     requires few { node_count (tree node.now) < 2 ^ 64 }
     ensures { result ≡ own_below own.0 (tree node.now) }

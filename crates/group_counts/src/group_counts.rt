@@ -1,11 +1,10 @@
 //! How many pairs of a map each group has.
 use crate::groups::Groups;
-use closure_ops::answer_at;
-use combiner::Bulk;
+use closure_ops::answer_in;
+use combiner::BulkIn;
 use hash_path::PathKey;
 use std::alloc::Global;
-use std::sync::Arc;
-use trie_node::NoMemory;
+use trie_node::{KeySlots, NoMemory, Node, Slots, ValueSlots};
 
 /// How many pairs each group has. It is never settled before all pairs are counted.
 ///
@@ -16,8 +15,15 @@ pub struct GroupCounts<F> {
     pub group: F,
 }
 
-impl<K: PathKey + Drop, V: Drop, G: PathKey + Drop, F: Fn(&K, &V) -> G> Bulk<K, V>
-    for GroupCounts<F> {
+impl<
+    K: PathKey,
+    V,
+    S: Slots<K, V> + KeySlots<K, Key = A> + ValueSlots<V, Value = B>,
+    A: Drop,
+    B: Drop,
+    G: PathKey + Drop,
+    F: Fn(&K, &V) -> G,
+> BulkIn<K, V, S> for GroupCounts<F> {
     type Part = Groups<G>;
 
     ghost use Rattle.bulk_ops.specs.Meanings.{MayAnswer};
@@ -33,8 +39,8 @@ impl<K: PathKey + Drop, V: Drop, G: PathKey + Drop, F: Fn(&K, &V) -> G> Bulk<K, 
         Ok(Groups::none(alloc))
     }
 
-    fn one(&self, alloc: Global, key: &Arc<K>, value: &Arc<V>) -> Result<Groups<G>, NoMemory> {
-        Groups::of_one(alloc, answer_at(&self.group, key, value))
+    fn one(&self, alloc: Global, key: &A, value: &B) -> Result<Groups<G>, NoMemory> {
+        Groups::of_one(alloc, answer_in::<K, V, S, _, _>(&self.group, key, value))
     }
 
     fn join(&self, alloc: Global, a: &Groups<G>, b: &Groups<G>) -> Result<Groups<G>, NoMemory> {
@@ -45,13 +51,24 @@ impl<K: PathKey + Drop, V: Drop, G: PathKey + Drop, F: Fn(&K, &V) -> G> Bulk<K, 
         false
     }
 
-    fn add(
+    fn add(&self, alloc: Global, part: &mut Groups<G>, key: &A, value: &B) -> Result<(), NoMemory> {
+        part.count_one(alloc, answer_in::<K, V, S, _, _>(&self.group, key, value))
+    }
+
+    fn of_root(
         &self,
-        alloc: Global,
-        part: &mut Groups<G>,
-        key: &Arc<K>,
-        value: &Arc<V>,
-    ) -> Result<(), NoMemory> {
-        part.count_one(alloc, answer_at(&self.group, key, value))
+        _alloc: Global,
+        _root: &Node<K, V, S>,
+    ) -> Result<Option<Groups<G>>, NoMemory> {
+        Ok(None)
+    }
+
+    fn join_root(
+        &self,
+        _alloc: Global,
+        part: Groups<G>,
+        _root: &Node<K, V, S>,
+    ) -> Result<Result<Groups<G>, Groups<G>>, NoMemory> {
+        Ok(Err(part))
     }
 }

@@ -1,11 +1,10 @@
 //! The items of each group of a map's pairs combined.
 use crate::sums::{add_item, group_at, joined_sums, one_sum};
-use closure_ops::{answer_at, no_pairs};
-use combiner::{Bulk, Monoid};
+use closure_ops::{answer_in, no_pairs};
+use combiner::{BulkIn, Monoid};
 use hash_path::PathKey;
 use std::alloc::{AllocError, Global};
-use std::sync::Arc;
-use trie_node::NoMemory;
+use trie_node::{KeySlots, NoMemory, Node, Slots, ValueSlots};
 use versions::Version;
 
 /// The map from each group to the items of its pairs, combined by a monoid. It is never settled before all items are
@@ -22,13 +21,16 @@ pub struct GroupFolds<'a, M, F, I> {
 
 impl<
     'a,
-    K: PathKey + Drop,
-    V: Drop,
+    K: PathKey,
+    V,
+    S: Slots<K, V> + KeySlots<K, Key = A> + ValueSlots<V, Value = B>,
+    A: Drop,
+    B: Drop,
     G: PathKey + Drop,
     M: Monoid,
     F: Fn(&K, &V) -> Result<G, AllocError>,
     I: Fn(&K, &V) -> M::Item,
-> Bulk<K, V> for GroupFolds<'a, M, F, I> {
+> BulkIn<K, V, S> for GroupFolds<'a, M, F, I> {
     type Part = Version<G, M::Item>;
 
     ghost use Rattle.std.specs.Prelude.{Ok};
@@ -46,14 +48,9 @@ impl<
         Ok(none)
     }
 
-    fn one(
-        &self,
-        alloc: Global,
-        key: &Arc<K>,
-        value: &Arc<V>,
-    ) -> Result<Version<G, M::Item>, NoMemory> {
-        let group = group_at(alloc, &self.group, key, value)?;
-        let item = answer_at(&self.item, key, value);
+    fn one(&self, alloc: Global, key: &A, value: &B) -> Result<Version<G, M::Item>, NoMemory> {
+        let group = group_at::<K, V, S, _, _>(alloc, &self.group, key, value)?;
+        let item = answer_in::<K, V, S, _, _>(&self.item, key, value);
         let sums = one_sum(alloc, self.monoid, group, &item)?;
         Ok(sums)
     }
@@ -76,11 +73,28 @@ impl<
         &self,
         alloc: Global,
         part: &mut Version<G, M::Item>,
-        key: &Arc<K>,
-        value: &Arc<V>,
+        key: &A,
+        value: &B,
     ) -> Result<(), NoMemory> {
-        let group = group_at(alloc, &self.group, key, value)?;
-        let item = answer_at(&self.item, key, value);
+        let group = group_at::<K, V, S, _, _>(alloc, &self.group, key, value)?;
+        let item = answer_in::<K, V, S, _, _>(&self.item, key, value);
         add_item(alloc, self.monoid, part, group, &item)
+    }
+
+    fn of_root(
+        &self,
+        _alloc: Global,
+        _root: &Node<K, V, S>,
+    ) -> Result<Option<Version<G, M::Item>>, NoMemory> {
+        Ok(None)
+    }
+
+    fn join_root(
+        &self,
+        _alloc: Global,
+        part: Version<G, M::Item>,
+        _root: &Node<K, V, S>,
+    ) -> Result<Result<Version<G, M::Item>, Version<G, M::Item>>, NoMemory> {
+        Ok(Err(part))
     }
 }

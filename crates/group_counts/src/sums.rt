@@ -6,26 +6,26 @@ ghost use Rattle.group_counts.specs.Sums.{IsCombined, with_item};
 ghost use Rattle.versions.specs.Map.{value_at, with_pair};
 ghost use Rattle.versions.specs.declared.version.TheConstants.{MOST_PAIRS};
 
-use closure_ops::{answer_at, no_pairs};
+use closure_ops::{answer_in, no_pairs};
 use combiner::Monoid;
 use hash_path::{Path, PathKey};
 use iter::bunches_of_root;
 use std::alloc::{AllocError, Global};
 use std::sync::Arc;
-use trie_node::{Always, NoMemory, walk_lists_map};
+use trie_node::{Always, NoMemory, Slots, walk_lists_map};
 use versions::{Refusal, Version};
 
 /// What the closure names as the group of a pair, or `NoMemory` where there is none for it.
-pub(crate) fn group_at<K, V, G: Drop, F: Fn(&K, &V) -> Result<G, AllocError>>(
+pub(crate) fn group_at<K, V, S: Slots<K, V>, G: Drop, F: Fn(&K, &V) -> Result<G, AllocError>>(
     alloc: Global,
     call: &F,
-    key: &Arc<K>,
-    value: &Arc<V>,
+    key: &S::Key,
+    value: &S::Value,
 ) -> Result<Arc<G>, NoMemory>
     requires { F.IsAlwaysCallable call.now }
-    ensures { IfOk result (λ group. MayAnswer F.Fn call.now key.now.value value.now.value (Ok group.value)) }
+    ensures { IfOk result (λ group. MayAnswer F.Fn call.now (S.key_of key.now) (S.value_of value.now) (Ok group.value)) }
 {
-    let group = answer_at(call, key, value)?;
+    let group = answer_in::<K, V, S, _, _>(call, key, value)?;
     let shared = Arc::new(alloc, group)?;
     Ok(shared)
 }

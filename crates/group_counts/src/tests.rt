@@ -3,14 +3,14 @@ ghost use Rattle.std.specs.Prelude.{◌+◌, ◌≤◌, length};
 ghost use Rattle.group_counts.specs.Counts.{total};
 
 use super::{GroupCounts, Groups};
-use bulk_work::work;
-use combiner::Bulk;
+use bulk_work::work_in;
+use combiner::BulkIn;
 use splitter::whole;
 use std::alloc::Global;
 use std::panic::Expect;
 use std::process::Abort;
 use std::sync::Arc;
-use trie_node::Stamp;
+use trie_node::{Shared, Stamp};
 use versions::{Version, View};
 
 // A map of these values, each under its number.
@@ -32,7 +32,7 @@ fn by_rest(rt: &impl Abort, alloc: Global, values: &[u64]) -> Groups<u64> {
         group: |_: &u64, value: &u64| *value % 3,
     };
     let piece = whole(alloc, map_of(rt, alloc, values));
-    work(alloc, &piece, &counts).expect(rt, "no part")
+    work_in(alloc, &piece, &counts).expect(rt, "no part")
 }
 
 // The counts of a pair for each of these groups.
@@ -106,7 +106,8 @@ fn one_pair_has_one_group(rt: HostRuntime) {
     };
     let key = Arc::new(alloc, 14).expect(&rt, "no key");
     let value = Arc::new(alloc, 23).expect(&rt, "no value");
-    let groups = counts.one(alloc, &key, &value).expect(&rt, "no part");
+    let made = BulkIn::<u64, u64, Shared>::one(&counts, alloc, &key, &value);
+    let groups = made.expect(&rt, "no part");
     assert_counts(&rt, alloc, &groups, &[(7, 1)]);
 }
 

@@ -1,11 +1,10 @@
 //! How many pairs of a map each group has, where a group may need memory.
 use crate::groups::Groups;
-use closure_ops::answer_at;
-use combiner::Bulk;
+use closure_ops::answer_in;
+use combiner::BulkIn;
 use hash_path::PathKey;
 use std::alloc::{AllocError, Global};
-use std::sync::Arc;
-use trie_node::NoMemory;
+use trie_node::{KeySlots, NoMemory, Node, Slots, ValueSlots};
 
 /// How many pairs each group has, as `GroupCounts`, where the closure may find no memory for the group. The work is then
 /// refused, and no pair is left out.
@@ -15,10 +14,15 @@ pub struct TryGroupCounts<F> {
     pub group: F,
 }
 
-impl<K: PathKey + Drop, V: Drop, G: PathKey + Drop, F: Fn(&K, &V) -> Result<G, AllocError>> Bulk<
-    K,
+impl<
+    K: PathKey,
     V,
-> for TryGroupCounts<F> {
+    S: Slots<K, V> + KeySlots<K, Key = A> + ValueSlots<V, Value = B>,
+    A: Drop,
+    B: Drop,
+    G: PathKey + Drop,
+    F: Fn(&K, &V) -> Result<G, AllocError>,
+> BulkIn<K, V, S> for TryGroupCounts<F> {
     type Part = Groups<G>;
 
     ghost use Rattle.std.specs.Prelude.{Ok};
@@ -35,8 +39,8 @@ impl<K: PathKey + Drop, V: Drop, G: PathKey + Drop, F: Fn(&K, &V) -> Result<G, A
         Ok(Groups::none(alloc))
     }
 
-    fn one(&self, alloc: Global, key: &Arc<K>, value: &Arc<V>) -> Result<Groups<G>, NoMemory> {
-        let group = answer_at(&self.group, key, value)?;
+    fn one(&self, alloc: Global, key: &A, value: &B) -> Result<Groups<G>, NoMemory> {
+        let group = answer_in::<K, V, S, _, _>(&self.group, key, value)?;
         Groups::of_one(alloc, group)
     }
 
@@ -48,14 +52,25 @@ impl<K: PathKey + Drop, V: Drop, G: PathKey + Drop, F: Fn(&K, &V) -> Result<G, A
         false
     }
 
-    fn add(
-        &self,
-        alloc: Global,
-        part: &mut Groups<G>,
-        key: &Arc<K>,
-        value: &Arc<V>,
-    ) -> Result<(), NoMemory> {
-        let group = answer_at(&self.group, key, value)?;
+    fn add(&self, alloc: Global, part: &mut Groups<G>, key: &A, value: &B) -> Result<(), NoMemory> {
+        let group = answer_in::<K, V, S, _, _>(&self.group, key, value)?;
         part.count_one(alloc, group)
+    }
+
+    fn of_root(
+        &self,
+        _alloc: Global,
+        _root: &Node<K, V, S>,
+    ) -> Result<Option<Groups<G>>, NoMemory> {
+        Ok(None)
+    }
+
+    fn join_root(
+        &self,
+        _alloc: Global,
+        part: Groups<G>,
+        _root: &Node<K, V, S>,
+    ) -> Result<Result<Groups<G>, Groups<G>>, NoMemory> {
+        Ok(Err(part))
     }
 }

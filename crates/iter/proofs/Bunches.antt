@@ -5,8 +5,6 @@ use Rattle.std.proofs.lemmas.List.{append_assoc, drop_more, flat_map_more, lengt
 use Rattle.std.proofs.lemmas.List.Elements.{All-nil, All-cons}
 use Rattle.std.proofs.lemmas.List.Folds.{length-flat_map-take}
 use Rattle.std.proofs.lemmas.List.Sums.{sum_by-cons}
-use Rattle.std.specs.declared.sync.Arc.{Arc}
-use Rattle.std.specs.declared.alloc.Global.{Global}
 use Rattle.trie_shape.specs.Counts.{node_count, count_of_all}
 use Rattle.trie_shape.specs.Inside.{lent}
 use Rattle.trie_shape.specs.Tree.{Tree, entries, entries_of_all, trees}
@@ -18,7 +16,7 @@ use denote.Ref.{Bor}
 
 -- a place of a bunch
 abbrev pub Place : Type 0 → Type 0 → Type 0
-Place K V = Option (Bor (Arc K Global × Arc V Global))
+Place K V = Option (Bor (K × V))
 
 module _ {K V : Type 0} where
   -- places each of which holds a pair have the pairs that were pushed into them
@@ -46,7 +44,7 @@ module _ {K V : Type 0} where
       omega (arith, ap length e, length-map new held, length-append (map held old) (map Some ps), length-map old held, length-map ps Some)
 
   -- the nodes of a row up to a number, and the one there, take no more places than the row has pairs
-  pub room_for_child : (row : List (Node K V)) (child : Node K V) (n : ℕ) (new old : List (Place K V)) → n < length row → child ≡ get_or row n child
+  pub room_for_child : {S X Y : Type 0} (row : List (Node K V S X Y)) (child : Node K V S X Y) (n : ℕ) (new old : List (Place K V)) → n < length row → child ≡ get_or row n child
       → map held new ≡ map held old ++ map Some (pairs_in (take n row)) → length new + length (entries (tree child)) ≤ length old + length (pairs_in row)
   room_for_child row child n new old below at e =
       let pushed = pushed_count new old (pairs_in (take n row)) e in
@@ -54,7 +52,7 @@ module _ {K V : Type 0} where
       omega (arith, pushed, part, ap (λ u. length (entries (tree u))) at)
 
   -- a node of a row was pushed behind those before it
-  pub pushed_more : (row : List (Node K V)) (child : Node K V) (n : ℕ) (es : List (K × V)) (new mid old : List (Place K V)) → n < length row → child ≡ get_or row n child → entries (tree child) ≡ es
+  pub pushed_more : {S X Y : Type 0} (row : List (Node K V S X Y)) (child : Node K V S X Y) (n : ℕ) (es : List (K × V)) (new mid old : List (Place K V)) → n < length row → child ≡ get_or row n child → entries (tree child) ≡ es
       → map held mid ≡ map held old ++ map Some (pairs_in (take n row)) → map held new ≡ map held mid ++ map Some es → map held new ≡ map held old ++ map Some (pairs_in (take (n + 1) row))
   pushed_more row child n es new mid old below at own before e =
       let ps = pairs_in (take n row) in
@@ -63,22 +61,22 @@ module _ {K V : Type 0} where
       e ∙ ap (λ xs. xs ++ map Some es) before ∙ append_assoc (map held old) (map Some ps) (map Some es) ∙ ap (λ xs. map held old ++ xs) (sym (map-append Some ps es) ∙ ap (map Some) (sym more))
 
   -- a branch has the pairs below its row, and the nodes there and itself
-  pairs_of_row : (row : List (Node K V)) → entries_of_all (trees (map tree row)) ≡ pairs_in row
+  pairs_of_row : {S X Y : Type 0} (row : List (Node K V S X Y)) → entries_of_all (trees (map tree row)) ≡ pairs_in row
   pairs_of_row [] = refl
   pairs_of_row (node ∷ row) = ap (λ ps. entries (tree node) ++ ps) (pairs_of_row row)
 
-  nodes_of_row : (row : List (Node K V)) → count_of_all (trees (map tree row)) ≡ nodes_in row
+  nodes_of_row : {S X Y : Type 0} (row : List (Node K V S X Y)) → count_of_all (trees (map tree row)) ≡ nodes_in row
   nodes_of_row [] = refl
   nodes_of_row (node ∷ row) = ap (λ n. node_count (tree node) + n) (nodes_of_row row) ∙ sym (sum_by-cons (λ u. node_count (tree u)) node row)
 
-  pub pairs_opened : (t : Tree K V) (b : Lent K V) → t ≡ branch_of b.stamp.0 (lent b) → entries t ≡ pairs_in b.children.now
+  pub pairs_opened : {S X Y : Type 0} (t : Tree K V) (b : Lent K V S X Y) → t ≡ branch_of b.stamp.0 (lent b) → entries t ≡ pairs_in b.children.now
   pairs_opened t b e = ap entries e ∙ pairs_of_row b.children.now
 
-  pub nodes_opened : (t : Tree K V) (b : Lent K V) → t ≡ branch_of b.stamp.0 (lent b) → node_count t ≡ suc (nodes_in b.children.now)
+  pub nodes_opened : {S X Y : Type 0} (t : Tree K V) (b : Lent K V S X Y) → t ≡ branch_of b.stamp.0 (lent b) → node_count t ≡ suc (nodes_in b.children.now)
   nodes_opened t b e = ap node_count e ∙ ap suc (nodes_of_row b.children.now)
 
   -- a node of a row has no more nodes than the row
-  pub node_within : (row : List (Node K V)) (child : Node K V) (n : ℕ) → n < length row → child ≡ get_or row n child → node_count (tree child) ≤ nodes_in row
+  pub node_within : {S X Y : Type 0} (row : List (Node K V S X Y)) (child : Node K V S X Y) (n : ℕ) → n < length row → child ≡ get_or row n child → node_count (tree child) ≤ nodes_in row
   node_within [] child n below at = absurd (omega arith)
   node_within (node ∷ row) child zero below at =
       let first : node_count (tree child) ≡ node_count (tree node) = ap (λ u. node_count (tree u)) at in
@@ -86,12 +84,12 @@ module _ {K V : Type 0} where
   node_within (node ∷ row) child (suc n) below at = omega (arith, node_within row child n (omega arith) at, sum_by-cons (λ u. node_count (tree u)) node row)
 
   -- the pair at a number is the next of those from there on
-  pub next_held : (places : List (Place K V)) (i : ℕ) (place : Place K V) (x : Bor (Arc K Global × Arc V Global)) → i < length places → place ≡ get_or places i place → place ≡ Some x
+  pub next_held : (places : List (Place K V)) (i : ℕ) (place : Place K V) (x : Bor (K × V)) → i < length places → place ≡ get_or places i place → place ≡ Some x
       → pairs_held (drop i places) ≡ pair_values x.now ∷ pairs_held (drop (i + 1) places)
   next_held places i place x lt at is = ap pairs_held (drop_more places i place lt ∙ ap (λ p. p ∷ drop (i + 1) places) (sym at ∙ is))
 
   -- the front of a bucket was pushed, and the rest of it is left
-  pub front_pushed : (places : List (Place K V)) (bucket front back : List (Arc K Global × Arc V Global)) (rest : List (K × V)) → map held places ≡ map Some (map pair_values front) → bucket ≡ front ++ back
+  pub front_pushed : (places : List (Place K V)) (bucket front back : List (K × V)) (rest : List (K × V)) → map held places ≡ map Some (map pair_values front) → bucket ≡ front ++ back
       → map pair_values bucket ++ rest ≡ pairs_held places ++ (map pair_values back ++ rest)
   front_pushed places bucket front back rest e split =
       ap (λ xs. map pair_values xs ++ rest) split ∙ ap (λ ys. ys ++ rest) (map-append pair_values front back)

@@ -15,7 +15,7 @@ use Rattle.iter.proofs.Subtries.{pairs_append, nodes_append, none_stand}
 
 module _ {K V : Type 0} where
   -- the branch below all others is walked first
-  pub unwalked_last : (cs : List (Children K V)) (c : Children K V) → unwalked (cs ++ c ∷ []) ≡ trees_of c ++ unwalked cs
+  pub unwalked_last : {S X Y : Type 0} (cs : List (Children K V S X Y)) (c : Children K V S X Y) → unwalked (cs ++ c ∷ []) ≡ trees_of c ++ unwalked cs
   unwalked_last [] c = sym (append-nil (trees_of c))
   unwalked_last (x ∷ cs) c = ap (λ ts. ts ++ trees_of x) (unwalked_last cs c) ∙ append_assoc (trees_of c) (unwalked cs) (trees_of x)
 
@@ -28,16 +28,16 @@ empty_front [] ys e = refl
 empty_front (x ∷ xs) ys e = cc
 
 module _ {K V : Type 0} (R : K → K → Ordering) (path : K → ℕ) where
-  descend_push : (level : ℕ) (cs : List (Children K V)) (c : Children K V) → Descend R path level cs → IsWithin c → AllStand R path (level + length cs) (trees_of c) → Descend R path level (cs ++ c ∷ [])
+  descend_push : {S X Y : Type 0} (level : ℕ) (cs : List (Children K V S X Y)) (c : Children K V S X Y) → Descend R path level cs → IsWithin c → AllStand R path (level + length cs) (trees_of c) → Descend R path level (cs ++ c ∷ [])
   descend_push level [] c h within stand = let here : level + 0 ≡ level = omega arith in (within, subst (λ n. AllStand R path n (trees_of c)) here stand, tt)
   descend_push level (x ∷ cs) c h within stand = let next : level + suc (length cs) ≡ suc level + length cs = omega arith in
       (h.0, h.1, descend_push (suc level) cs c h.2 within (subst (λ n. AllStand R path n (trees_of c)) next stand))
 
-  descend_front : (level : ℕ) (cs : List (Children K V)) (c : Children K V) → Descend R path level (cs ++ c ∷ []) → Descend R path level cs
+  descend_front : {S X Y : Type 0} (level : ℕ) (cs : List (Children K V S X Y)) (c : Children K V S X Y) → Descend R path level (cs ++ c ∷ []) → Descend R path level cs
   descend_front level [] c h = tt
   descend_front level (x ∷ cs) c h = (h.0, h.1, descend_front (suc level) cs c h.2)
 
-  descend_last : (level : ℕ) (cs : List (Children K V)) (c : Children K V) → Descend R path level (cs ++ c ∷ []) → IsWithin c × AllStand R path (level + length cs) (trees_of c)
+  descend_last : {S X Y : Type 0} (level : ℕ) (cs : List (Children K V S X Y)) (c : Children K V S X Y) → Descend R path level (cs ++ c ∷ []) → IsWithin c × AllStand R path (level + length cs) (trees_of c)
   descend_last level [] c h = let here : level ≡ level + 0 = omega arith in (h.0, subst (λ n. AllStand R path n (trees_of c)) here h.1)
   descend_last level (x ∷ cs) c h =
       let later = descend_last (suc level) cs c h.2 in
@@ -45,7 +45,7 @@ module _ {K V : Type 0} (R : K → K → Ordering) (path : K → ℕ) where
       (later.0, subst (λ n. AllStand R path n (trees_of c)) next later.1)
 
   -- into a branch
-  pub entered_sound : (a b : Ahead K V) (kept : Children K V) → IsSound R path a → a.level ≤ last_level → IsWithin kept → AllStand R path a.level (trees_of kept)
+  pub entered_sound : {S X Y : Type 0} (a b : Ahead K V S X Y) (kept : Children K V S X Y) → IsSound R path a → a.level ≤ last_level → IsWithin kept → AllStand R path a.level (trees_of kept)
       → b.above.items ≡ a.above.items ++ kept ∷ [] → b.above.capacity ≡ a.above.capacity → b.level ≡ a.level + 1 → IsWithin b.here → AllStand R path b.level (trees_of b.here) → IsSound R path b
   entered_sound a b kept s high within stand items capacity level below stands =
       let n : ℕ = length a.above.items in
@@ -63,7 +63,7 @@ module _ {K V : Type 0} (R : K → K → Ordering) (path : K → ℕ) where
       }
 
   -- back to the branch above
-  pub left_sound : (a b : Ahead K V) → IsSound R path a → a.above.items ≡ b.above.items ++ b.here ∷ [] → b.above.capacity ≡ a.above.capacity → b.level ≡ a.level - 1 → IsSound R path b
+  pub left_sound : {S X Y : Type 0} (a b : Ahead K V S X Y) → IsSound R path a → a.above.items ≡ b.above.items ++ b.here ∷ [] → b.above.capacity ≡ a.above.capacity → b.level ≡ a.level - 1 → IsSound R path b
   left_sound a b s items capacity level =
       let n : ℕ = length b.above.items in
       let long : length a.above.items ≡ n + 1 = ap length items ∙ length-append b.above.items (b.here ∷ []) in
@@ -81,7 +81,7 @@ module _ {K V : Type 0} (R : K → K → Ordering) (path : K → ℕ) where
       }
 
   -- with fewer children of the branch that it is in
-  pub stepped_sound : (a b : Ahead K V) → IsSound R path a → b.above.items ≡ a.above.items → b.above.capacity ≡ a.above.capacity → b.level ≡ a.level → IsWithin b.here → AllStand R path a.level (trees_of b.here) → IsSound R path b
+  pub stepped_sound : {S X Y : Type 0} (a b : Ahead K V S X Y) → IsSound R path a → b.above.items ≡ a.above.items → b.above.capacity ≡ a.above.capacity → b.level ≡ a.level → IsWithin b.here → AllStand R path a.level (trees_of b.here) → IsSound R path b
   stepped_sound a b s items capacity level within stand =
       let long = ap length items in
       let low : a.level - length a.above.items ≡ b.level - length b.above.items = omega (arith, long, level) in
@@ -94,7 +94,7 @@ module _ {K V : Type 0} (R : K → K → Ordering) (path : K → ℕ) where
         above = subst (λ k. Descend R path k b.above.items) low (subst (Descend R path (a.level - length a.above.items)) (sym items) s.above);
       }
 
-  none_above : (level : ℕ) (cs : List (Children K V)) → Descend R path level cs → pairs_of_all (unwalked cs) ≡ [] → unwalked cs ≡ []
+  none_above : {S X Y : Type 0} (level : ℕ) (cs : List (Children K V S X Y)) → Descend R path level cs → pairs_of_all (unwalked cs) ≡ [] → unwalked cs ≡ []
   none_above level [] h e = refl
   none_above level (c ∷ cs) h e =
       let both = sym (pairs_append (unwalked cs) (trees_of c)) ∙ e in
@@ -103,7 +103,7 @@ module _ {K V : Type 0} (R : K → K → Ordering) (path : K → ℕ) where
       λ i. first i ++ last i
 
   -- a walk without pairs has no subtries to enter
-  pub no_pairs_no_subtries : (a : Ahead K V) → IsSound R path a → pairs_of_all (subtries a) ≡ [] → subtries a ≡ []
+  pub no_pairs_no_subtries : {S X Y : Type 0} (a : Ahead K V S X Y) → IsSound R path a → pairs_of_all (subtries a) ≡ [] → subtries a ≡ []
   no_pairs_no_subtries a s e =
       let both = sym (pairs_append (trees_of a.here) (unwalked a.above.items)) ∙ e in
       let here = none_stand R path a.level (trees_of a.here) s.here (empty_front (pairs_of_all (trees_of a.here)) (pairs_of_all (unwalked a.above.items)) both) in
@@ -112,15 +112,15 @@ module _ {K V : Type 0} (R : K → K → Ordering) (path : K → ℕ) where
 
 module _ {K V : Type 0} where
   -- back at the branch above, the same is still to come
-  pub left_same : (a b : Ahead K V) → trees_of a.here ≡ [] → a.above.items ≡ b.above.items ++ b.here ∷ [] → subtries b ≡ subtries a
+  pub left_same : {S X Y : Type 0} (a b : Ahead K V S X Y) → trees_of a.here ≡ [] → a.above.items ≡ b.above.items ++ b.here ∷ [] → subtries b ≡ subtries a
   left_same a b none items = sym (unwalked_last b.above.items b.here) ∙ ap unwalked (sym items) ∙ sym (ap (λ ts. ts ++ unwalked a.above.items) none)
 
   -- in a branch, its children come before what comes after it
-  pub entered_trees : (a b : Ahead K V) (kept : Children K V) → b.above.items ≡ a.above.items ++ kept ∷ [] → subtries b ≡ trees_of b.here ++ (trees_of kept ++ unwalked a.above.items)
+  pub entered_trees : {S X Y : Type 0} (a b : Ahead K V S X Y) (kept : Children K V S X Y) → b.above.items ≡ a.above.items ++ kept ∷ [] → subtries b ≡ trees_of b.here ++ (trees_of kept ++ unwalked a.above.items)
   entered_trees a b kept items = ap (λ ts. trees_of b.here ++ ts) (ap unwalked items ∙ unwalked_last a.above.items kept)
 
   -- and the pairs are the same
-  pub entered_pairs : (a b : Ahead K V) (kept : Children K V) (t : Tree K V) → trees_of a.here ≡ t ∷ trees_of kept → b.above.items ≡ a.above.items ++ kept ∷ [] → trees_of b.here ≡ children t → entries t ≡ pairs_of_all (children t)
+  pub entered_pairs : {S X Y : Type 0} (a b : Ahead K V S X Y) (kept : Children K V S X Y) (t : Tree K V) → trees_of a.here ≡ t ∷ trees_of kept → b.above.items ≡ a.above.items ++ kept ∷ [] → trees_of b.here ≡ children t → entries t ≡ pairs_of_all (children t)
       → pairs_of_all (subtries a) ≡ pairs_of_all (subtries b)
   entered_pairs a b kept t first items below pairs =
       let after : List (Tree K V) = trees_of kept ++ unwalked a.above.items in
@@ -131,7 +131,7 @@ module _ {K V : Type 0} where
       ∙ ap pairs_of_all (sym (entered_trees a b kept items))
 
   -- and there is one node less to enter
-  pub entered_nodes : (a b : Ahead K V) (kept : Children K V) (t : Tree K V) → trees_of a.here ≡ t ∷ trees_of kept → b.above.items ≡ a.above.items ++ kept ∷ [] → trees_of b.here ≡ children t → node_count t ≡ suc (nodes_of_all (children t))
+  pub entered_nodes : {S X Y : Type 0} (a b : Ahead K V S X Y) (kept : Children K V S X Y) (t : Tree K V) → trees_of a.here ≡ t ∷ trees_of kept → b.above.items ≡ a.above.items ++ kept ∷ [] → trees_of b.here ≡ children t → node_count t ≡ suc (nodes_of_all (children t))
       → nodes_of_all (subtries a) ≡ suc (nodes_of_all (subtries b))
   entered_nodes a b kept t first items below nodes =
       let after : List (Tree K V) = trees_of kept ++ unwalked a.above.items in

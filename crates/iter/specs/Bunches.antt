@@ -1,8 +1,6 @@
 -- Pairs that are taken from a trie many at a time.
 use Rattle.std.specs.Prelude.{ℕ, ◌≤◌, List, ◌++◌, length, map, flat_map, sum_by, option_map, Option}
 use Rattle.std.specs.Option.{option_to_list}
-use Rattle.std.specs.declared.sync.Arc.{Arc}
-use Rattle.std.specs.declared.alloc.Global.{Global}
 use Rattle.trie_shape.specs.Counts.{node_count}
 use Rattle.trie_shape.specs.Shape.{Fits}
 use Rattle.trie_shape.specs.Tree.{entries}
@@ -17,31 +15,31 @@ use denote.Ref.{Bor}
 
 module _ {K V : Type 0} where
   -- the pair that a place of a bunch holds, without where its parts lie
-  abbrev pub held : Option (Bor (Arc K Global × Arc V Global)) → Option (K × V)
+  abbrev pub held : Option (Bor (K × V)) → Option (K × V)
   held place = option_map (λ pair. pair_values pair.now) place
 
   -- the pairs that places hold, one after another
-  abbrev pub pairs_held : List (Option (Bor (Arc K Global × Arc V Global))) → List (K × V)
+  abbrev pub pairs_held : List (Option (Bor (K × V))) → List (K × V)
   pairs_held places = flat_map (λ place. option_to_list (held place)) places
 
   -- the pairs below the nodes of a row, in the order of a walk, and how many nodes there are
-  abbrev pub pairs_in : List (Node K V) → List (K × V)
+  abbrev pub pairs_in : {S X Y : Type 0} → List (Node K V S X Y) → List (K × V)
   pairs_in row = flat_map (λ node. entries (tree node)) row
 
   -- how many nodes the subtries of a row have
-  abbrev pub nodes_in : List (Node K V) → ℕ
+  abbrev pub nodes_in : {S X Y : Type 0} → List (Node K V S X Y) → ℕ
   nodes_in row = sum_by (λ node. node_count (tree node)) row
 
   -- the pairs where a walk stops
-  abbrev pub pairs_at : Chunk K V → List (K × V)
+  abbrev pub pairs_at : {S X Y : Type 0} → Chunk K V S X Y → List (K × V)
   pairs_at (Few node) = entries (tree node.now)
   pairs_at (Bucket pairs) = map pair_values pairs.now
 
   -- a subtrie where a walk stops has at most `most` pairs
-  abbrev pub IsFew : ℕ → Chunk K V → Type 0
+  abbrev pub IsFew : {S X Y : Type 0} → ℕ → Chunk K V S X Y → Type 0
   IsFew most (Few node) = Fits (tree node.now) × (length (entries (tree node.now)) ≤ most)
   IsFew most (Bucket pairs) = Unit {0}
 
   -- the pairs that are still to be read
-  abbrev pub unread_pairs : UnreadPairs K V → List (K × V)
+  abbrev pub unread_pairs : {S X Y : Type 0} → UnreadPairs K V S X Y → List (K × V)
   unread_pairs u = map pair_values u.bucket.now ++ pairs_of_all (subtries u.ahead)

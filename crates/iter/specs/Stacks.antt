@@ -13,40 +13,40 @@ use denote.Ref.{Bor}
 
 module _ {K V : Type 0} where
   -- the children of a node that is lent, from one number on and below another; no node has none
-  abbrev pub children_of : Option (Bor (Node K V)) → ℕ → ℕ → List (Tree K V)
+  abbrev pub children_of : {S X Y : Type 0} → Option (Bor (Node K V S X Y)) → ℕ → ℕ → List (Tree K V)
   children_of None from to = []
   children_of (Some node) from to = children_between (tree node.now) from to
 
   -- how many children a node that is lent has
-  abbrev pub child_count : Option (Bor (Node K V)) → ℕ
+  abbrev pub child_count : {S X Y : Type 0} → Option (Bor (Node K V S X Y)) → ℕ
   child_count None = 0
   child_count (Some node) = length (children (tree node.now))
 
   -- the children that are still to be entered
-  abbrev pub trees_of : Children K V → List (Tree K V)
+  abbrev pub trees_of : {S X Y : Type 0} → Children K V S X Y → List (Tree K V)
   trees_of c = children_of c.branch c.next c.end
 
   -- their numbers are those of children
-  abbrev pub IsWithin : Children K V → Type 0
+  abbrev pub IsWithin : {S X Y : Type 0} → Children K V S X Y → Type 0
   IsWithin c = (c.next ≤ c.end) × (c.end < 2 ^ 32) × (c.end ≤ child_count c.branch)
 
   -- what is left of the branches of a path, the lowest of which stands last and is walked first
-  abbrev pub unwalked : List (Children K V) → List (Tree K V)
+  abbrev pub unwalked : {S X Y : Type 0} → List (Children K V S X Y) → List (Tree K V)
   unwalked [] = []
   unwalked (c ∷ below) = unwalked below ++ trees_of c
 
   -- the subtries that are still to be entered, in order
-  abbrev pub subtries : Ahead K V → List (Tree K V)
+  abbrev pub subtries : {S X Y : Type 0} → Ahead K V S X Y → List (Tree K V)
   subtries a = trees_of a.here ++ unwalked a.above.items
 
 module _ {K V : Type 0} (R : K → K → Ordering) (path : K → ℕ) where
   -- what is left of the branches of a path stands one level lower from one branch to the next
-  abbrev pub Descend : ℕ → List (Children K V) → Type 0
+  abbrev pub Descend : {S X Y : Type 0} → ℕ → List (Children K V S X Y) → Type 0
   Descend level [] = Unit {0}
   Descend level (c ∷ below) = IsWithin c × AllStand R path level (trees_of c) × Descend (suc level) below
 
   -- the subtries stand where the levels say, and there is room for a whole path
-  pub record IsSound (a : Ahead K V) : Type 0 where
+  pub record IsSound {S X Y : Type 0} (a : Ahead K V S X Y) : Type 0 where
     pub deep : length a.above.items < a.level
     pub low : a.level ≤ word_digits
     pub room : word_digits ≤ a.above.capacity

@@ -14,10 +14,9 @@ use hash_path::{PathKey, WORD_DIGITS};
 use smallvec::SmallVec;
 use std::alloc::Global;
 use std::mem;
-use std::sync::Arc;
 use trie_node::{
-    Look, Node, bitmap_counts_children, branch_is_its_children, leaf_is_its_pairs, look, size,
-    trie_follows_digits,
+    Look, Node, Pair, Slots, bitmap_counts_children, branch_is_its_children, leaf_is_its_pairs,
+    look, size, trie_follows_digits,
 };
 
 /// How many nodes a path has at most: a branch for each digit, and a leaf or bucket.
@@ -25,32 +24,32 @@ const MOST_ON_PATH: usize = WORD_DIGITS as usize + 1;
 
 /// Where a walk stops that takes many pairs at a time.
 #[derive(Drop)]
-pub(crate) enum Chunk<'a, K, V> {
+pub(crate) enum Chunk<'a, K, V, S: Slots<K, V>> {
     /// A subtrie of few pairs.
-    Few(&'a Node<K, V>),
+    Few(&'a Node<K, V, S>),
     /// The pairs of a bucket that has more.
-    Bucket(&'a [(Arc<K>, Arc<V>)]),
+    Bucket(&'a [Pair<K, V, S>]),
 }
 
 /// The subtries that a walk has still to enter: children of the branch that it entered last, and of
 /// the branches above that one, the lowest of them last.
 #[derive(Drop)]
-pub(crate) struct Ahead<'a, K, V> {
-    pub(crate) here: Children<'a, K, V>,
-    pub(crate) above: SmallVec<Children<'a, K, V>, MOST_ON_PATH, Global>,
+pub(crate) struct Ahead<'a, K, V, S: Slots<K, V>> {
+    pub(crate) here: Children<'a, K, V, S>,
+    pub(crate) above: SmallVec<Children<'a, K, V, S>, MOST_ON_PATH, Global>,
     pub(crate) level: u32,
     pub(crate) entered: u64,
 }
 
-impl<'a, K: PathKey, V> Ahead<'a, K, V> {
+impl<'a, K: PathKey, V, S: Slots<K, V>> Ahead<'a, K, V, S> {
     /// Some children of a branch that stands at a level. The branch itself has been entered.
     pub(crate) fn below(
         alloc: Global,
-        branch: &'a Node<K, V>,
+        branch: &'a Node<K, V, S>,
         level: u32,
         from: u32,
         to: u32,
-    ) -> Ahead<'a, K, V>
+    ) -> Ahead<'a, K, V, S>
         requires trie { IsTrie K.cmp K.path_of level (tree branch.now) }
         requires level { level ≤ last_level }
         requires order { from ≤ to }
@@ -69,7 +68,7 @@ impl<'a, K: PathKey, V> Ahead<'a, K, V> {
     }
 
     /// Enters subtries up to the next leaf or bucket and gives its pairs, where there is one.
-    pub(crate) fn next_leaf(&mut self) -> Option<&'a [(Arc<K>, Arc<V>)]>
+    pub(crate) fn next_leaf(&mut self) -> Option<&'a [Pair<K, V, S>]>
         requires sound { IsSound K.cmp K.path_of self.old }
         ensures sound { IsSound K.cmp K.path_of self.new }
         ensures some { IfSome result (λ pairs. pairs_of_all (subtries self.old) ≡ map pair_values pairs.now ++ pairs_of_all (subtries self.new)) }
@@ -102,7 +101,7 @@ impl<'a, K: PathKey, V> Ahead<'a, K, V> {
 
     /// Enters subtries up to the next one of at most `most` pairs, or bucket of more, and gives it, where there is one.
     /// What it enters it does not count.
-    pub(crate) fn next_few(&mut self, most: u64) -> Option<Chunk<'a, K, V>>
+    pub(crate) fn next_few(&mut self, most: u64) -> Option<Chunk<'a, K, V, S>>
         requires sound { IsSound K.cmp K.path_of self.old }
         ensures sound { IsSound K.cmp K.path_of self.new }
         ensures some { IfSome result (λ stop. pairs_of_all (subtries self.old) ≡ pairs_at stop ++ pairs_of_all (subtries self.new)) }

@@ -16,8 +16,7 @@ use arrayvec::ArrayVec;
 use hash_path::PathKey;
 use std::alloc::Global;
 use std::marker::Model;
-use std::sync::Arc;
-use trie_node::Node;
+use trie_node::{KeySlots, Node, Shared, Slots, ValueSlots};
 
 /// The pairs that are still to come, in the order of [`Pairs`](crate::Pairs).
 ///
@@ -25,13 +24,13 @@ use trie_node::Node;
 /// bunch are fetched from memory together, where a walk that stops at each pair waits for one after another. No step
 /// makes a request for memory: the bunch lies in the walk itself.
 #[derive(Drop)]
-pub struct BunchedPairs<'a, K: PathKey, V> {
-    bunch: Bunch<'a, K, V>,
+pub struct BunchedPairs<'a, K: PathKey, V, S: Slots<K, V> = Shared> {
+    bunch: Bunch<'a, K, V, S>,
     next: usize,
-    after: UnreadPairs<'a, K, V>,
+    after: UnreadPairs<'a, K, V, S>,
 }
 
-impl<'a, K: PathKey, V> Model for BunchedPairs<'a, K, V> {
+impl<'a, K: PathKey, V, S: Slots<K, V>> Model for BunchedPairs<'a, K, V, S> {
     ghost use Rattle.std.specs.Prelude.{◌≤◌, ◌++◌, All, IsSome, List, drop, length};
     ghost use Rattle.iter.specs.Bunches.{pairs_held, unread_pairs};
     ghost use Rattle.iter.specs.Stacks.{IsSound};
@@ -43,16 +42,16 @@ impl<'a, K: PathKey, V> Model for BunchedPairs<'a, K, V> {
     ghost invariant = { λ a. IsSound K.cmp K.path_of a.after.ahead × All IsSome a.bunch.items × (a.next ≤ length a.bunch.items) };
 }
 
-impl<'a, K: PathKey, V> BunchedPairs<'a, K, V> {
+impl<'a, K: PathKey, V, S: Slots<K, V>> BunchedPairs<'a, K, V, S> {
     /// A walk over the pairs of some children of a branch that stands at a level, from one number on
     /// and below another.
     pub fn below(
         alloc: Global,
-        branch: &'a Node<K, V>,
+        branch: &'a Node<K, V, S>,
         level: u32,
         from: u32,
         to: u32,
-    ) -> BunchedPairs<'a, K, V>
+    ) -> BunchedPairs<'a, K, V, S>
         requires trie { IsTrie K.cmp K.path_of level (tree branch.now) }
         requires level { level ≤ last_level }
         requires order { from ≤ to }
@@ -70,20 +69,27 @@ impl<'a, K: PathKey, V> BunchedPairs<'a, K, V> {
     }
 }
 
-impl<'a, K: PathKey, V> Iterator for BunchedPairs<'a, K, V> {
-    type Item = (&'a Arc<K>, &'a Arc<V>);
+impl<
+    'a,
+    K: PathKey,
+    V,
+    S: Slots<K, V> + KeySlots<K, Key = A> + ValueSlots<V, Value = B>,
+    A: 'a,
+    B: 'a,
+> Iterator for BunchedPairs<'a, K, V, S> {
+    type Item = (&'a A, &'a B);
 
-    ghost next_gives = { YieldsFirstBy item (λ s. s) };
+    ghost next_gives = { YieldsFirstBy (item S.key_of S.value_of) (λ s. s) };
 
     ghost remaining = { item_count (λ s. s) };
 
-    fn next(&mut self) -> Option<(&'a Arc<K>, &'a Arc<V>)> {
+    fn next(&mut self) -> Option<(&'a A, &'a B)> {
         if self.next == self.bunch.len() {
             self.after.next_bunch(&mut self.bunch);
             self.next = 0;
         }
-        let (key, value) = (*self.bunch.as_slice().get(self.next)?)?;
+        let pair = (*self.bunch.as_slice().get(self.next)?)?;
         self.next += 1;
-        Some((key, value))
+        Some((pair.key_slot(), pair.value_slot()))
     }
 }

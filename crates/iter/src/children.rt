@@ -6,20 +6,20 @@ ghost use Rattle.trie_shape.specs.View.{tree};
 ghost use Rattle.iter.specs.Stacks.{IsWithin, trees_of};
 ghost use Rattle.iter.specs.Subtries.{children_between};
 
-use trie_node::{Node, child};
+use trie_node::{Node, Slots, child};
 
 /// Some children of a branch, in order of their digits.
 #[derive(Drop)]
-pub(crate) struct Children<'a, K, V> {
-    pub(crate) branch: Option<&'a Node<K, V>>,
+pub(crate) struct Children<'a, K, V, S: Slots<K, V>> {
+    pub(crate) branch: Option<&'a Node<K, V, S>>,
     pub(crate) next: u32,
     pub(crate) end: u32,
 }
 
-impl<'a, K, V> Default for Children<'a, K, V> {
+impl<'a, K, V, S: Slots<K, V>> Default for Children<'a, K, V, S> {
     ghost is_default = { λ children. trees_of children ≡ [] };
 
-    fn default() -> Children<'a, K, V> {
+    fn default() -> Children<'a, K, V, S> {
         Children {
             branch: None,
             next: 0,
@@ -28,9 +28,9 @@ impl<'a, K, V> Default for Children<'a, K, V> {
     }
 }
 
-impl<'a, K, V> Children<'a, K, V> {
+impl<'a, K, V, S: Slots<K, V>> Children<'a, K, V, S> {
     /// The children from one number on and below another.
-    pub(crate) fn between(node: &'a Node<K, V>, from: u32, to: u32) -> Children<'a, K, V>
+    pub(crate) fn between(node: &'a Node<K, V, S>, from: u32, to: u32) -> Children<'a, K, V, S>
         requires order { from ≤ to }
         requires within { to ≤ length (children (tree node.now)) }
         ensures trees { trees_of result ≡ children_between (tree node.now) from to }
@@ -44,7 +44,7 @@ impl<'a, K, V> Children<'a, K, V> {
     }
 
     /// Takes the first child, where there is one.
-    pub(crate) fn take_first(&mut self) -> Option<&'a Node<K, V>>
+    pub(crate) fn take_first(&mut self) -> Option<&'a Node<K, V, S>>
         requires within { IsWithin self.old }
         ensures first { MatchOption result ((trees_of self.old ≡ []) × (trees_of self.new ≡ [])) (λ node. trees_of self.old ≡ tree node.now ∷ trees_of self.new) }
         ensures within { IsWithin self.new }

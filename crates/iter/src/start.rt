@@ -12,7 +12,7 @@ use crate::walk::Pairs;
 use hash_path::PathKey;
 use std::alloc::Global;
 use trie_node::{
-    Look, NoMemory, Node, bitmap_counts_children, branch_is_its_children, look,
+    Look, NoMemory, Node, Slots, bitmap_counts_children, branch_is_its_children, look,
     map_determines_root, root_walks_in_order, size, trie_follows_digits,
 };
 use versions::{Version, View};
@@ -20,7 +20,10 @@ use versions::{Version, View};
 /// A walk over all pairs of the view, in order of position and, within one position, of key.
 ///
 /// Cost: O(1), no lock, and O(n) for the walk. Refused: `NoMemory`, by its contract; the code never is.
-pub fn pairs<K: PathKey, V>(alloc: Global, view: &View<K, V>) -> Result<Pairs<'_, K, V>, NoMemory>
+pub fn pairs<K: PathKey, V, S: Slots<K, V>>(
+    alloc: Global,
+    view: &View<K, V, S>,
+) -> Result<Pairs<'_, K, V, S>, NoMemory>
     ensures rest { IfOk result (λ walk. walk.rest ≡ walked K.cmp K.path_of view.now) }
     ensures nodes { IfOk result (λ walk. (t : Tree K V) → IsRoot K.cmp K.path_of t → map_of K.cmp t ≡ view.now → walk.nodes ≡ node_count t) }
 {
@@ -30,10 +33,13 @@ pub fn pairs<K: PathKey, V>(alloc: Global, view: &View<K, V>) -> Result<Pairs<'_
 /// A walk over all pairs of a version that nobody writes meanwhile, in the same order.
 ///
 /// Cost: O(1), no lock, and O(n) for the walk. Refused: `NoMemory`, by its contract; the code never is.
-pub fn pairs_of<K: PathKey + Drop, V: Drop>(
+pub fn pairs_of<K: PathKey, V, S: Slots<K, V>>(
     alloc: Global,
-    version: &Version<K, V>,
-) -> Result<Pairs<'_, K, V>, NoMemory>
+    version: &Version<K, V, S>,
+) -> Result<Pairs<'_, K, V, S>, NoMemory>
+where
+    S::Key: Drop,
+    S::Value: Drop,
     ensures rest { IfOk result (λ walk. walk.rest ≡ walked K.cmp K.path_of version.now.entries) }
     ensures nodes { IfOk result (λ walk. (t : Tree K V) → IsRoot K.cmp K.path_of t → map_of K.cmp t ≡ version.now.entries → walk.nodes ≡ node_count t) }
 {
@@ -41,7 +47,10 @@ pub fn pairs_of<K: PathKey + Drop, V: Drop>(
 }
 
 /// A walk over all pairs of a root, which enters all its nodes. It is never refused.
-pub fn walk_of_root<K: PathKey, V>(alloc: Global, root: &Node<K, V>) -> Pairs<'_, K, V>
+pub fn walk_of_root<K: PathKey, V, S: Slots<K, V>>(
+    alloc: Global,
+    root: &Node<K, V, S>,
+) -> Pairs<'_, K, V, S>
     requires root { IsRoot K.cmp K.path_of (tree root.now) }
     ensures rest { result.rest ≡ walked K.cmp K.path_of (map_of K.cmp (tree root.now)) }
     ensures nodes { (t : Tree K V) → IsRoot K.cmp K.path_of t → map_of K.cmp t ≡ map_of K.cmp (tree root.now) → result.nodes ≡ node_count t }
@@ -58,7 +67,10 @@ pub fn walk_of_root<K: PathKey, V>(alloc: Global, root: &Node<K, V>) -> Pairs<'_
 }
 
 /// The same walk, which takes its pairs from the trie in bunches: for calls that mostly look at all of them.
-pub fn bunches_of_root<K: PathKey, V>(alloc: Global, root: &Node<K, V>) -> BunchedPairs<'_, K, V>
+pub fn bunches_of_root<K: PathKey, V, S: Slots<K, V>>(
+    alloc: Global,
+    root: &Node<K, V, S>,
+) -> BunchedPairs<'_, K, V, S>
     requires { IsRoot K.cmp K.path_of (tree root.now) }
     ensures { result ≡ walked K.cmp K.path_of (map_of K.cmp (tree root.now)) }
 {

@@ -13,8 +13,7 @@ use crate::ahead::Ahead;
 use hash_path::PathKey;
 use std::alloc::Global;
 use std::marker::Model;
-use std::sync::Arc;
-use trie_node::Node;
+use trie_node::{KeySlots, Node, Pair, Shared, Slots, ValueSlots};
 
 /// The pairs that are still to come, in order of position and, within one position, of key. A step takes amortized
 /// O(1), no lock and no memory.
@@ -28,13 +27,13 @@ use trie_node::Node;
 /// }
 /// ```
 #[derive(Drop)]
-pub struct Pairs<'a, K: PathKey, V> {
-    leaf: &'a [(Arc<K>, Arc<V>)],
-    ahead: Ahead<'a, K, V>,
+pub struct Pairs<'a, K: PathKey, V, S: Slots<K, V> = Shared> {
+    leaf: &'a [Pair<K, V, S>],
+    ahead: Ahead<'a, K, V, S>,
     left: u64,
 }
 
-impl<'a, K: PathKey, V> Model for Pairs<'a, K, V> {
+impl<'a, K: PathKey, V, S: Slots<K, V>> Model for Pairs<'a, K, V, S> {
     ghost use Rattle.std.specs.Prelude.{◌≡◌, ◌+◌, ◌++◌, length, map};
     ghost use Rattle.trie_shape.specs.View.{pair_values};
     ghost use Rattle.iter.specs.Subtries.{nodes_of_all, pairs_of_all};
@@ -48,19 +47,19 @@ impl<'a, K: PathKey, V> Model for Pairs<'a, K, V> {
     ghost invariant = { λ a. IsSound K.cmp K.path_of a.ahead × (a.left ≡ length (map pair_values a.leaf.now ++ pairs_of_all (subtries a.ahead))) };
 }
 
-impl<'a, K: PathKey, V> Pairs<'a, K, V> {
+impl<'a, K: PathKey, V, S: Slots<K, V>> Pairs<'a, K, V, S> {
     /// A walk over the pairs of some children of a branch that stands at a level, from one number on and below another;
     /// `left` is how many pairs they have. It has entered the branch.
     ///
     /// Cost: O(1), no lock. Refused: never.
     pub fn below(
         alloc: Global,
-        branch: &'a Node<K, V>,
+        branch: &'a Node<K, V, S>,
         level: u32,
         from: u32,
         to: u32,
         left: u64,
-    ) -> Pairs<'a, K, V>
+    ) -> Pairs<'a, K, V, S>
         requires trie { IsTrie K.cmp K.path_of level (tree branch.now) }
         requires level { level ≤ last_level }
         requires order { from ≤ to }
@@ -98,32 +97,47 @@ impl<'a, K: PathKey, V> Pairs<'a, K, V> {
     /// The next pair, as `next` gives it. The walk goes on to enter as many nodes in all as before.
     ///
     /// Cost: amortized O(1), no lock. Refused: never.
-    pub fn step(&mut self) -> Option<(&'a Arc<K>, &'a Arc<V>)>
-        ensures { IsStep self.old result self.new }
+    pub fn step(&mut self) -> Option<(&'a S::Key, &'a S::Value)>
+        ensures { IsStep S.key_of S.value_of self.old result self.new }
     {
         if self.leaf.is_empty() {
             self.leaf = self.ahead.next_leaf()?;
         }
-        let ((key, value), rest) = self.leaf.split_first()?;
+        let (pair, rest) = self.leaf.split_first()?;
         self.leaf = rest;
         self.left -= 1;
-        Some((key, value))
+        Some((pair.key_slot(), pair.value_slot()))
     }
 }
 
-impl<'a, K: PathKey, V> Iterator for Pairs<'a, K, V> {
-    type Item = (&'a Arc<K>, &'a Arc<V>);
+// The keys and values of rows have names here: a walk is an iterator where they live as long as it.
+impl<
+    'a,
+    K: PathKey,
+    V,
+    S: Slots<K, V> + KeySlots<K, Key = A> + ValueSlots<V, Value = B>,
+    A: 'a,
+    B: 'a,
+> Iterator for Pairs<'a, K, V, S> {
+    type Item = (&'a A, &'a B);
 
-    ghost next_gives = { IsStep };
+    ghost next_gives = { IsStep S.key_of S.value_of };
 
     ghost remaining = { item_count (λ s. s.rest) };
 
-    fn next(&mut self) -> Option<(&'a Arc<K>, &'a Arc<V>)> {
+    fn next(&mut self) -> Option<(&'a A, &'a B)> {
         self.step()
     }
 }
 
-impl<'a, K: PathKey, V> ExactSizeIterator for Pairs<'a, K, V> {
+impl<
+    'a,
+    K: PathKey,
+    V,
+    S: Slots<K, V> + KeySlots<K, Key = A> + ValueSlots<V, Value = B>,
+    A: 'a,
+    B: 'a,
+> ExactSizeIterator for Pairs<'a, K, V, S> {
     fn len(&self) -> usize {
         self.left() as usize
     }

@@ -8,8 +8,6 @@
 mod laws;
 mod line;
 mod lines;
-#[cfg(test)]
-mod tests;
 
 pub use laws::{law_of_last_line_ends, law_of_last_lines, law_of_line_ends, law_of_lines};
 pub use line::{Line, last_line, line_in, line_text};

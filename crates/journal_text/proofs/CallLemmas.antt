@@ -6,15 +6,13 @@ use Rattle.std.specs.List.{join_with_byte, slice_split}
 use Rattle.std.proofs.lemmas.Fmt.{decimal_injective}
 use Rattle.std.proofs.lemmas.Slice.Eq.{bytes_eq-Decides}
 use Rattle.keys.specs.Order.{bytes_eq}
-use Rattle.versions.specs.Commands.{Command, get, put, put_if_absent, replace, replace_if, remove, remove_if, size, clear}
 use Rattle.handles.specs.Machine.{open_handle, snapshot, drop_handle, on, view, freeze, finish, abandon, worker_step}
 use Rattle.script.specs.Grammar.{verb_named}
 use Rattle.script.specs.declared.statement.Statement.{Statement}
 use Rattle.script.specs.declared.statement.Statement.TheVariants.{Open, Snap, Drop}
 use Rattle.script.specs.Statements.{words_of, phrase_of, IsLawful}
 use Rattle.script.proofs.WordLemmas.{same_statement}
-use Rattle.questions.specs.Queries.{ScriptQuestion, count, exists, for_all, find, filtered, mapped, paired, fold}
-use Rattle.questions.specs.Program.{ProgramRequest, command_statement, question_statement, request_for}
+use Rattle.questions.specs.Program.{ProgramRequest, command_statement, question_statement, request_for, request_of_command, request_of_question}
 use Rattle.journal_text.specs.Calls.{call_text, call_words, IsLawfulRequest}
 use Rattle.journal_text.proofs.WordLemmas.{argument_words, decimal_word, literal_word, name_word, split_words}
 
@@ -93,34 +91,13 @@ heard (ended j) = finish j
 heard (dropped j) = abandon j
 heard silent = worker_step
 
-heard_command : (h : ℕ) (c : Command (List ℕ) ℤ) → request_for (command_statement h c) ≡ on h c
-heard_command h (get k) = refl
-heard_command h (put k v) = refl
-heard_command h (put_if_absent k v) = refl
-heard_command h (replace k v) = refl
-heard_command h (replace_if k was v) = refl
-heard_command h (remove k) = refl
-heard_command h (remove_if k v) = refl
-heard_command h size = refl
-heard_command h clear = refl
-
-heard_question : (h : ℕ) (q : ScriptQuestion) → request_for (question_statement h q) ≡ freeze h q
-heard_question h (count test) = refl
-heard_question h (exists test) = refl
-heard_question h (for_all test) = refl
-heard_question h (find test) = refl
-heard_question h (filtered test to) = refl
-heard_question h (mapped mapping to) = refl
-heard_question h (paired mapping to) = refl
-heard_question h (fold folding) = refl
-
 pub heard_said : (r : ProgramRequest) → heard (said r) ≡ r
 heard_said (open_handle h) = refl
 heard_said (snapshot h to) = refl
 heard_said (drop_handle h) = refl
-heard_said (on h c) = heard_command h c
+heard_said (on h c) = request_of_command h c
 heard_said (view h) = refl
-heard_said (freeze h q) = heard_question h q
+heard_said (freeze h q) = request_of_question h q
 heard_said (finish j) = refl
 heard_said (abandon j) = refl
 heard_said worker_step = refl

@@ -5,6 +5,7 @@
 //! crate may give a foreign trait to its own types alone.
 #![tactic(auto)]
 
+mod inlined;
 mod short;
 mod sought;
 mod text;

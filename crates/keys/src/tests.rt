@@ -1,7 +1,8 @@
 use crate::short::Short;
 use crate::{ByteText, MOST_IN_PLACE};
 use hash_path::{Path, PathKey, Sought};
-use std::alloc::Global;
+use slots::{Half, Inline};
+use std::alloc::{AllocError, Global};
 use std::cmp::Ordering;
 use std::process::Abort;
 use std::sync::Arc;
@@ -117,5 +118,22 @@ fn byte_text_is_sought_by_each_form(rt: HostRuntime) -> Result<(), Fail> {
         found(b"foob".as_slice(), &key),
         (Path(0xdd12_0e79_0c25_12af), Ordering::Greater)
     );
+    Ok(())
+}
+
+/// Another of what takes half a place in a row, by the bound alone.
+fn twin<T: Half>(value: &T) -> Result<T, AllocError> {
+    value.another()
+}
+
+/// Texts lie in rows of a trie, in place or not, and pairs of them.
+#[test]
+fn texts_lie_in_rows(rt: HostRuntime) -> Result<(), Fail> {
+    let short = ByteText::from_text(rt.alloc(), "foo")?;
+    let long = ByteText::from_slice(rt.alloc(), &[b'x'; 40])?;
+    let pair = (twin(&short)?, twin(&long)?);
+    assert_eq!(rt; pair.0.as_str(), Some("foo"));
+    assert_eq!(rt; pair.1.as_bytes(), [b'x'; 40].as_slice());
+    assert!(rt; pair.another()? == (short, long));
     Ok(())
 }

@@ -4,8 +4,6 @@
 
 mod bad_byte;
 mod bad_line;
-#[cfg(test)]
-mod tests;
 
 pub use bad_byte::{BadByte, BadPart, bad_byte_at, bad_byte_in};
 pub use bad_line::{BadLine, bad_line_in};

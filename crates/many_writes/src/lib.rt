@@ -5,6 +5,7 @@
 //! a lock.
 #![tactic(auto)]
 
+mod ahead;
 mod order;
 mod puts;
 mod refused;

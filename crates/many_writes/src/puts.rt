@@ -1,13 +1,13 @@
 //! Puts of many pairs.
 ghost use Rattle.std.specs.Prelude.{◌≡◌, ◌≤◌, ◌<◌, [], All, IfErr, IfOk, IfSome, OnOk, length, slice_index_or, vec_capacity};
 ghost use Rattle.std.specs.List.{AllZip};
-ghost use Rattle.std.specs.Arc.{arc_value};
 ghost use Rattle.many_writes.specs.Parts.{IsParted};
 ghost use Rattle.many_writes.specs.Rooms.{HasRoom};
 ghost use Rattle.many_writes.specs.Turns.{Goes, HasDigit, IsDone, IsSound, Stands};
 ghost use Rattle.hash_path.specs.Digits.{digit};
-ghost use Rattle.stripes.specs.Rules.{IsPutRefusal, first_digit as digit_of};
+ghost use Rattle.stripe.specs.Rules.{IsPutRefusal, first_digit as digit_of};
 
+use crate::ahead::read_from;
 use crate::order::Order;
 use crate::refused::Unput;
 use crate::room::Room;
@@ -15,8 +15,9 @@ use crate::turn::{Turn, answers_of, none_done, parted};
 use hash_path::{Path, PathKey};
 use std::alloc::Global;
 use std::mem;
-use std::sync::{Arc, Wait};
+use std::sync::Wait;
 use stripes::{Keeps, Stripe, Stripes};
+use trie_node::{Always, KeySlots, Slots, ValueSlots};
 use versions::Refusal;
 use write_history::{Author, Naming};
 
@@ -24,16 +25,19 @@ use write_history::{Author, Naming};
 ///
 /// The pairs of one stripe are put under one lock, in the order of the list. Where one is refused, those that were put
 /// stay, and the others are given back.
-pub fn put_each<R: Wait, K: PathKey + Drop, V: Drop, P: Keeps<K, V>, J: Naming>(
+pub fn put_each<R: Wait, K: PathKey + Drop, V: Drop, P: Keeps<K, V>, J: Naming, S: Slots<K, V>>(
     rt: &R,
     alloc: Global,
-    row: &Stripes<K, V, P, J>,
+    row: &Stripes<K, V, P, J, S>,
     pairs: Vec<(K, V)>,
     author: &mut Author<J>,
-) -> Result<Vec<Option<Arc<V>>>, Unput<K, V>>
+) -> Result<Vec<Option<S::Value>>, Unput<K, V, S>>
+where
+    S::Key: Drop,
+    S::Value: Drop,
     requires rule { All (λ pair. P.holds pair.0 pair.1) pairs.items }
-    ensures done { IfOk result (λ before. AllZip (λ pair found. IfSome found (λ value. P.holds pair.0 value.value)) pairs.items before.items) }
-    ensures parted { IfErr result (λ refused. IsParted (λ pair found. IfSome found (λ value. P.holds pair.0 value.value)) 0 pairs.items refused.put.items refused.rest.items) }
+    ensures done { IfOk result (λ before. AllZip (λ pair found. IfSome found (λ value. P.holds pair.0 (S.value_of value))) pairs.items before.items) }
+    ensures parted { IfErr result (λ refused. IsParted (λ pair found. IfSome found (λ value. P.holds pair.0 (S.value_of value))) 0 pairs.items refused.put.items refused.rest.items) }
     ensures refusal { IfErr result (λ refused. IsPutRefusal refused.refusal) }
 {
     match Room::of(alloc, pairs.len(), pairs.len()) {
@@ -47,18 +51,21 @@ pub fn put_each<R: Wait, K: PathKey + Drop, V: Drop, P: Keeps<K, V>, J: Naming>(
 }
 
 // Puts each of the pairs, for whose list there is room.
-fn put_in<R: Wait, K: PathKey + Drop, V: Drop, P: Keeps<K, V>, J: Naming>(
+fn put_in<R: Wait, K: PathKey + Drop, V: Drop, P: Keeps<K, V>, J: Naming, S: Slots<K, V>>(
     rt: &R,
     alloc: Global,
-    row: &Stripes<K, V, P, J>,
+    row: &Stripes<K, V, P, J, S>,
     pairs: Vec<(K, V)>,
-    room: Room<(K, V), Option<Arc<V>>>,
+    room: Room<(K, V), Option<S::Value>>,
     author: &mut Author<J>,
-) -> Result<Vec<Option<Arc<V>>>, Unput<K, V>>
+) -> Result<Vec<Option<S::Value>>, Unput<K, V, S>>
+where
+    S::Key: Drop,
+    S::Value: Drop,
     requires rule { All (λ pair. P.holds pair.0 pair.1) pairs.items }
     requires room { HasRoom (length pairs.items) (length pairs.items) room }
-    ensures done { IfOk result (λ before. AllZip (λ pair found. IfSome found (λ value. P.holds pair.0 value.value)) pairs.items before.items) }
-    ensures parted { IfErr result (λ refused. IsParted (λ pair found. IfSome found (λ value. P.holds pair.0 value.value)) 0 pairs.items refused.put.items refused.rest.items) }
+    ensures done { IfOk result (λ before. AllZip (λ pair found. IfSome found (λ value. P.holds pair.0 (S.value_of value))) pairs.items before.items) }
+    ensures parted { IfErr result (λ refused. IsParted (λ pair found. IfSome found (λ value. P.holds pair.0 (S.value_of value))) 0 pairs.items refused.put.items refused.rest.items) }
     ensures refusal { IfErr result (λ refused. IsPutRefusal refused.refusal) }
 {
     let Room {
@@ -79,9 +86,9 @@ fn put_in<R: Wait, K: PathKey + Drop, V: Drop, P: Keeps<K, V>, J: Naming>(
 }
 
 // Has the pairs wait, in their order, each with its key's path word.
-fn line_up<K: PathKey + Drop, V: Drop>(
+fn line_up<K: PathKey + Drop, V: Drop, B: Drop>(
     pairs: Vec<(K, V)>,
-    turns: &mut Vec<Turn<(K, V), Option<Arc<V>>>>,
+    turns: &mut Vec<Turn<(K, V), Option<B>>>,
     order: &mut Order,
 )
     requires empty { turns.old.items ≡ [] }
@@ -96,16 +103,19 @@ fn line_up<K: PathKey + Drop, V: Drop>(
 }
 
 // Puts the pairs that wait, those of one stripe under one lock.
-fn put_turns<R: Wait, K: PathKey + Drop, V: Drop, P: Keeps<K, V>, J: Naming>(
+fn put_turns<R: Wait, K: PathKey + Drop, V: Drop, P: Keeps<K, V>, J: Naming, S: Slots<K, V>>(
     rt: &R,
     alloc: Global,
-    row: &Stripes<K, V, P, J>,
-    turns: &mut [Turn<(K, V), Option<Arc<V>>>],
+    row: &Stripes<K, V, P, J, S>,
+    turns: &mut [Turn<(K, V), Option<S::Value>>],
     order: &Order,
     author: &mut Author<J>,
 ) -> Result<(), Refusal>
+where
+    S::Key: Drop,
+    S::Value: Drop,
     requires sound { All (IsSound (λ pair. K.path_of pair.0) (λ pair. P.holds pair.0 pair.1)) turns.old }
-    ensures goes { AllZip (Goes (λ pair found. IfSome found (λ value. P.holds pair.0 value.value))) turns.old turns.new }
+    ensures goes { AllZip (Goes (λ pair found. IfSome found (λ value. P.holds pair.0 (S.value_of value)))) turns.old turns.new }
     ensures done { OnOk result (All IsDone turns.new) }
     ensures refusal { IfErr result IsPutRefusal }
 {
@@ -116,18 +126,21 @@ fn put_turns<R: Wait, K: PathKey + Drop, V: Drop, P: Keeps<K, V>, J: Naming>(
 }
 
 // Puts the pair of the place, if it waits, and those behind it that are of its stripe.
-fn put_from<R: Wait, K: PathKey + Drop, V: Drop, P: Keeps<K, V>, J: Naming>(
+fn put_from<R: Wait, K: PathKey + Drop, V: Drop, P: Keeps<K, V>, J: Naming, S: Slots<K, V>>(
     rt: &R,
     alloc: Global,
-    row: &Stripes<K, V, P, J>,
-    turns: &mut [Turn<(K, V), Option<Arc<V>>>],
+    row: &Stripes<K, V, P, J, S>,
+    turns: &mut [Turn<(K, V), Option<S::Value>>],
     order: &Order,
     place: usize,
     author: &mut Author<J>,
 ) -> Result<(), Refusal>
+where
+    S::Key: Drop,
+    S::Value: Drop,
     requires sound { All (IsSound (λ pair. K.path_of pair.0) (λ pair. P.holds pair.0 pair.1)) turns.old }
     requires place { place < length turns.old }
-    ensures goes { AllZip (Goes (λ pair found. IfSome found (λ value. P.holds pair.0 value.value))) turns.old turns.new }
+    ensures goes { AllZip (Goes (λ pair found. IfSome found (λ value. P.holds pair.0 (S.value_of value)))) turns.old turns.new }
     ensures done { OnOk result ((d : _) → IsDone (slice_index_or turns.new place d)) }
     ensures refusal { IfErr result IsPutRefusal }
 {
@@ -135,28 +148,36 @@ fn put_from<R: Wait, K: PathKey + Drop, V: Drop, P: Keeps<K, V>, J: Naming>(
         return Ok(());
     };
     let mut stripe = row.stripe_at(rt, *path);
+    let read = read_from(&stripe, turns, order, place);
     put_turn(rt, alloc, &mut stripe, &mut turns[place], author)?;
-    put_behind(rt, alloc, &mut stripe, turns, order, place, author)
+    put_behind(rt, alloc, &mut stripe, turns, order, place, read, author)
 }
 
 // Puts the pairs behind the place that are of the stripe.
-fn put_behind<R: Wait, K: PathKey + Drop, V: Drop, P: Keeps<K, V>, J: Naming>(
+fn put_behind<R: Wait, K: PathKey + Drop, V: Drop, P: Keeps<K, V>, J: Naming, S: Slots<K, V>>(
     rt: &R,
     alloc: Global,
-    stripe: &mut Stripe<K, V, P, J>,
-    turns: &mut [Turn<(K, V), Option<Arc<V>>>],
+    stripe: &mut Stripe<K, V, P, J, S>,
+    turns: &mut [Turn<(K, V), Option<S::Value>>],
     order: &Order,
     place: usize,
+    mut read: usize,
     author: &mut Author<J>,
 ) -> Result<(), Refusal>
+where
+    S::Key: Drop,
+    S::Value: Drop,
     requires sound { All (IsSound (λ pair. K.path_of pair.0) (λ pair. P.holds pair.0 pair.1)) turns.old }
     requires place { place < length turns.old }
-    ensures goes { AllZip (Goes (λ pair found. IfSome found (λ value. P.holds pair.0 value.value))) turns.old turns.new }
+    ensures goes { AllZip (Goes (λ pair found. IfSome found (λ value. P.holds pair.0 (S.value_of value)))) turns.old turns.new }
     ensures refusal { IfErr result IsPutRefusal }
     ensures digit { stripe.new.digit ≡ stripe.old.digit }
 {
     let mut next = order.behind(place, turns.len());
     while next < turns.len() {
+        if read <= next {
+            read = read_from(stripe, turns, order, next);
+        }
         put_turn(rt, alloc, stripe, &mut turns[next], author)?;
         next = order.behind(next, turns.len());
     }
@@ -164,15 +185,18 @@ fn put_behind<R: Wait, K: PathKey + Drop, V: Drop, P: Keeps<K, V>, J: Naming>(
 }
 
 // Puts a pair that waits, if it is of the stripe. Where it is refused, it waits still.
-fn put_turn<R: Wait, K: PathKey + Drop, V: Drop, P: Keeps<K, V>, J: Naming>(
+fn put_turn<R: Wait, K: PathKey + Drop, V: Drop, P: Keeps<K, V>, J: Naming, S: Slots<K, V>>(
     rt: &R,
     alloc: Global,
-    stripe: &mut Stripe<K, V, P, J>,
-    turn: &mut Turn<(K, V), Option<Arc<V>>>,
+    stripe: &mut Stripe<K, V, P, J, S>,
+    turn: &mut Turn<(K, V), Option<S::Value>>,
     author: &mut Author<J>,
 ) -> Result<(), Refusal>
+where
+    S::Key: Drop,
+    S::Value: Drop,
     requires sound { IsSound (λ pair. K.path_of pair.0) (λ pair. P.holds pair.0 pair.1) turn.old }
-    ensures goes { Goes (λ pair found. IfSome found (λ value. P.holds pair.0 value.value)) turn.old turn.new }
+    ensures goes { Goes (λ pair found. IfSome found (λ value. P.holds pair.0 (S.value_of value))) turn.old turn.new }
     ensures done { OnOk result (HasDigit stripe.old.digit turn.old → IsDone turn.new) }
     ensures refusal { IfErr result IsPutRefusal }
     ensures digit { stripe.new.digit ≡ stripe.old.digit }
@@ -191,17 +215,20 @@ fn put_turn<R: Wait, K: PathKey + Drop, V: Drop, P: Keeps<K, V>, J: Naming>(
 }
 
 // Puts the pair, if it is of the stripe. Where it is refused, it waits still.
-fn put_or_wait<R: Wait, K: PathKey + Drop, V: Drop, P: Keeps<K, V>, J: Naming>(
+fn put_or_wait<R: Wait, K: PathKey + Drop, V: Drop, P: Keeps<K, V>, J: Naming, S: Slots<K, V>>(
     rt: &R,
     alloc: Global,
-    stripe: &mut Stripe<K, V, P, J>,
+    stripe: &mut Stripe<K, V, P, J, S>,
     path: Path,
     pair: (K, V),
     author: &mut Author<J>,
-) -> (Turn<(K, V), Option<Arc<V>>>, Result<(), Refusal>)
+) -> (Turn<(K, V), Option<S::Value>>, Result<(), Refusal>)
+where
+    S::Key: Drop,
+    S::Value: Drop,
     requires rule { P.holds pair.0 pair.1 }
     requires path { path.0 ≡ K.path_of pair.0 }
-    ensures goes { Goes (λ pair found. IfSome found (λ value. P.holds pair.0 value.value)) (Turn.Waits path pair) result.0 }
+    ensures goes { Goes (λ pair found. IfSome found (λ value. P.holds pair.0 (S.value_of value))) (Turn.Waits path pair) result.0 }
     ensures done { OnOk result.1 (digit path.0 0 ≡ stripe.old.digit → IsDone result.0) }
     ensures refusal { IfErr result.1 IsPutRefusal }
     ensures digit { stripe.new.digit ≡ stripe.old.digit }
@@ -216,65 +243,97 @@ fn put_or_wait<R: Wait, K: PathKey + Drop, V: Drop, P: Keeps<K, V>, J: Naming>(
 }
 
 // Puts the pair, and returns the value before, or none. Where it is refused, it is given back.
-fn put_pair<R: Wait, K: PathKey + Drop, V: Drop, P: Keeps<K, V>, J: Naming>(
+fn put_pair<R: Wait, K: PathKey + Drop, V: Drop, P: Keeps<K, V>, J: Naming, S: Slots<K, V>>(
     rt: &R,
     alloc: Global,
-    stripe: &mut Stripe<K, V, P, J>,
+    stripe: &mut Stripe<K, V, P, J, S>,
     path: Path,
     pair: (K, V),
     author: &mut Author<J>,
-) -> Result<Option<Arc<V>>, (Refusal, (K, V))>
+) -> Result<Option<S::Value>, (Refusal, (K, V))>
+where
+    S::Key: Drop,
+    S::Value: Drop,
     requires rule { P.holds pair.0 pair.1 }
     requires path { path.0 ≡ K.path_of pair.0 }
     requires place { digit_of K.path_of pair.0 ≡ stripe.old.digit }
-    ensures kept { IfOk result (λ before. IfSome before (λ value. P.holds pair.0 value.value)) }
+    ensures kept { IfOk result (λ before. IfSome before (λ value. P.holds pair.0 (S.value_of value))) }
     ensures back { IfErr result (λ refused. (refused.1 ≡ pair) × IsPutRefusal refused.0) }
     ensures digit { stripe.new.digit ≡ stripe.old.digit }
 {
     let (key, value) = pair;
-    let key = match Arc::new(alloc, key) {
+    let key = match S::new_key(alloc, key) {
         Ok(key) => key,
         Err(failed) => return Err((Refusal::NoMemory, (failed.value, value))),
     };
-    let value = match Arc::new(alloc, value) {
+    let value = match S::new_value(alloc, value) {
         Ok(value) => value,
-        Err(failed) => return Err((Refusal::NoMemory, (taken_back(rt, key), failed.value))),
+        Err(failed) => return Err((
+            Refusal::NoMemory,
+            (key_back::<R, K, S>(rt, key), failed.value),
+        )),
     };
-    match put_handles(alloc, stripe, &key, path, &value, author) {
+    match put_twins(alloc, stripe, &key, path, &value, author) {
         Ok(before) => Ok(before),
-        Err(refusal) => Err((refusal, (taken_back(rt, key), taken_back(rt, value)))),
+        Err(refusal) => Err((
+            refusal,
+            (
+                key_back::<R, K, S>(rt, key),
+                value_back::<R, V, S>(rt, value),
+            ),
+        )),
     }
 }
 
-// Puts a pair of which the caller keeps handles, and returns the value before, or none.
-fn put_handles<K: PathKey + Drop, V: Drop, P: Keeps<K, V>, J: Naming>(
+// Puts another of each, which the caller keeps, and returns the value before, or none.
+fn put_twins<K: PathKey + Drop, V: Drop, P: Keeps<K, V>, J: Naming, S: Slots<K, V>>(
     alloc: Global,
-    stripe: &mut Stripe<K, V, P, J>,
-    key: &Arc<K>,
+    stripe: &mut Stripe<K, V, P, J, S>,
+    key: &S::Key,
     path: Path,
-    value: &Arc<V>,
+    value: &S::Value,
     author: &mut Author<J>,
-) -> Result<Option<Arc<V>>, Refusal>
-    requires rule { P.holds key.now.value value.now.value }
-    requires path { path.0 ≡ K.path_of key.now.value }
-    requires place { digit_of K.path_of key.now.value ≡ stripe.old.digit }
-    ensures kept { IfOk result (λ before. IfSome before (λ found. P.holds key.now.value found.value)) }
+) -> Result<Option<S::Value>, Refusal>
+where
+    S::Key: Drop,
+    S::Value: Drop,
+    requires rule { P.holds (S.key_of key.now) (S.value_of value.now) }
+    requires path { path.0 ≡ K.path_of (S.key_of key.now) }
+    requires place { digit_of K.path_of (S.key_of key.now) ≡ stripe.old.digit }
+    ensures kept { IfOk result (λ before. IfSome before (λ found. P.holds (S.key_of key.now) (S.value_of found))) }
     ensures refusal { IfErr result IsPutRefusal }
     ensures digit { stripe.new.digit ≡ stripe.old.digit }
 {
-    let key = Arc::try_clone(key)?;
-    let value = Arc::try_clone(value)?;
-    stripe.put(alloc, key, path, value, author)
+    let key = S::another_key(key)?;
+    let value = S::another_value(value)?;
+    Ok(
+        stripe
+            .put_where(alloc, key, path, value, &Always, author)?
+            .previous,
+    )
 }
 
-// What lies behind the only handle on it. No map has another handle on what it refused, so the first round takes it.
-fn taken_back<R: Wait, T>(rt: &R, mut handle: Arc<T>) -> T
-    ensures { result ≡ arc_value handle }
+// The key itself. No map has a handle on what it refused, so the first round takes it.
+fn key_back<R: Wait, K, S: KeySlots<K>>(rt: &R, mut key: S::Key) -> K
+    ensures { result ≡ S.key_of key }
 {
     for _ in rt.forever() {
-        match Arc::try_unwrap(handle) {
-            Ok(value) => return value,
-            Err(shared) => handle = shared,
+        match S::into_key(key) {
+            Ok(own) => return own,
+            Err(shared) => key = shared,
+        }
+    }
+    unreachable!()
+}
+
+// The value itself, as `key_back` has the key.
+fn value_back<R: Wait, V, S: ValueSlots<V>>(rt: &R, mut value: S::Value) -> V
+    ensures { result ≡ S.value_of value }
+{
+    for _ in rt.forever() {
+        match S::into_value(value) {
+            Ok(own) => return own,
+            Err(shared) => value = shared,
         }
     }
     unreachable!()

@@ -3,7 +3,7 @@ use Rattle.std.specs.Prelude.{◌≡◌, ℕ, List, Option, Some}
 use Rattle.std.specs.declared.cmp.Ordering.{Ordering}
 use mathlib.Core.List.{IsPrefix}
 use Rattle.logbook.specs.Pages.{Book}
-use Rattle.stripes.specs.Rules.{AllKeep}
+use Rattle.stripe.specs.Rules.{AllKeep}
 use Rattle.versions.specs.Map.{Map, value_at}
 use Rattle.write_history.specs.declared.entry.Entry.{Entry}
 use Rattle.write_history.specs.Histories.{value_in}

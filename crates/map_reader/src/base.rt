@@ -1,7 +1,7 @@
 //! A view of the whole map, with the marks of what was written since.
 ghost use Rattle.std.specs.Prelude.{◌≡◌, IfSome, option_map};
 ghost use Rattle.map_reader.specs.Sights.{AllTold};
-ghost use Rattle.stripes.specs.Rules.{AllKeep};
+ghost use Rattle.stripe.specs.Rules.{AllKeep};
 ghost use Rattle.versions.specs.Map.{value_at};
 ghost use Rattle.write_history.specs.Histories.{value_in};
 ghost use Rattle.write_history.specs.Rules.{HasHistory};
@@ -12,20 +12,22 @@ use hash_path::{Path, PathKey, Sought};
 use std::marker::{Model, PhantomData};
 use std::sync::Arc;
 use stripes::{Keeps, Marks};
+use trie_node::{Shared, Slots};
 use versions::View;
 use write_history::Naming;
 
 /// A view of the whole map, whose pairs keep the rule, with the marks of what was written since it was taken. A clause
 /// sees its pairs and the history of its moment, if the map has one: each key has the value there that it leaves.
 #[derive(Drop)]
-pub struct Base<K: PathKey, V, P: Keeps<K, V>, J: Naming, S: Since<K, V>> {
-    plain: View<K, V>,
+pub struct Base<K: PathKey, V, P: Keeps<K, V>, J: Naming, W: Since<K, V>, S: Slots<K, V> = Shared> {
+    plain: View<K, V, S>,
     marks: Arc<Marks>,
     rule: PhantomData<P>,
-    sight: Sight<K, V, J, S>,
+    sight: Sight<K, V, J, W>,
 }
 
-impl<K: PathKey, V, P: Keeps<K, V>, J: Naming, S: Since<K, V>> Model for Base<K, V, P, J, S> {
+impl<K: PathKey, V, P: Keeps<K, V>, J: Naming, W: Since<K, V>, S: Slots<K, V>> Model
+    for Base<K, V, P, J, W, S> {
     ghost use Rattle.map_reader.specs.Sights.{Based, IsBase};
 
     ghost Value = { Based K V };
@@ -35,13 +37,24 @@ impl<K: PathKey, V, P: Keeps<K, V>, J: Naming, S: Since<K, V>> Model for Base<K,
     ghost invariant = { λ b. IsBase K.cmp K.path_of P.holds J.book b.plain b.sight };
 }
 
-impl<K: PathKey + Drop, V: Drop, P: Keeps<K, V>, J: Naming, S: Since<K, V>> Base<K, V, P, J, S> {
+impl<K: PathKey + Drop, V: Drop, P: Keeps<K, V>, J: Naming, W: Since<K, V>, S: Slots<K, V>> Base<
+    K,
+    V,
+    P,
+    J,
+    W,
+    S,
+>
+where
+    S::Key: Drop,
+    S::Value: Drop,
+{
     /// The view, the marks that each stripe has had since the view was taken, and what was seen when it was.
     pub fn new(
-        plain: View<K, V>,
+        plain: View<K, V, S>,
         marks: Arc<Marks>,
-        sight: Sight<K, V, J, S>,
-    ) -> Base<K, V, P, J, S>
+        sight: Sight<K, V, J, W>,
+    ) -> Base<K, V, P, J, W, S>
         requires kept { AllKeep K.cmp P.holds plain }
         requires told { HasHistory J.book → AllTold K.cmp K.path_of plain sight }
         ensures pairs { result.pairs ≡ plain }
@@ -66,7 +79,7 @@ impl<K: PathKey + Drop, V: Drop, P: Keeps<K, V>, J: Naming, S: Since<K, V>> Base
     }
 
     /// What was seen when the view was taken.
-    pub fn sight(&self) -> &Sight<K, V, J, S>
+    pub fn sight(&self) -> &Sight<K, V, J, W>
         ensures { result.now ≡ self.now.log }
     {
         &self.sight
@@ -80,7 +93,7 @@ impl<K: PathKey + Drop, V: Drop, P: Keeps<K, V>, J: Naming, S: Since<K, V>> Base
         ensures kept { IfSome result (λ value. P.holds (Q.key_of key) value.now) }
     {
         match trie_node::find_along(self.plain.root(), key, path) {
-            Some(value) => Some(&**value),
+            Some(value) => Some(S::lend_value(value)),
             None => None,
         }
     }

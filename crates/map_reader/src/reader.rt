@@ -12,6 +12,7 @@ use hash_path::{PathKey, Sought};
 use std::marker::Model;
 use std::sync::{Arc, Wait};
 use stripes::{Anything, Keeps};
+use trie_node::{Shared, Slots};
 use write_history::{Front, Naming, Unnamed};
 
 /// What one thread reads a map by, mostly without its locks.
@@ -36,7 +37,7 @@ use write_history::{Front, Naming, Unnamed};
 /// whichever thread. Two reads are two steps, and the map may be written between them.
 ///
 /// No clause can say so much. They say what those of the map's own calls say: a value that is found keeps the rule. And
-/// where the map has a history, what is found is what that leaves the key, at a moment no older than the one that `S`
+/// where the map has a history, what is found is what that leaves the key, at a moment no older than the one that `W`
 /// names. That it is what the map has now follows from what is said of [`Marks`](stripes::Marks), and tests show it.
 ///
 /// # When it pays
@@ -58,17 +59,18 @@ pub struct Reader<
     V,
     P: Keeps<K, V> = Anything,
     J: Naming = Unnamed,
-    S: Since<K, V> = Unnamed,
+    W: Since<K, V> = Unnamed,
+    S: Slots<K, V> = Shared,
 > {
-    readers: &'m Readers<'m, K, V, P, J, S>,
-    base: Option<Arc<Base<K, V, P, J, S>>>,
+    readers: &'m Readers<'m, K, V, P, J, W, S>,
+    base: Option<Arc<Base<K, V, P, J, W, S>>>,
     seen: u64,
     counts: Counts,
-    sight: Sight<K, V, J, S>,
+    sight: Sight<K, V, J, W>,
 }
 
-impl<'m, K: PathKey, V, P: Keeps<K, V>, J: Naming, S: Since<K, V>> Model
-    for Reader<'m, K, V, P, J, S> {
+impl<'m, K: PathKey, V, P: Keeps<K, V>, J: Naming, W: Since<K, V>, S: Slots<K, V>> Model
+    for Reader<'m, K, V, P, J, W, S> {
     ghost use Rattle.std.specs.Prelude.{List};
     ghost use Rattle.write_history.specs.declared.entry.Entry.{Entry};
 
@@ -77,16 +79,21 @@ impl<'m, K: PathKey, V, P: Keeps<K, V>, J: Naming, S: Since<K, V>> Model
     ghost view = { λ r. r.sight };
 }
 
-impl<'m, K: PathKey + Drop, V: Drop, P: Keeps<K, V>, J: Naming, S: Since<K, V>> Reader<
+impl<
     'm,
-    K,
-    V,
-    P,
-    J,
-    S,
-> {
+    K: PathKey + Drop,
+    V: Drop,
+    P: Keeps<K, V>,
+    J: Naming,
+    W: Since<K, V>,
+    S: Slots<K, V>,
+> Reader<'m, K, V, P, J, W, S>
+where
+    S::Key: Drop,
+    S::Value: Drop,
+{
     /// A reader with no base yet.
-    pub(crate) fn new(readers: &'m Readers<'m, K, V, P, J, S>) -> Reader<'m, K, V, P, J, S> {
+    pub(crate) fn new(readers: &'m Readers<'m, K, V, P, J, W, S>) -> Reader<'m, K, V, P, J, W, S> {
         Reader {
             readers,
             base: None,
@@ -121,7 +128,7 @@ impl<'m, K: PathKey + Drop, V: Drop, P: Keeps<K, V>, J: Naming, S: Since<K, V>> 
     ) -> T
         requires callable { (found : _) → IfSome found (λ value. P.holds (Q.key_of key) value.now) → F.pre look found }
         ensures kept { (found : _) × IfSome found (λ value. P.holds (Q.key_of key) value.now) × F.post look found result }
-        ensures since { HasHistory J.book → (found : _) × Read K.cmp K.path_of (Q.key_of key) (option_map (λ value. value.now) found) S.since self.new × F.post look found result }
+        ensures since { HasHistory J.book → (found : _) × Read K.cmp K.path_of (Q.key_of key) (option_map (λ value. value.now) found) W.since self.new × F.post look found result }
     {
         let path = key.path_sought();
         if let Some(base) = &self.base {
@@ -174,7 +181,7 @@ impl<'m, K: PathKey + Drop, V: Drop, P: Keeps<K, V>, J: Naming, S: Since<K, V>> 
 
     // Has the latest base from now on, if there is one, and returns whether. The base before is dropped, with no lock
     // held.
-    fn take(&mut self, latest: Latest<K, V, P, J, S>) -> bool {
+    fn take(&mut self, latest: Latest<K, V, P, J, W, S>) -> bool {
         let (base, made) = latest;
         self.seen = made;
         self.base = base;
@@ -182,20 +189,25 @@ impl<'m, K: PathKey + Drop, V: Drop, P: Keeps<K, V>, J: Naming, S: Since<K, V>> 
     }
 }
 
-impl<'m, K: PathKey + Drop, V: Copy + Drop, P: Keeps<K, V>, J: Naming, S: Since<K, V>> Reader<
+impl<
     'm,
-    K,
-    V,
-    P,
-    J,
-    S,
-> {
+    K: PathKey + Drop,
+    V: Copy + Drop,
+    P: Keeps<K, V>,
+    J: Naming,
+    W: Since<K, V>,
+    S: Slots<K, V>,
+> Reader<'m, K, V, P, J, W, S>
+where
+    S::Key: Drop,
+    S::Value: Drop,
+{
     /// A copy of the value of the key, or none. No handle on it is cloned.
     ///
     /// Cost: O(log n), no lock or one, as `read`. Refused: never.
     pub fn get_copied<R: Wait, Q: Sought<K>>(&mut self, rt: &R, key: Q) -> Option<V>
         ensures kept { IfSome result (λ value. P.holds (Q.key_of key) value) }
-        ensures since { HasHistory J.book → Read K.cmp K.path_of (Q.key_of key) result S.since self.new }
+        ensures since { HasHistory J.book → Read K.cmp K.path_of (Q.key_of key) result W.since self.new }
     {
         let path = key.path_sought();
         if let Some(base) = &self.base {
@@ -209,7 +221,7 @@ impl<'m, K: PathKey + Drop, V: Copy + Drop, P: Keeps<K, V>, J: Naming, S: Since<
         let mut stripe = self.readers.row().stripe_at(rt, path);
         self.sight.see(&mut stripe);
         match stripe.get(key, path) {
-            Some(value) => Some(**value),
+            Some(value) => Some(*S::lend_value(value)),
             None => None,
         }
     }

@@ -1,7 +1,7 @@
 //! What the readers of a map share.
 ghost use Rattle.std.specs.Prelude.{◌≡◌, IfOk};
 ghost use Rattle.map_reader.specs.Sights.{AllTold};
-ghost use Rattle.stripes.specs.Rules.{AllKeep};
+ghost use Rattle.stripe.specs.Rules.{AllKeep};
 ghost use Rattle.write_history.specs.Rules.{HasHistory};
 
 use crate::base::Base;
@@ -15,13 +15,13 @@ use std::mem;
 use std::sync::atomic::{AtomicU64, Ordering};
 use std::sync::{Arc, Mutex, Wait};
 use stripes::{Anything, Keeps, Marking, Marks, Stripes};
-use trie_node::NoMemory;
+use trie_node::{NoMemory, Shared, Slots};
 use united_roots::RootRow;
 use versions::View;
 use write_history::{Front, Naming, Unnamed};
 
 /// The latest base, unless its marks have ended, and how many bases were made until then.
-pub type Latest<K, V, P, J, S> = (Option<Arc<Base<K, V, P, J, S>>>, u64);
+pub type Latest<K, V, P, J, W, S = Shared> = (Option<Arc<Base<K, V, P, J, W, S>>>, u64);
 
 /// What the readers of one map share: the latest base.
 ///
@@ -48,20 +48,36 @@ pub struct Readers<
     V,
     P: Keeps<K, V> = Anything,
     J: Naming = Unnamed,
-    S: Since<K, V> = Unnamed,
+    W: Since<K, V> = Unnamed,
+    S: Slots<K, V> = Shared,
 > {
     alloc: Global,
-    row: &'m Stripes<K, V, P, J>,
-    latest: LatestBase<K, V, P, J, S>,
+    row: &'m Stripes<K, V, P, J, S>,
+    latest: LatestBase<K, V, P, J, W, S, S::Key, S::Value>,
     made: AtomicU64,
-    sight: Sight<K, V, J, S>,
+    sight: Sight<K, V, J, W>,
 }
 
-impl<'m, K: PathKey + Drop, V: Drop, P: Keeps<K, V>> Readers<'m, K, V, P> {
+impl<'m, K: PathKey + Drop, V: Drop, P: Keeps<K, V>, S: Slots<K, V>> Readers<
+    'm,
+    K,
+    V,
+    P,
+    Unnamed,
+    Unnamed,
+    S,
+>
+where
+    S::Key: Drop,
+    S::Value: Drop,
+{
     /// Readers of the map with no history that has these stripes, with no base yet.
     ///
     /// Cost: O(1), no lock. Refused: never.
-    pub fn new(alloc: Global, row: &'m Stripes<K, V, P>) -> Readers<'m, K, V, P> {
+    pub fn new(
+        alloc: Global,
+        row: &'m Stripes<K, V, P, Unnamed, S>,
+    ) -> Readers<'m, K, V, P, Unnamed, Unnamed, S> {
         Readers {
             alloc,
             row,
@@ -72,24 +88,29 @@ impl<'m, K: PathKey + Drop, V: Drop, P: Keeps<K, V>> Readers<'m, K, V, P> {
     }
 }
 
-impl<'m, K: PathKey + Drop, V: Drop, P: Keeps<K, V>, J: Naming, S: Since<K, V>> Readers<
+impl<
     'm,
-    K,
-    V,
-    P,
-    J,
-    S,
-> {
+    K: PathKey + Drop,
+    V: Drop,
+    P: Keeps<K, V>,
+    J: Naming,
+    W: Since<K, V>,
+    S: Slots<K, V>,
+> Readers<'m, K, V, P, J, W, S>
+where
+    S::Key: Drop,
+    S::Value: Drop,
+{
     /// Readers of the map with a history that has these stripes, with no base yet. They go on from what the front has
-    /// seen, which `S` names.
+    /// seen, which `W` names.
     ///
     /// Cost: O(1), no lock. Refused: never.
     pub fn since(
         alloc: Global,
-        row: &'m Stripes<K, V, P, J>,
+        row: &'m Stripes<K, V, P, J, S>,
         front: &Front<K, V, J>,
-    ) -> Readers<'m, K, V, P, J, S>
-        requires { S.since ≡ front.now }
+    ) -> Readers<'m, K, V, P, J, W, S>
+        requires { W.since ≡ front.now }
     {
         Readers {
             alloc,
@@ -103,17 +124,17 @@ impl<'m, K: PathKey + Drop, V: Drop, P: Keeps<K, V>, J: Naming, S: Since<K, V>> 
     /// A reader for one thread.
     ///
     /// Cost: O(1), no lock. Refused: never.
-    pub fn reader(&self) -> Reader<'_, K, V, P, J, S> {
+    pub fn reader(&self) -> Reader<'_, K, V, P, J, W, S> {
         Reader::new(self)
     }
 
     /// The stripes of the map.
-    pub(crate) fn row(&self) -> &Stripes<K, V, P, J> {
+    pub(crate) fn row(&self) -> &Stripes<K, V, P, J, S> {
         self.row
     }
 
     /// What its readers begin with.
-    pub(crate) fn sight(&self) -> Sight<K, V, J, S> {
+    pub(crate) fn sight(&self) -> Sight<K, V, J, W> {
         self.sight.again()
     }
 
@@ -126,7 +147,7 @@ impl<'m, K: PathKey + Drop, V: Drop, P: Keeps<K, V>, J: Naming, S: Since<K, V>> 
 
     /// The latest base, unless it has ended: then it is dropped. None is returned where another thread is at it, and
     /// nobody waits.
-    pub(crate) fn latest(&self) -> Option<Latest<K, V, P, J, S>> {
+    pub(crate) fn latest(&self) -> Option<Latest<K, V, P, J, W, S>> {
         let mut latest = self.latest.as_lock().try_lock()?;
         let base = unless_over(&latest);
         let ended = if base.is_none() { latest.take() } else { None };
@@ -144,7 +165,7 @@ impl<'m, K: PathKey + Drop, V: Drop, P: Keeps<K, V>, J: Naming, S: Since<K, V>> 
         rt: &R,
         pairs: u64,
         seen: u64,
-    ) -> Option<Latest<K, V, P, J, S>> {
+    ) -> Option<Latest<K, V, P, J, W, S>> {
         let mut latest = self.latest.as_lock().try_lock()?;
         if self.made() != seen {
             return Some((unless_over(&latest), self.made()));
@@ -161,7 +182,11 @@ impl<'m, K: PathKey + Drop, V: Drop, P: Keeps<K, V>, J: Naming, S: Since<K, V>> 
     // A base of the map as it stands at one moment of the call, when all stripes are held. Where the map has a history,
     // that is a later moment than the one from which on writes are marked: a write between the two is in the base, and
     // marked all the same.
-    fn new_base<R: Wait>(&self, rt: &R, pairs: u64) -> Result<Arc<Base<K, V, P, J, S>>, NoMemory> {
+    fn new_base<R: Wait>(
+        &self,
+        rt: &R,
+        pairs: u64,
+    ) -> Result<Arc<Base<K, V, P, J, W, S>>, NoMemory> {
         let marks = Arc::new(self.alloc, Marks::new(self.alloc, pairs)?)?;
         let mut sight = self.sight();
         let Ok(plain) = self.marked_view(rt, &marks, &mut sight) else {
@@ -176,8 +201,8 @@ impl<'m, K: PathKey + Drop, V: Drop, P: Keeps<K, V>, J: Naming, S: Since<K, V>> 
         &self,
         rt: &R,
         marks: &Arc<Marks>,
-        sight: &mut Sight<K, V, J, S>,
-    ) -> Result<View<K, V>, NoMemory>
+        sight: &mut Sight<K, V, J, W>,
+    ) -> Result<View<K, V, S>, NoMemory>
         ensures told { HasHistory J.book → IfOk result (λ plain. AllTold K.cmp K.path_of plain sight.new) }
         ensures kept { IfOk result (λ plain. AllKeep K.cmp P.holds plain) }
     {
@@ -200,9 +225,18 @@ impl<'m, K: PathKey + Drop, V: Drop, P: Keeps<K, V>, J: Naming, S: Since<K, V>> 
 }
 
 // A handle on the base, unless its marks have ended.
-fn unless_over<K: PathKey + Drop, V: Drop, P: Keeps<K, V>, J: Naming, S: Since<K, V>>(
-    base: &Option<Arc<Base<K, V, P, J, S>>>,
-) -> Option<Arc<Base<K, V, P, J, S>>> {
+fn unless_over<
+    K: PathKey + Drop,
+    V: Drop,
+    P: Keeps<K, V>,
+    J: Naming,
+    W: Since<K, V>,
+    S: Slots<K, V>,
+>(base: &Option<Arc<Base<K, V, P, J, W, S>>>) -> Option<Arc<Base<K, V, P, J, W, S>>>
+where
+    S::Key: Drop,
+    S::Value: Drop,
+{
     match base {
         Some(base) if !base.is_over() => Arc::try_clone(base).ok(),
         _ => None,

@@ -4,9 +4,9 @@ ghost use Rattle.std.specs.Sync.Mutex.{mutex_guard_value};
 ghost use mathlib.Core.List.{IsPrefix};
 ghost use Rattle.hash_path.specs.Digits.{fan_out};
 ghost use Rattle.map_reader.specs.Sights.{AllTold};
-ghost use Rattle.stripes.specs.Rules.{AllKeep};
+ghost use Rattle.stripe.specs.Rules.{AllKeep};
 ghost use Rattle.stripes.specs.Stripes.{digits_of, up_to};
-ghost use Rattle.stripes.specs.Told.{Tells};
+ghost use Rattle.stripe.specs.Told.{Tells};
 ghost use Rattle.write_history.specs.Rules.{HasHistory};
 
 use crate::since::Since;
@@ -15,7 +15,7 @@ use std::alloc::Global;
 use std::marker::{Model, PhantomData};
 use std::sync::Wait;
 use stripes::{Guards, Keeps, Stripe, Stripes, joined};
-use trie_node::NoMemory;
+use trie_node::{NoMemory, Slots};
 use united_roots::RootRow;
 use versions::Version;
 use write_history::{Front, Naming, Unnamed};
@@ -24,12 +24,12 @@ use write_history::{Front, Naming, Unnamed};
 ///
 /// But for the bit that says whether there is one, it has no bytes, and to see more takes no instruction.
 #[derive(Drop)]
-pub struct Sight<K: PathKey, V, J: Naming, S: Since<K, V>> {
+pub struct Sight<K: PathKey, V, J: Naming, W: Since<K, V>> {
     front: Option<Front<K, V, J>>,
-    from: PhantomData<S>,
+    from: PhantomData<W>,
 }
 
-impl<K: PathKey, V, J: Naming, S: Since<K, V>> Model for Sight<K, V, J, S> {
+impl<K: PathKey, V, J: Naming, W: Since<K, V>> Model for Sight<K, V, J, W> {
     ghost use Rattle.std.specs.Prelude.{List, [], unwrap_or};
     ghost use Rattle.map_reader.specs.Sights.{HasSeen};
     ghost use Rattle.write_history.specs.declared.entry.Entry.{Entry};
@@ -39,12 +39,12 @@ impl<K: PathKey, V, J: Naming, S: Since<K, V>> Model for Sight<K, V, J, S> {
 
     ghost view = { λ sight. unwrap_or sight.front [] };
 
-    ghost invariant = { λ sight. HasHistory J.book → HasSeen S.since sight.front };
+    ghost invariant = { λ sight. HasHistory J.book → HasSeen W.since sight.front };
 }
 
-impl<K: PathKey, V, S: Since<K, V>> Sight<K, V, Unnamed, S> {
+impl<K: PathKey, V, W: Since<K, V>> Sight<K, V, Unnamed, W> {
     /// Nothing, of a map with no history.
-    pub fn none() -> Sight<K, V, Unnamed, S> {
+    pub fn none() -> Sight<K, V, Unnamed, W> {
         Sight {
             front: None,
             from: PhantomData,
@@ -52,10 +52,10 @@ impl<K: PathKey, V, S: Since<K, V>> Sight<K, V, Unnamed, S> {
     }
 }
 
-impl<K: PathKey, V, J: Naming, S: Since<K, V>> Sight<K, V, J, S> {
+impl<K: PathKey, V, J: Naming, W: Since<K, V>> Sight<K, V, J, W> {
     /// What the front has seen.
-    pub fn of(front: &Front<K, V, J>) -> Sight<K, V, J, S>
-        requires { S.since ≡ front.now }
+    pub fn of(front: &Front<K, V, J>) -> Sight<K, V, J, W>
+        requires { W.since ≡ front.now }
         ensures { result ≡ front.now }
     {
         Sight {
@@ -65,7 +65,7 @@ impl<K: PathKey, V, J: Naming, S: Since<K, V>> Sight<K, V, J, S> {
     }
 
     /// The same, for another holder.
-    pub fn again(&self) -> Sight<K, V, J, S>
+    pub fn again(&self) -> Sight<K, V, J, W>
         ensures { result ≡ self.now }
     {
         Sight {
@@ -82,9 +82,9 @@ impl<K: PathKey, V, J: Naming, S: Since<K, V>> Sight<K, V, J, S> {
     }
 
     /// Afterwards it has seen what the other has, and no more.
-    pub fn follow(&mut self, other: &Sight<K, V, J, S>)
+    pub fn follow(&mut self, other: &Sight<K, V, J, W>)
         ensures same { HasHistory J.book → self.new ≡ other.now }
-        ensures since { HasHistory J.book → IsPrefix S.since self.new }
+        ensures since { HasHistory J.book → IsPrefix W.since self.new }
     {
         if let Some(front) = &mut self.front {
             if let Some(other) = &other.front {
@@ -94,11 +94,14 @@ impl<K: PathKey, V, J: Naming, S: Since<K, V>> Sight<K, V, J, S> {
     }
 }
 
-impl<K: PathKey + Drop, V: Drop, J: Naming, S: Since<K, V>> Sight<K, V, J, S> {
+impl<K: PathKey + Drop, V: Drop, J: Naming, W: Since<K, V>> Sight<K, V, J, W> {
     /// Sees the history as it is now: each key of the stripe has the value that it leaves.
-    pub fn see<P: Keeps<K, V>>(&mut self, stripe: &mut Stripe<K, V, P, J>)
+    pub fn see<P: Keeps<K, V>, S: Slots<K, V>>(&mut self, stripe: &mut Stripe<K, V, P, J, S>)
+    where
+        S::Key: Drop,
+        S::Value: Drop,
         ensures tells { HasHistory J.book → Tells K.cmp K.path_of stripe.new.digit stripe.new.entries self.new }
-        ensures since { HasHistory J.book → IsPrefix S.since self.new }
+        ensures since { HasHistory J.book → IsPrefix W.since self.new }
         ensures entries { stripe.new.entries ≡ stripe.old.entries }
         ensures digit { stripe.new.digit ≡ stripe.old.digit }
     {
@@ -109,14 +112,17 @@ impl<K: PathKey + Drop, V: Drop, J: Naming, S: Since<K, V>> Sight<K, V, J, S> {
 
     /// The map of all pairs, at the moment when all stripes are held or, where there is a history to be seen, at a later
     /// one: each key has the value that the history leaves, as it is seen then. Each pair keeps the rule.
-    pub fn whole<R: Wait, P: Keeps<K, V>>(
+    pub fn whole<R: Wait, P: Keeps<K, V>, S: Slots<K, V>>(
         &mut self,
         rt: &R,
         alloc: Global,
-        row: &Stripes<K, V, P, J>,
-        held: Guards<'_, K, V, P, J>,
-        room: RootRow<K, V>,
-    ) -> Result<Version<K, V>, NoMemory>
+        row: &Stripes<K, V, P, J, S>,
+        held: Guards<'_, K, V, P, J, S>,
+        room: RootRow<K, V, S>,
+    ) -> Result<Version<K, V, S>, NoMemory>
+    where
+        S::Key: Drop,
+        S::Value: Drop,
         requires room { room.entries ≡ [] }
         requires held { digits_of (map mutex_guard_value held.items) ≡ up_to fan_out }
         ensures told { HasHistory J.book → IfOk result (λ map. AllTold K.cmp K.path_of map.entries self.new) }

@@ -48,7 +48,6 @@ fn locked<'m, R: Wait>(
 
 fn put<R: AllocGlobal + Wait + Abort>(rt: &R, row: &TestStripes, key: u64, value: u64) {
     let path = key.path();
-    let key = Arc::new(rt.alloc(), key).expect(rt, "no key");
     let value = Arc::new(rt.alloc(), value).expect(rt, "no value");
     let mut stripe = row.stripe_at(rt, path);
     let done = stripe.put(rt.alloc(), key, path, value, &mut Author::nobody());
@@ -65,7 +64,6 @@ fn remove<R: AllocGlobal + Wait + Abort>(rt: &R, row: &TestStripes, key: u64) {
 // Adds 100 to the value of the key.
 fn update<R: AllocGlobal + Wait + Abort>(rt: &R, row: &TestStripes, key: u64) {
     let path = key.path();
-    let key = Arc::new(rt.alloc(), key).expect(rt, "no key");
     let mut stripe = row.stripe_at(rt, path);
     let done = stripe.update(
         rt.alloc(),

@@ -7,8 +7,8 @@ use Rattle.map_session.specs.declared.put_error.PutError.{PutError}
 use Rattle.map_session.specs.declared.put_error.PutError.TheVariants.{Full, NoMemory}
 use Rattle.map_session.specs.Fullness.{SaysFull}
 use mathlib.Core.List.{IsPrefix}
-use Rattle.stripes.proofs.Seeing.{prefix_trans}
-use Rattle.stripes.specs.Told.{Finds}
+use Rattle.stripe.proofs.Seeing.{prefix_trans}
+use Rattle.stripe.specs.Told.{Finds}
 use Rattle.versions.specs.Map.{Map}
 use Rattle.write_history.specs.declared.entry.Entry.{Entry}
 use Rattle.std.specs.declared.cmp.Ordering.{Ordering}

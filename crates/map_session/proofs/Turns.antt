@@ -6,7 +6,7 @@ use Rattle.std.proofs.lemmas.List.Elements.{All-push}
 use Rattle.std.specs.Prelude.{All, option_map}
 use Rattle.std.specs.declared.cmp.Ordering.{Ordering}
 use Rattle.stripes.proofs.Lending.{length_snoc}
-use Rattle.stripes.proofs.Seeing.{prefix_self, prefix_trans, wrote_behind}
+use Rattle.stripe.proofs.Seeing.{prefix_self, prefix_trans, wrote_behind}
 use Rattle.versions.specs.Map.{Map}
 use Rattle.write_history.specs.declared.entry.Write.TheVariants.{Put, Remove}
 use Rattle.write_history.specs.Signers.{Signer, WroteIf, signed_if, signed_once}

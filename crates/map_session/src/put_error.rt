@@ -1,6 +1,6 @@
 //! Why a put is refused.
 ghost use Rattle.std.specs.Prelude.{◌≡◌, ◌↔◌};
-ghost use Rattle.stripes.specs.Rules.{IsPutRefusal};
+ghost use Rattle.stripe.specs.Rules.{IsPutRefusal};
 
 use std::alloc::{AllocError, AllocFailed};
 use thiserror::Error;

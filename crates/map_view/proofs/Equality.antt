@@ -8,20 +8,20 @@ module _ {A : Type 0} (E : A → A → Bool) where
   next : {x y : A} {xs ys left right : List A} {w : Bool} → left ≡ x ∷ xs → right ≡ y ∷ ys → pointwise E left right ≡ w → (E x y && pointwise E xs ys) ≡ w
   next {x} {y} {xs} {ys} {left} {right} {w} l r whole = subst (λ (b : List A). pointwise E (x ∷ xs) b ≡ w) r (subst (λ (a : List A). pointwise E a right ≡ w) l whole)
 
-  unequal_first : (e left w b : Bool) → b ≡ not e → b ≡ true → (e && left) ≡ w → false ≡ w
+  unequal_first : (e left w b : Bool) → b ≡ e → b ≡ false → (e && left) ≡ w → false ≡ w
   unequal_first false left w b is so whole = whole
-  unequal_first true left w b is so whole = absurd (true≢false (sym so ∙ is))
+  unequal_first true left w b is so whole = absurd (true≢false (sym is ∙ so))
 
-  equal_first : (e left w b : Bool) → b ≡ not e → b ≡ false → (e && left) ≡ w → left ≡ w
+  equal_first : (e left w b : Bool) → b ≡ e → b ≡ true → (e && left) ≡ w → left ≡ w
   equal_first true left w b is so whole = whole
-  equal_first false left w b is so whole = absurd (true≢false (sym is ∙ so))
+  equal_first false left w b is so whole = absurd (true≢false (sym so ∙ is))
 
   -- items that differ tell the lists apart
-  pub apart : {x y : A} {xs ys left right : List A} {w : Bool} (b : Bool) → left ≡ x ∷ xs → right ≡ y ∷ ys → pointwise E left right ≡ w → b ≡ not (E x y) → b ≡ true → false ≡ w
+  pub apart : {x y : A} {xs ys left right : List A} {w : Bool} (b : Bool) → left ≡ x ∷ xs → right ≡ y ∷ ys → pointwise E left right ≡ w → b ≡ E x y → b ≡ false → false ≡ w
   apart {x} {y} {xs} {ys} {left} {right} {w} b l r whole is so = unequal_first (E x y) (pointwise E xs ys) w b is so (next l r whole)
 
   -- behind equal items the rest decides
-  pub alike : {x y : A} {xs ys left right : List A} {w : Bool} (b : Bool) → left ≡ x ∷ xs → right ≡ y ∷ ys → pointwise E left right ≡ w → b ≡ not (E x y) → b ≡ false → pointwise E xs ys ≡ w
+  pub alike : {x y : A} {xs ys left right : List A} {w : Bool} (b : Bool) → left ≡ x ∷ xs → right ≡ y ∷ ys → pointwise E left right ≡ w → b ≡ E x y → b ≡ true → pointwise E xs ys ≡ w
   alike {x} {y} {xs} {ys} {left} {right} {w} b l r whole is so = equal_first (E x y) (pointwise E xs ys) w b is so (next l r whole)
 
   -- a list that goes on is not equal to one that has ended

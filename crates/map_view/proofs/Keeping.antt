@@ -8,7 +8,7 @@ use Rattle.std.specs.Ordering.{eq_by_cmp, is_eq}
 use Rattle.std.specs.Prelude.{All, option_map}
 use Rattle.versions.specs.Map.{Map, IsAntisymmetric, value_at}
 use Rattle.trie_shape.specs.Listings.{IsListing}
-use Rattle.stripes.specs.Rules.{AllKeep}
+use Rattle.stripe.specs.Rules.{AllKeep}
 
 -- where each value that is there holds, one that may be there does
 pub some_keeps : {V : Type 0} (P : V → Type 0) (o : Option V) → ((v : V) → o ≡ Some v → P v) → IfSome o P

@@ -6,7 +6,7 @@ use Rattle.bulk_work.specs.Answers as plain
 use Rattle.bulk_ops.specs.Meanings.{Means}
 use Rattle.bulk_work.specs.Summaries.{IsAnswered}
 use Rattle.bulk_work.specs.declared.asks.Answer.{Answer}
-use Rattle.stripes.specs.Rules.{AllKeep}
+use Rattle.stripe.specs.Rules.{AllKeep}
 use Rattle.versions.specs.Contents.{Contents}
 use Rattle.versions.specs.Map.{Map}
 
@@ -35,3 +35,7 @@ IsAnsweredOfKept {K} {V} R H answered to answer made = (m : Map K V) × AllKeep 
 -- the keys are equal, and so are the values
 abbrev pub same_pair : {K V : Type 0} → (K → K → Bool) → (V → V → Bool) → K × V → K × V → Bool
 same_pair E F x y = E x.0 y.0 && F x.1 y.1
+
+-- a pair as it lies in the rows of a map, without where its parts lie
+abbrev pub pair_of : {K V X Y : Type 0} → (X → K) → (Y → V) → X × Y → K × V
+pair_of key_of value_of x = (key_of x.0, value_of x.1)

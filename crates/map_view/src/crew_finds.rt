@@ -2,7 +2,7 @@
 ghost use Rattle.std.specs.Prelude.{◌≡◌, Bool, IfOk, IfSome, option_map};
 ghost use Rattle.std.specs.List.{list_all, list_any};
 ghost use Rattle.bulk_work.specs.Answers.{passes};
-ghost use Rattle.bulk_work.specs.Pairs.{pair_of};
+ghost use Rattle.map_view.specs.Questions.{pair_of};
 ghost use Rattle.bulk_ops.specs.Meanings.{MayAnswer, Means};
 ghost use Rattle.map_view.specs.Questions.{IsFound};
 
@@ -15,12 +15,21 @@ use std::sync::Wait;
 use std::thread::Threads;
 use stripes::Keeps;
 use task_pool::Crew;
-use trie_node::NoMemory;
+use trie_node::{NoMemory, Slots};
 
 /// Each is worked as `par_query` works a query: the closure runs on the threads of the crew, several at once. What is
 /// promised is what their like of one thread promises. None ends early for all threads: a thread that has found a pair in
 /// its piece of the view calls the closure no more for that piece.
-impl<K: PathKey + Drop + Send + Sync, V: Drop + Send + Sync, P: Keeps<K, V>> View<K, V, P> {
+impl<K: PathKey + Send + Sync, V: Send + Sync, P: Keeps<K, V>, S: Slots<K, V> + Send + Sync> View<
+    K,
+    V,
+    P,
+    S,
+>
+where
+    S::Key: Drop + Send + Sync,
+    S::Value: Drop + Send + Sync,
+{
     /// A pair that passes the test, if there is one, found by a crew. Which of several is returned is free. It keeps the
     /// rule.
     ///
@@ -30,13 +39,13 @@ impl<K: PathKey + Drop + Send + Sync, V: Drop + Send + Sync, P: Keeps<K, V>> Vie
         rt: &R,
         test: F,
         crew: Crew,
-    ) -> Result<Option<Pair<K, V>>, NoMemory>
+    ) -> Result<Option<Pair<K, V, S>>, NoMemory>
     where
         R: Threads + Wait + Sync,
         F: Fn(&K, &V) -> bool + Sync,
         requires callable { F.IsAlwaysCallable test }
-        ensures found { IfOk result (λ found. (p : K → V → Bool) → Means (MayAnswer F.Fn test) p → IsFound p self.now (option_map pair_of found)) }
-        ensures kept { IfOk result (λ found. IfSome found (λ pair. P.holds pair.0.value pair.1.value)) }
+        ensures found { IfOk result (λ found. (p : K → V → Bool) → Means (MayAnswer F.Fn test) p → IsFound p self.now (option_map (pair_of S.key_of S.value_of) found)) }
+        ensures kept { IfOk result (λ found. IfSome found (λ pair. P.holds (S.key_of pair.0) (S.value_of pair.1))) }
     {
         self.law();
         self.worked_by(rt, &Finds { test }, crew)

@@ -13,12 +13,21 @@ use std::sync::Wait;
 use std::thread::Threads;
 use stripes::Keeps;
 use task_pool::Crew;
-use trie_node::NoMemory;
+use trie_node::{NoMemory, Slots};
 use versions::Version;
 
 /// Each is worked as `par_query` works a query: the closures run on the threads of the crew, several at once. The closure
 /// that names the group of a pair may find no memory, as one that copies a text.
-impl<K: PathKey + Drop + Send + Sync, V: Drop + Send + Sync, P: Keeps<K, V>> View<K, V, P> {
+impl<K: PathKey + Send + Sync, V: Send + Sync, P: Keeps<K, V>, S: Slots<K, V> + Send + Sync> View<
+    K,
+    V,
+    P,
+    S,
+>
+where
+    S::Key: Drop + Send + Sync,
+    S::Value: Drop + Send + Sync,
+{
     /// How many pairs each group has, as `par_group_count`, where the group may need memory:
     /// `|_, user| user.team.clone()`.
     ///

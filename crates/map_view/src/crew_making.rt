@@ -14,17 +14,31 @@ use std::sync::Wait;
 use std::thread::Threads;
 use stripes::Keeps;
 use task_pool::Crew;
-use trie_node::NoMemory;
+use trie_node::{NoMemory, Slots, ValueSlots};
 use versions::Version;
 
 /// Each map is worked as `par_query` works a query: the closure runs on the threads of the crew, several at once. What is
 /// promised is what their like of one thread promises (`filter`, `map_values`).
-impl<K: PathKey + Drop + Send + Sync, V: Drop + Send + Sync, P: Keeps<K, V>> View<K, V, P> {
+impl<K: PathKey + Send + Sync, V: Send + Sync, P: Keeps<K, V>, S: Slots<K, V> + Send + Sync> View<
+    K,
+    V,
+    P,
+    S,
+>
+where
+    S::Key: Drop + Send + Sync,
+    S::Value: Drop + Send + Sync,
+{
     /// The map of the pairs that pass the test, made by a crew. It has one owner, and shares its keys and values with
     /// the view.
     ///
     /// Cost: O(n), shared out, no lock, and memory for the nodes of these pairs. Refused: `NoMemory`, if memory runs out.
-    pub fn par_filter<R, F>(&self, rt: &R, test: F, crew: Crew) -> Result<Version<K, V>, NoMemory>
+    pub fn par_filter<R, F>(
+        &self,
+        rt: &R,
+        test: F,
+        crew: Crew,
+    ) -> Result<Version<K, V, S>, NoMemory>
     where
         R: Threads + Wait + Sync,
         F: Fn(&K, &V) -> bool + Sync,
@@ -47,10 +61,12 @@ impl<K: PathKey + Drop + Send + Sync, V: Drop + Send + Sync, P: Keeps<K, V>> Vie
         rt: &R,
         change: G,
         crew: Crew,
-    ) -> Result<Version<K, W>, NoMemory>
+    ) -> Result<Version<K, W, S>, NoMemory>
     where
         R: Threads + Wait + Sync,
         W: Drop + Send + Sync,
+        S: Slots<K, W>,
+        <S as ValueSlots<W>>::Value: Drop + Send + Sync,
         G: Fn(&K, &V) -> W + Sync,
         requires callable { G.IsAlwaysCallable change }
         ensures entries { IfOk result (λ made. (f : K → V → W) → Means (MayAnswer G.Fn change) f → made.entries ≡ changed f self.now) }

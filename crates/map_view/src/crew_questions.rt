@@ -16,11 +16,20 @@ use std::thread::Threads;
 use stripes::Keeps;
 use task_pool::Crew;
 use top_pairs::{Ranked, TopPairs};
-use trie_node::NoMemory;
+use trie_node::{NoMemory, Slots};
 
 /// Each question is worked as `par_query` works a query: the closure runs on the threads of the crew, several at once.
 /// `par_count` and `par_fold` promise what their like of one thread does (`count`, `fold`).
-impl<K: PathKey + Drop + Send + Sync, V: Drop + Send + Sync, P: Keeps<K, V>> View<K, V, P> {
+impl<K: PathKey + Send + Sync, V: Send + Sync, P: Keeps<K, V>, S: Slots<K, V> + Send + Sync> View<
+    K,
+    V,
+    P,
+    S,
+>
+where
+    S::Key: Drop + Send + Sync,
+    S::Value: Drop + Send + Sync,
+{
     /// How many pairs pass the test, counted by a crew.
     ///
     /// Cost: O(n), shared out, no lock. Refused: `NoMemory`, if memory runs out.
@@ -82,19 +91,19 @@ impl<K: PathKey + Drop + Send + Sync, V: Drop + Send + Sync, P: Keeps<K, V>> Vie
     ///
     /// Cost: O(n log m) for m pairs that are listed, and O(m) for each that gets in, shared out, no lock. Refused:
     /// `NoMemory`, if memory runs out.
-    pub fn par_top<R, S, F>(
+    pub fn par_top<R, N, F>(
         &self,
         rt: &R,
         most: usize,
         score: F,
         crew: Crew,
-    ) -> Result<Ranked<K, V, S>, NoMemory>
+    ) -> Result<Ranked<K, V, N, S>, NoMemory>
     where
         R: Threads + Wait + Sync,
-        S: Ord + Copy + Send,
-        F: Fn(&K, &V) -> S + Sync,
+        N: Ord + Copy + Send,
+        F: Fn(&K, &V) -> N + Sync,
         requires callable { F.IsAlwaysCallable score }
-        ensures { IfOk result (λ listed. IsTop S.cmp most (MayAnswer F.Fn score) self.now listed) }
+        ensures { IfOk result (λ listed. IsTop N.cmp most (MayAnswer F.Fn score) self.now listed) }
     {
         self.worked_by(rt, &TopPairs { most, score }, crew)
     }

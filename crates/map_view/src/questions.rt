@@ -3,24 +3,27 @@ ghost use Rattle.std.specs.Prelude.{◌≡◌, ◌≤◌, Bool, IfOk, IfSome, le
 ghost use Rattle.std.specs.List.{list_all, list_any};
 ghost use Rattle.bulk_work.specs.Answers.{items_of, passes, passing};
 ghost use Rattle.bulk_ops.specs.Meanings.{MayAnswer, Means};
-ghost use Rattle.bulk_work.specs.Pairs.{pair_of};
+ghost use Rattle.map_view.specs.Questions.{pair_of};
 ghost use Rattle.combiner.specs.Monoids.{folded};
 ghost use Rattle.map_view.specs.Questions.{IsFound};
 
 use crate::view::View;
 use bulk_ops::law_of_folds;
 use bulk_work::Pair;
-use closure_ops::answer_at;
+use closure_ops::answer_in;
 use combiner::Monoid;
 use hash_path::PathKey;
-use std::sync::Arc;
 use stripes::Keeps;
-use trie_node::NoMemory;
+use trie_node::{NoMemory, Slots};
 
 /// Each question walks the view on the caller's thread, in the order of `pairs`, and takes no lock. A test is a closure
 /// on a pair, as `|key, lease| lease.port == 443`. What is promised is exact where the closure means something: where
 /// it has one answer for each pair, which it promises itself. No request is made for memory.
-impl<K: PathKey + Drop, V: Drop, P: Keeps<K, V>> View<K, V, P> {
+impl<K: PathKey, V, P: Keeps<K, V>, S: Slots<K, V>> View<K, V, P, S>
+where
+    S::Key: Drop,
+    S::Value: Drop,
+{
     /// How many pairs pass the test.
     ///
     /// Cost: O(n), no lock. Refused: never.
@@ -32,7 +35,7 @@ impl<K: PathKey + Drop, V: Drop, P: Keeps<K, V>> View<K, V, P> {
         self.len();
         let mut count = 0u64;
         for (key, value) in self.bunched() {
-            count += u64::from(answer_at(&test, key, value));
+            count += u64::from(answer_in::<K, V, S, _, _>(&test, key, value));
         }
         count
     }
@@ -45,7 +48,7 @@ impl<K: PathKey + Drop, V: Drop, P: Keeps<K, V>> View<K, V, P> {
         ensures { (p : K → V → Bool) → Means (MayAnswer F.Fn test) p → result ≡ list_any (passes p) self.now }
     {
         for (key, value) in self.bunched() {
-            if answer_at(&test, key, value) {
+            if answer_in::<K, V, S, _, _>(&test, key, value) {
                 return true;
             }
         }
@@ -60,7 +63,7 @@ impl<K: PathKey + Drop, V: Drop, P: Keeps<K, V>> View<K, V, P> {
         ensures { (p : K → V → Bool) → Means (MayAnswer F.Fn test) p → result ≡ list_all (passes p) self.now }
     {
         for (key, value) in self.bunched() {
-            if !answer_at(&test, key, value) {
+            if !answer_in::<K, V, S, _, _>(&test, key, value) {
                 return false;
             }
         }
@@ -70,14 +73,14 @@ impl<K: PathKey + Drop, V: Drop, P: Keeps<K, V>> View<K, V, P> {
     /// A pair that passes the test, if there is one: the first on a walk. It keeps the rule.
     ///
     /// Cost: O(n) at most, no lock. Refused: `NoMemory`, where a handle on the pair cannot be cloned.
-    pub fn find<F: Fn(&K, &V) -> bool>(&self, test: F) -> Result<Option<Pair<K, V>>, NoMemory>
+    pub fn find<F: Fn(&K, &V) -> bool>(&self, test: F) -> Result<Option<Pair<K, V, S>>, NoMemory>
         requires callable { F.IsAlwaysCallable test }
-        ensures found { IfOk result (λ found. (p : K → V → Bool) → Means (MayAnswer F.Fn test) p → IsFound p self.now (option_map pair_of found)) }
-        ensures kept { IfOk result (λ found. IfSome found (λ pair. P.holds pair.0.value pair.1.value)) }
+        ensures found { IfOk result (λ found. (p : K → V → Bool) → Means (MayAnswer F.Fn test) p → IsFound p self.now (option_map (pair_of S.key_of S.value_of) found)) }
+        ensures kept { IfOk result (λ found. IfSome found (λ pair. P.holds (S.key_of pair.0) (S.value_of pair.1))) }
     {
         for (key, value) in self.bunched() {
-            if answer_at(&test, key, value) {
-                return Ok(Some(shared_pair(key, value)?));
+            if answer_in::<K, V, S, _, _>(&test, key, value) {
+                return Ok(Some(shared_pair::<K, V, S>(key, value)?));
             }
         }
         Ok(None)
@@ -93,15 +96,21 @@ impl<K: PathKey + Drop, V: Drop, P: Keeps<K, V>> View<K, V, P> {
         law_of_folds::<K, V, M>();
         let mut all = monoid.unit();
         for (key, value) in self.bunched() {
-            all = monoid.op(&answer_at(&item, key, value), &all);
+            all = monoid.op(&answer_in::<K, V, S, _, _>(&item, key, value), &all);
         }
         all
     }
 }
 
 // Other handles on the key and the value.
-fn shared_pair<K: Drop, V: Drop>(key: &Arc<K>, value: &Arc<V>) -> Result<Pair<K, V>, NoMemory>
-    ensures { IfOk result (λ pair. pair_of pair ≡ (key.now.value, value.now.value)) }
+fn shared_pair<K, V, S: Slots<K, V>>(
+    key: &S::Key,
+    value: &S::Value,
+) -> Result<Pair<K, V, S>, NoMemory>
+where
+    S::Key: Drop,
+    S::Value: Drop,
+    ensures { IfOk result (λ pair. pair_of S.key_of S.value_of pair ≡ (S.key_of key.now, S.value_of value.now)) }
 {
-    Ok((Arc::try_clone(key)?, Arc::try_clone(value)?))
+    Ok((S::another_key(key)?, S::another_value(value)?))
 }

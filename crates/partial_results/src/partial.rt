@@ -7,12 +7,12 @@ ghost use Rattle.partial_results.specs.Worked.{Uncut};
 
 use crate::runs::{add_run, is_free};
 use crate::task::{OfView, Task};
-use combiner::Bulk;
+use combiner::BulkIn;
 use hash_path::PathKey;
 use iter::{Interval, parts_follow_intervals};
 use std::alloc::Global;
 use std::marker::{Brand, Model, PhantomData};
-use trie_node::NoMemory;
+use trie_node::{NoMemory, Slots};
 use versions::View;
 
 /// Names the operation of one call.
@@ -30,7 +30,14 @@ impl<B> OfBulk<B> for Brand {
 
 /// Intervals that were worked, and the part of their pairs. Contracts see the intervals.
 #[derive(Drop)]
-pub struct Partial<'a, C: OfView<K, V> + OfBulk<B>, K: PathKey, V, B: Bulk<K, V>> {
+pub struct Partial<
+    'a,
+    C: OfView<K, V> + OfBulk<B>,
+    K: PathKey,
+    V,
+    S: Slots<K, V>,
+    B: BulkIn<K, V, S>,
+> {
     bulk: &'a B,
     part: B::Part,
     worked: Vec<Interval>,
@@ -38,8 +45,8 @@ pub struct Partial<'a, C: OfView<K, V> + OfBulk<B>, K: PathKey, V, B: Bulk<K, V>
     call: PhantomData<(C, K, V)>,
 }
 
-impl<'a, C: OfView<K, V> + OfBulk<B>, K: PathKey, V, B: Bulk<K, V>> Model
-    for Partial<'a, C, K, V, B> {
+impl<'a, C: OfView<K, V> + OfBulk<B>, K: PathKey, V, S: Slots<K, V>, B: BulkIn<K, V, S>> Model
+    for Partial<'a, C, K, V, S, B> {
     ghost use Rattle.std.specs.Prelude.{List};
     ghost use Rattle.iter.specs.declared.interval.Interval.{Interval};
     ghost use Rattle.partial_results.specs.Worked.{IsPartial};
@@ -51,19 +58,24 @@ impl<'a, C: OfView<K, V> + OfBulk<B>, K: PathKey, V, B: Bulk<K, V>> Model
     ghost invariant = { λ t. IsPartial K.cmp K.path_of B.answers B.ready C.map C.grain C.bulk t.bulk.now t.part t.worked.items t.runs.items };
 }
 
-impl<'a, C: OfView<K, V> + OfBulk<B>, K: PathKey + Drop, V: Drop, B: Bulk<K, V>> Partial<
+impl<'a, C: OfView<K, V> + OfBulk<B>, K: PathKey, V, S: Slots<K, V>, B: BulkIn<K, V, S>> Partial<
     'a,
     C,
     K,
     V,
+    S,
     B,
-> {
+>
+where
+    S::Key: Drop,
+    S::Value: Drop,
+{
     /// Nothing is worked yet.
     pub fn new(
         alloc: Global,
-        view: &View<K, V>,
+        view: &View<K, V, S>,
         bulk: &'a B,
-    ) -> Result<Partial<'a, C, K, V, B>, NoMemory>
+    ) -> Result<Partial<'a, C, K, V, S, B>, NoMemory>
         requires view { view.now ≡ C.map }
         requires bulk { Some bulk.now ≡ C.bulk }
         requires ready { B.ready bulk.now }
@@ -82,7 +94,7 @@ impl<'a, C: OfView<K, V> + OfBulk<B>, K: PathKey + Drop, V: Drop, B: Bulk<K, V>>
     }
 
     /// Whether a piece shares no position with what was worked.
-    pub fn is_free(&self, task: &Task<C, K, V>) -> bool
+    pub fn is_free(&self, task: &Task<C, K, V, S>) -> bool
         ensures { OnTrue result (AreApart (self.now ++ task.now ∷ [])) }
     {
         let interval = Interval {
@@ -96,8 +108,8 @@ impl<'a, C: OfView<K, V> + OfBulk<B>, K: PathKey + Drop, V: Drop, B: Bulk<K, V>>
     pub fn work(
         self,
         alloc: Global,
-        task: Task<C, K, V>,
-    ) -> Result<Partial<'a, C, K, V, B>, NoMemory>
+        task: Task<C, K, V, S>,
+    ) -> Result<Partial<'a, C, K, V, S, B>, NoMemory>
         requires apart { AreApart (self ++ task ∷ []) }
         requires uncut { cut_point K.path_of C.map task C.grain ≡ None }
         ensures { IfOk result (λ partial. partial ≡ self.entry ++ task ∷ []) }
@@ -141,8 +153,8 @@ impl<'a, C: OfView<K, V> + OfBulk<B>, K: PathKey + Drop, V: Drop, B: Bulk<K, V>>
     pub fn merge(
         self,
         alloc: Global,
-        other: Partial<'a, C, K, V, B>,
-    ) -> Result<Partial<'a, C, K, V, B>, NoMemory>
+        other: Partial<'a, C, K, V, S, B>,
+    ) -> Result<Partial<'a, C, K, V, S, B>, NoMemory>
         requires { AreApart (self ++ other) }
         ensures { IfOk result (λ partial. partial ≡ self.entry ++ other.entry) }
     {
@@ -194,7 +206,7 @@ impl<'a, C: OfView<K, V> + OfBulk<B>, K: PathKey + Drop, V: Drop, B: Bulk<K, V>>
     }
 
     /// The part, where it is settled: it answers the whole map then.
-    pub fn settled_part(self) -> Result<B::Part, Partial<'a, C, K, V, B>>
+    pub fn settled_part(self) -> Result<B::Part, Partial<'a, C, K, V, S, B>>
         ensures ok { IfOk result (λ part. (bulk : B) → Some bulk ≡ C.bulk → B.answers bulk C.map part × B.decides bulk (parts K.path_of C.map self.entry) × B.decides bulk C.map) }
         ensures err { IfErr result (λ partial. partial ≡ self.entry) }
     {

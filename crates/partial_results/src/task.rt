@@ -5,13 +5,13 @@ ghost use Rattle.hash_path.specs.Digits.{word_bits};
 ghost use Rattle.iter.specs.Intervals.{part};
 ghost use Rattle.partial_results.specs.Halves.{IsHalved};
 
-use bulk_work::work_into;
-use combiner::Bulk;
+use bulk_work::grow_in;
+use combiner::BulkIn;
 use hash_path::{Bound, PathKey};
 use splitter::{Cut, Piece, cut};
 use std::alloc::Global;
 use std::marker::{Brand, Model, PhantomData};
-use trie_node::NoMemory;
+use trie_node::{NoMemory, Slots};
 
 /// Names the map of one call, and the grain to which its pieces are cut.
 pub trait OfView<K, V> {
@@ -33,12 +33,12 @@ impl<K, V> OfView<K, V> for Brand {
 
 /// A piece of the call's view. Contracts see its interval.
 #[derive(Drop)]
-pub struct Task<C: OfView<K, V>, K: PathKey, V> {
-    piece: Piece<K, V>,
+pub struct Task<C: OfView<K, V>, K: PathKey, V, S: Slots<K, V>> {
+    piece: Piece<K, V, S>,
     call: PhantomData<C>,
 }
 
-impl<C: OfView<K, V>, K: PathKey, V> Model for Task<C, K, V> {
+impl<C: OfView<K, V>, K: PathKey, V, S: Slots<K, V>> Model for Task<C, K, V, S> {
     ghost use Rattle.std.specs.Prelude.{◌≡◌};
     ghost use Rattle.iter.specs.declared.interval.Interval.{Interval};
 
@@ -49,9 +49,13 @@ impl<C: OfView<K, V>, K: PathKey, V> Model for Task<C, K, V> {
     ghost invariant = { λ t. t.piece.map ≡ C.map };
 }
 
-impl<C: OfView<K, V>, K: PathKey + Drop, V: Drop> Task<C, K, V> {
+impl<C: OfView<K, V>, K: PathKey, V, S: Slots<K, V>> Task<C, K, V, S>
+where
+    S::Key: Drop,
+    S::Value: Drop,
+{
     /// The piece, which is of the call's view.
-    pub fn new(piece: Piece<K, V>) -> Task<C, K, V>
+    pub fn new(piece: Piece<K, V, S>) -> Task<C, K, V, S>
         requires { piece.map ≡ C.map }
         ensures { result ≡ piece.interval }
     {
@@ -78,7 +82,10 @@ impl<C: OfView<K, V>, K: PathKey + Drop, V: Drop> Task<C, K, V> {
     }
 
     /// The lower half and the upper one, where it has a cut point. Where memory runs out, the piece is returned.
-    pub fn halves(self, grain: u64) -> Result<(Task<C, K, V>, Option<Task<C, K, V>>), Task<C, K, V>>
+    pub fn halves(
+        self,
+        grain: u64,
+    ) -> Result<(Task<C, K, V, S>, Option<Task<C, K, V, S>>), Task<C, K, V, S>>
         requires { grain ≡ C.grain }
         ensures { MatchResult result (λ two. IsHalved K.path_of C.map C.grain self two.0 two.1) (λ back. back ≡ self) }
     {
@@ -91,7 +98,7 @@ impl<C: OfView<K, V>, K: PathKey + Drop, V: Drop> Task<C, K, V> {
     }
 
     /// The part of its pairs and of those that `begun` is of, which have none of their keys.
-    pub fn work_into<B: Bulk<K, V>>(
+    pub fn work_into<B: BulkIn<K, V, S>>(
         &self,
         alloc: Global,
         bulk: &B,
@@ -101,6 +108,6 @@ impl<C: OfView<K, V>, K: PathKey + Drop, V: Drop> Task<C, K, V> {
         requires apart { CanJoinMap K.cmp (B.answers bulk.now) begun (part K.path_of C.map self.now) }
         ensures { IfOk result (λ made. IsJoinedMap K.cmp (B.answers bulk.now) begun (part K.path_of C.map self.now) made) }
     {
-        work_into(alloc, &self.piece, bulk, begun)
+        grow_in(alloc, &self.piece, bulk, begun)
     }
 }

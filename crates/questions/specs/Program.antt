@@ -1,9 +1,11 @@
 -- The machine of a program of scripts, and the replies that show its outcomes.
-use Rattle.std.specs.Prelude.{ℕ, ℤ, Bool, true, false, List, length, Option, Some, None}
+use Rattle.std.specs.Prelude.{◌≡◌, refl, ℕ, ℤ, Bool, true, false, List, length, Option, Some, None}
 use Rattle.std.specs.Ordering.{int_eq}
 use Rattle.versions.specs.Commands.{Command, get, put, put_if_absent, replace, replace_if, remove, remove_if, size, clear, old, done, cleared}
 use Rattle.versions.specs.Commands as commands
+use Rattle.versions.specs.declared.version.TheConstants.{MOST_PAIRS}
 use Rattle.handles.specs.declared.limits.Limits.{Limits}
+use Rattle.handles.specs.declared.limits.TheConstants.{MOST_ENTRIES}
 use Rattle.handles.specs.Machine.{Kind, State, Request, open_handle, snapshot, drop_handle, on, view, freeze, Outcome, made, replied, viewed, finished, refused}
 use Rattle.handles.specs.Views.{machine}
 use Rattle.bulk_work.specs.Answers as plain
@@ -41,7 +43,7 @@ ProgramOutcome = Outcome (List ℕ) ℤ ProgramSummary
 
 -- how much the maps and the journal of a program may hold
 abbrev pub largest : Limits
-largest = record { pairs = 16777216; entries = 1048576 }
+largest = record { pairs = MOST_PAIRS; entries = MOST_ENTRIES }
 
 -- the reply that shows an answer: of a map that was made, its number of pairs
 abbrev pub summary_reply : ProgramSummary → LineReply
@@ -104,6 +106,18 @@ command_statement h (remove_if k v) = RemoveIf h k v
 command_statement h size = Size h
 command_statement h clear = Clear h
 
+-- its request is the command
+pub request_of_command : (h : ℕ) (c : Command (List ℕ) ℤ) → request_for (command_statement h c) ≡ on h c
+request_of_command h (get k) = refl
+request_of_command h (put k v) = refl
+request_of_command h (put_if_absent k v) = refl
+request_of_command h (replace k v) = refl
+request_of_command h (replace_if k was v) = refl
+request_of_command h (remove k) = refl
+request_of_command h (remove_if k v) = refl
+request_of_command h size = refl
+request_of_command h clear = refl
+
 -- the statement of a script that asks the question
 abbrev pub question_statement : ℕ → ScriptQuestion → Statement
 question_statement h (count test) = Count h test
@@ -114,6 +128,17 @@ question_statement h (filtered test to) = Filter h test to
 question_statement h (mapped mapping to) = MapValues h mapping to
 question_statement h (paired mapping to) = MapPairs h mapping to
 question_statement h (fold folding) = Fold h folding
+
+-- its request is a freeze with the question
+pub request_of_question : (h : ℕ) (q : ScriptQuestion) → request_for (question_statement h q) ≡ freeze h q
+request_of_question h (count test) = refl
+request_of_question h (exists test) = refl
+request_of_question h (for_all test) = refl
+request_of_question h (find test) = refl
+request_of_question h (filtered test to) = refl
+request_of_question h (mapped mapping to) = refl
+request_of_question h (paired mapping to) = refl
+request_of_question h (fold folding) = refl
 
 -- the handle, the key and the value of a getorelse
 abbrev pub or_else_in : Statement → Option (ℕ × List ℕ × ℤ)

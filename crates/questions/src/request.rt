@@ -1,9 +1,9 @@
 //! What statements ask of the map.
 
-ghost use Rattle.std.specs.Prelude.{◌≡◌, IfOk, None};
+ghost use Rattle.std.specs.Prelude.{◌≡◌, IfOk, None, true};
 ghost use Rattle.std.specs.Arc.{arc_value};
 ghost use Rattle.questions.specs.Program.{request_for};
-ghost use Rattle.handles.specs.Machine.{freeze, job_of, on};
+ghost use Rattle.handles.specs.Machine.{freeze, is_freeze, job_of, on};
 ghost use Rattle.handles.specs.Views.{asked_of, command_of};
 
 use crate::query::ScriptQuery;
@@ -34,8 +34,10 @@ pub fn request_of(alloc: Global, statement: &Statement) -> Result<ScriptRequest,
             on(handle, Command::Put(key.text()?, held(alloc, value)?))
         }
         Statement::PutIfAbsent { handle, key, value } => {
-            let value = held(alloc, value)?;
-            on(handle, Command::PutIfAbsent(key.text()?, value))
+            on(
+                handle,
+                Command::PutIfAbsent(key.text()?, held(alloc, value)?),
+            )
         }
         Statement::Replace { handle, key, value } => {
             on(handle, Command::Replace(key.text()?, held(alloc, value)?))
@@ -56,25 +58,31 @@ pub fn request_of(alloc: Global, statement: &Statement) -> Result<ScriptRequest,
         Statement::Size { handle } => on(handle, Command::Size),
         Statement::Clear { handle } => on(handle, Command::Clear),
         Statement::Pairs { handle } => Request::View(*handle),
-        Statement::Count { handle, test } => job(alloc, handle, ScriptQuery::count(test)?)?,
-        Statement::Exists { handle, test } => job(alloc, handle, ScriptQuery::exists(test)?)?,
-        Statement::ForAll { handle, test } => job(alloc, handle, ScriptQuery::for_all(test)?)?,
-        Statement::Find { handle, test } => job(alloc, handle, ScriptQuery::find(test)?)?,
-        Statement::Filter { handle, test, to } => job(
-            alloc,
-            handle,
-            ScriptQuery::filter(test, *to)?,
-        )?,
-        Statement::MapValues { handle, map, to } => job(
-            alloc,
-            handle,
-            ScriptQuery::map(*map, *to),
-        )?,
-        Statement::MapPairs { handle, map, to } => {
-            job(alloc, handle, ScriptQuery::map_pairs(alloc, map, *to)?)?
-        }
-        Statement::Fold { handle, folding } => job(alloc, handle, ScriptQuery::fold(*folding))?,
+        _ => job_for(alloc, statement)?,
     })
+}
+
+/// The job of the statement, whose verb is a bulk verb.
+fn job_for(alloc: Global, statement: &Statement) -> Result<ScriptRequest, AllocError>
+    requires { is_freeze (request_for statement.now) ≡ true }
+    ensures request { IfOk result (λ request. asked_of request ≡ request_for statement.now) }
+    ensures no_job { IfOk result (λ request. job_of (asked_of request) ≡ None) }
+{
+    match statement {
+        Statement::Count { handle, test } => job(alloc, handle, ScriptQuery::count(test)?),
+        Statement::Exists { handle, test } => job(alloc, handle, ScriptQuery::exists(test)?),
+        Statement::ForAll { handle, test } => job(alloc, handle, ScriptQuery::for_all(test)?),
+        Statement::Find { handle, test } => job(alloc, handle, ScriptQuery::find(test)?),
+        Statement::Filter { handle, test, to } => {
+            job(alloc, handle, ScriptQuery::filter(test, *to)?)
+        }
+        Statement::MapValues { handle, map, to } => job(alloc, handle, ScriptQuery::map(*map, *to)),
+        Statement::MapPairs { handle, map, to } => {
+            job(alloc, handle, ScriptQuery::map_pairs(alloc, map, *to)?)
+        }
+        Statement::Fold { handle, folding } => job(alloc, handle, ScriptQuery::fold(*folding)),
+        _ => unreachable!(),
+    }
 }
 
 /// The command on the handle.

@@ -21,6 +21,7 @@ mod statement;
 
 pub use fault::{Reason, ScriptFault};
 pub use laws::{spelled_text_has_no_fault, text_has_one_fault, text_has_one_script};
+pub use limits::MOST_CLIENTS;
 pub use listing::Listing;
 pub use parse::{Script, parse_script, statement_in};
 pub use reply::{LineReply, push_line, push_reply};

@@ -1,6 +1,8 @@
 use crate::{Seed, SeededText};
 use hash_path::{Path, PathKey, Sought};
 use keys::ByteText;
+use slots::Inline;
+use std::alloc::AllocError;
 use std::cmp::Ordering;
 use std::sync::Arc;
 use std::test::Fail;
@@ -114,5 +116,20 @@ fn seeds_are_drawn(rt: HostRuntime) -> Result<(), Fail> {
     assert!(rt; alice == seed.key(alloc, "alice")?);
     assert!(rt; alice != Seed::random(&rt)?.key(alloc, "alice")?);
     assert_eq!(rt; format!(in alloc; "{seed:?}")?.as_str(), "Seed { .. }");
+    Ok(())
+}
+
+/// Another of what lies in a row, by the bound alone.
+fn twin<T: Inline>(value: &T) -> Result<T, AllocError> {
+    value.another()
+}
+
+/// A key lies in a row of a trie with its word.
+#[test]
+fn keys_lie_in_rows(rt: HostRuntime) -> Result<(), Fail> {
+    let alice = Seed::new(0, 0).key(rt.alloc(), "alice")?;
+    let same = twin(&alice)?;
+    assert!(rt; same == alice);
+    assert_eq!(rt; same.path(), Path(0x11af_1c34_7e79_d641));
     Ok(())
 }

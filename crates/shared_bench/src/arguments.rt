@@ -4,7 +4,7 @@ use bench_kit::{Fault, MOST_PAIRS_OF_A_BENCHMARK, number};
 
 /// How the program is called.
 const USAGE: &str =
-    "shared_bench [mixed PAIRS ROUNDS | one_key PAIRS ROUNDS | views PAIRS | locked PAIRS ROUNDS | crew PAIRS WORKERS | puts PAIRS], PAIRS from 1 to 10000000, ROUNDS from 1, WORKERS from 0 to 16";
+    "shared_bench [rows | handles] [mixed PAIRS ROUNDS | one_key PAIRS ROUNDS | views PAIRS | locked PAIRS ROUNDS | crew PAIRS WORKERS | puts PAIRS], PAIRS from 1 to 10000000, ROUNDS from 1, WORKERS from 0 to 16";
 
 /// The most workers of a crew.
 const MOST_WORKERS: u32 = 16;

@@ -1,120 +1,113 @@
 //! The time that a crew takes for each question.
 
-use crate::maps::filled;
-use bench_kit::{
-    Coarser, Fault, Question, Times, count, exists, filter, fold_sum, map_pairs, map_values,
-};
-use combiner::Bulk;
+use crate::maps::{Map, MapView, filled};
+use crate::questions::{Question, ask, number_in};
+use bench_kit::{Fault, Times, show_checksum, show_figure};
+use keys::ByteText;
+use slots::Slots;
 use std::rt::Runtime;
 use std::sync::Wait;
 use std::thread::Threads;
-use std::time::{Clock, Instant};
-use trie_map::{Answer, ByteText, Crew, Version, View};
+use std::time::Instant;
 
 /// How often each question is asked.
 const ROUNDS: u32 = 15;
 
 /// Asks each question of a view of a map of `pairs` pairs.
-pub fn ask_all<R: Runtime + AllocGlobal + Threads + Wait + Sync>(
-    rt: &R,
-    pairs: u32,
-    workers: u32,
-) -> Result<(), Fault> {
-    let map = filled(rt, pairs)?;
+pub fn ask_all<
+    S: Slots<ByteText, i64> + Send + Sync,
+    R: Runtime + AllocGlobal + Threads + Wait + Sync,
+>(rt: &R, pairs: u32, workers: u32) -> Result<(), Fault>
+where
+    S::Key: Drop + Send + Sync,
+    S::Value: Drop + Send + Sync,
+{
+    let map = filled::<S, R>(rt, pairs)?;
+    let done = ask_all_of(rt, &map, pairs, workers);
+    drop(map);
+    done
+}
+
+/// The same of this map.
+fn ask_all_of<
+    S: Slots<ByteText, i64> + Send + Sync,
+    R: Runtime + AllocGlobal + Threads + Wait + Sync,
+>(rt: &R, map: &Map<S>, pairs: u32, workers: u32) -> Result<(), Fault>
+where
+    S::Key: Drop + Send + Sync,
+    S::Value: Drop + Send + Sync,
+{
     let view = map.view(rt)?;
-    let half = i64::from(pairs / 2);
-    ask_for_numbers(rt, workers, &view, half)?;
-    ask_for_maps(rt, workers, &view, half)
+    let done = ask_each(rt, workers, &view, i64::from(pairs / 2));
+    drop(view);
+    done
 }
 
-/// Asks each question whose answer is a number or a truth.
-fn ask_for_numbers<R: Runtime + AllocGlobal + Threads + Wait + Sync>(
-    rt: &R,
-    workers: u32,
-    view: &View<ByteText, i64>,
-    half: i64,
-) -> Result<(), Fault> {
-    ask_one(rt, workers, "crew_count", view, count(half))?;
-    ask_one(rt, workers, "crew_exists_absent", view, exists(0))?;
-    ask_one(rt, workers, "crew_fold_sum", view, fold_sum())
+/// Asks each question of this view.
+fn ask_each<
+    S: Slots<ByteText, i64> + Send + Sync,
+    R: Runtime + AllocGlobal + Threads + Wait + Sync,
+>(rt: &R, workers: u32, view: &MapView<S>, half: i64) -> Result<(), Fault>
+where
+    S::Key: Drop + Send + Sync,
+    S::Value: Drop + Send + Sync,
+{
+    ask_one(rt, workers, "crew_count", view, Question::Count(half))?;
+    ask_one(rt, workers, "crew_exists_absent", view, Question::Absent)?;
+    ask_one(rt, workers, "crew_fold_sum", view, Question::Total)?;
+    ask_one(rt, workers, "crew_filter", view, Question::Filter(half))?;
+    ask_one(rt, workers, "crew_map_values", view, Question::OneValue)?;
+    ask_one(rt, workers, "crew_map_pairs", view, Question::Coarser)
 }
 
-/// Asks each question whose answer is a map.
-fn ask_for_maps<R: Runtime + AllocGlobal + Threads + Wait + Sync>(
-    rt: &R,
-    workers: u32,
-    view: &View<ByteText, i64>,
-    half: i64,
-) -> Result<(), Fault> {
-    ask_one(rt, workers, "crew_filter", view, filter(half))?;
-    ask_one(rt, workers, "crew_map_values", view, map_values(1))?;
-    ask_one(rt, workers, "crew_map_pairs", view, map_pairs(rt.alloc()))
-}
-
-/// Asks one question of the view.
-fn ask_one<R: Runtime + AllocGlobal + Threads + Wait + Sync>(
+/// Asks one question in each round, and prints the median of the times and the number of the answer.
+fn ask_one<S: Slots<ByteText, i64> + Send + Sync, R: Runtime + AllocGlobal + Threads + Wait + Sync>(
     rt: &R,
     workers: u32,
     name: &str,
-    view: &View<ByteText, i64>,
-    question: Question<ByteText, Coarser>,
+    view: &MapView<S>,
+    question: Question,
 ) -> Result<(), Fault>
-    requires { ⟦<Question<ByteText, Coarser> as Bulk<ByteText, i64>>⟧.ready question }
+where
+    S::Key: Drop + Send + Sync,
+    S::Value: Drop + Send + Sync,
 {
     let mut times = Times::new(rt.alloc());
-    let mut checksum = 0;
-    for _ in 0..ROUNDS {
-        checksum = one_round(rt, workers, view, &question, &mut times)?;
+    match time_each(rt, workers, view, question, &mut times) {
+        Ok(checksum) => {
+            let median = times.spread()?.median;
+            show_figure(rt, name, workers, u128::from(median))?;
+            show_checksum(rt, name, checksum)
+        }
+        Err(fault) => {
+            drop(times);
+            Err(fault)
+        }
     }
-    let median = times.spread()?.median;
-    rt.eprintln(format_args!("tambyulo {name} {workers} {median}"))?;
-    rt.println(format_args!("{name} {checksum}"))?;
-    Ok(())
 }
 
-/// Asks it once, counts the time, and gives a number for the answer, which is dropped after.
-fn one_round<R: Clock + Threads + Wait + Sync>(
+/// Asks it in each round, counts the times, and returns the number of the answer, which is dropped once its time is counted.
+fn time_each<
+    S: Slots<ByteText, i64> + Send + Sync,
+    R: Runtime + AllocGlobal + Threads + Wait + Sync,
+>(
     rt: &R,
     workers: u32,
-    view: &View<ByteText, i64>,
-    question: &Question<ByteText, Coarser>,
+    view: &MapView<S>,
+    question: Question,
     times: &mut Times,
 ) -> Result<i128, Fault>
-    requires { ⟦<Question<ByteText, Coarser> as Bulk<ByteText, i64>>⟧.ready question.now }
+where
+    S::Key: Drop + Send + Sync,
+    S::Value: Drop + Send + Sync,
 {
-    let start = Instant::now(rt)?;
-    let reply = ask(rt, view, question, workers)?;
-    times.count(start.elapsed(rt)?)?;
-    Ok(number_in(&reply))
-}
-
-/// The answer for a whole view, and the map that was made where the question makes one.
-type Reply = (Answer<ByteText, i64, i128>, Option<Version<ByteText, i64>>);
-
-/// The answer for all pairs of the view, by a crew of `workers` workers, or by the caller alone where there are none.
-fn ask<R: Threads + Wait + Sync>(
-    rt: &R,
-    view: &View<ByteText, i64>,
-    question: &Question<ByteText, Coarser>,
-    workers: u32,
-) -> Result<Reply, Fault>
-    requires { ⟦<Question<ByteText, Coarser> as Bulk<ByteText, i64>>⟧.ready question.now }
-{
-    if workers == 0 {
-        Ok(view.query(question)?)
-    } else {
-        Ok(view.par_query(rt, question, Crew::of(workers))?)
+    let mut checksum = 0;
+    for _ in 0..ROUNDS {
+        let start = Instant::now(rt)?;
+        let answer = ask(rt, view, question, workers)?;
+        let time = start.elapsed(rt);
+        checksum = number_in(answer);
+        times.count(time?)?;
     }
-}
-
-/// A number for the answer: itself, a truth as 0 or 1, the size of a map.
-fn number_in(reply: &Reply) -> i128 {
-    match &reply.0 {
-        Answer::Count(count) => i128::from(*count),
-        Answer::Truth(truth) => i128::from(*truth),
-        Answer::Found(found) => i128::from(found.is_some()),
-        Answer::Made(count) => i128::from(*count),
-        Answer::Images(map) => i128::from(map.len()),
-        Answer::Item(item) => *item,
-    }
+    Ok(checksum)
 }

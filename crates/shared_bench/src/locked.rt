@@ -1,7 +1,7 @@
 //! The same calls on a table, and on the map that files each call in a journal under its lock, with their checksums.
-ghost use Rattle.std.specs.Prelude.{⊤};
+ghost use Rattle.std.specs.Prelude.{◌≡◌, ⊤, vec_len};
 
-use crate::calls::{MapCall, filling, load, value_in};
+use crate::calls::{MapCall, filling, load, value_of};
 use bench_kit::{Best, Fault};
 use handles::{Limits, MOST_ENTRIES, NoQuery, Table};
 use keys::ByteText;
@@ -57,22 +57,34 @@ pub fn locked_calls<R: Runtime + AllocGlobal + Threads + Wait + Sync>(
 
 /// One round on a table.
 fn table_round<R: Runtime + AllocGlobal>(rt: &R, keys: &[Arc<ByteText>]) -> Result<Round, Fault> {
-    let alloc = rt.alloc();
-    let mut table = filled_table(alloc, keys)?;
-    let calls = load(alloc, keys, CALLS)?;
-    let start = Instant::now(rt)?;
-    let sum = serve_all(alloc, &mut table, calls)?;
-    Ok(Round {
-        time: start.elapsed(rt)?,
-        sum,
-    })
+    let mut table = Table::new(rt.alloc(), LIMITS)?;
+    let round = round_on(rt, &mut table, keys);
+    drop(table);
+    round
 }
 
-/// A table whose map has each key with its number.
-fn filled_table(alloc: Global, keys: &[Arc<ByteText>]) -> Result<Table<ByteText, i64>, Fault> {
-    let mut table = Table::new(alloc, LIMITS)?;
-    serve_all(alloc, &mut table, filling(alloc, keys)?)?;
-    Ok(table)
+/// One round on this table, whose map gets each key with its number first.
+fn round_on<R: Runtime + AllocGlobal>(
+    rt: &R,
+    table: &mut Table<ByteText, i64>,
+    keys: &[Arc<ByteText>],
+) -> Result<Round, Fault> {
+    let alloc = rt.alloc();
+    serve_all(alloc, table, filling(alloc, keys)?)?;
+    let calls = load(alloc, keys, CALLS)?;
+    match Instant::now(rt) {
+        Ok(start) => {
+            let sum = serve_all(alloc, table, calls)?;
+            Ok(Round {
+                time: start.elapsed(rt)?,
+                sum,
+            })
+        }
+        Err(error) => {
+            drop(calls);
+            Err(Fault::from(error))
+        }
+    }
 }
 
 /// Makes the calls on a table, and returns the sum of the values that they returned.
@@ -83,7 +95,7 @@ fn serve_all(
 ) -> Result<i64, Fault> {
     let mut sum = 0i64;
     for call in calls {
-        sum = sum.wrapping_add(value_in(&table.serve(alloc, call)?));
+        sum = sum.wrapping_add(value_of(table.serve(alloc, call)?));
     }
     Ok(sum)
 }
@@ -96,7 +108,18 @@ fn shared_round<R: Runtime + AllocGlobal + Threads + Wait + Sync>(
     let alloc = rt.alloc();
     let mut clients = Vec::new(alloc);
     clients.push(Caller { clock: rt, keys })?;
-    let (mut rounds, _) = with_clients(rt, alloc, LIMITS, clients)?;
+    let Ok(served) = with_clients(rt, alloc, LIMITS, clients) else {
+        return Err(Fault::NoJournal);
+    };
+    let (rounds, closed) = served;
+    drop(closed);
+    the_round(rounds)
+}
+
+/// The round of the one client.
+fn the_round(mut rounds: Vec<Result<Round, Fault>>) -> Result<Round, Fault>
+    requires { vec_len rounds ≡ 1 }
+{
     match rounds.pop() {
         Some(round) => round,
         None => unreachable!(),
@@ -127,12 +150,19 @@ impl<C: Clock> Client<ByteText, i64, NoQuery> for Caller<'_, C> {
         let Caller { clock, keys } = self;
         call_all(rt, map, seat, filling(alloc, keys)?)?;
         let calls = load(alloc, keys, CALLS)?;
-        let start = Instant::now(clock)?;
-        let sum = call_all(rt, map, seat, calls)?;
-        Ok(Round {
-            time: start.elapsed(clock)?,
-            sum,
-        })
+        match Instant::now(clock) {
+            Ok(start) => {
+                let sum = call_all(rt, map, seat, calls)?;
+                Ok(Round {
+                    time: start.elapsed(clock)?,
+                    sum,
+                })
+            }
+            Err(error) => {
+                drop(calls);
+                Err(Fault::from(error))
+            }
+        }
     }
 }
 
@@ -145,7 +175,7 @@ fn call_all<J: JournalName, R: Wait>(
 ) -> Result<i64, Fault> {
     let mut sum = 0i64;
     for call in calls {
-        sum = sum.wrapping_add(value_in(&map.call(rt, seat, call)?));
+        sum = sum.wrapping_add(value_of(map.call(rt, seat, call)?));
     }
     Ok(sum)
 }

@@ -14,6 +14,8 @@
 //! - `puts PAIRS`: 500,000 puts, first alone and then while a crew of four counts all pairs again and again.
 //!
 //! With no words it does them all: over 1,000 pairs in one round, and the last two over 10,000 pairs with a crew of four.
+//! Keys and values lie in the rows of the map. With the word `handles` in front they lie behind handles, as those of
+//! `locked` always do.
 //!
 //! A line a measurement goes to standard error, `tambyulo NAME THREADS NANOSECONDS`: the best of the rounds, but the
 //! median where `views`, `crew` and `puts` have one, whose threads are then the crew's workers. A checksum of each goes
@@ -28,6 +30,7 @@ mod maps;
 mod mixed;
 mod one_key;
 mod puts;
+mod questions;
 mod reads;
 mod run;
 mod views;

@@ -1,9 +1,10 @@
 //! Calls of several threads on one map, with their checksums: nine gets for each put.
 
 use crate::arguments::Load;
-use crate::maps::{Map, filled};
+use crate::maps::{Map, filled, number_of, put, sum_of};
 use bench_kit::{Best, Fault, copied, plain_text_keys};
 use keys::ByteText;
+use slots::Slots;
 use std::alloc::Global;
 use std::rt::Runtime;
 use std::sync::Wait;
@@ -20,36 +21,74 @@ pub const CALLS_OF_A_PUT: u32 = 10;
 /// How a key's value is read.
 #[derive(Clone, Copy)]
 pub enum Reads {
-    /// By `get`, which clones a handle on it.
+    /// By `get`, which returns another of the value: with handles, another handle.
     Got,
     /// By `get_copied`, which copies it under the lock, as dashmap's guard lets a caller do.
     Copied,
 }
 
 /// Times the calls by one, two and four threads, which read by `get`, and then by `get_copied`.
-pub fn mixed<R: Runtime + AllocGlobal + Threads + Wait + Sync>(
-    rt: &R,
-    load: Load,
-) -> Result<(), Fault> {
+pub fn mixed<
+    S: Slots<ByteText, i64> + Send + Sync,
+    R: Runtime + AllocGlobal + Threads + Wait + Sync,
+>(rt: &R, load: Load) -> Result<(), Fault>
+where
+    S::Key: Drop + Send + Sync,
+    S::Value: Drop + Send + Sync,
+{
     let keys = plain_text_keys(rt.alloc(), load.pairs)?;
-    let map = filled(rt, load.pairs)?;
-    for reads in [Reads::Got, Reads::Copied] {
-        calls_by(rt, &map, keys.as_slice(), load.rounds, 1, reads)?;
-        calls_by(rt, &map, keys.as_slice(), load.rounds, 2, reads)?;
-        calls_by(rt, &map, keys.as_slice(), load.rounds, 4, reads)?;
-    }
-    Ok(())
+    let done = mixed_at::<S, R>(rt, load, keys.as_slice());
+    drop(keys);
+    done
+}
+
+/// The same at these keys, of a map that is filled with them.
+fn mixed_at<
+    S: Slots<ByteText, i64> + Send + Sync,
+    R: Runtime + AllocGlobal + Threads + Wait + Sync,
+>(rt: &R, load: Load, keys: &[ByteText]) -> Result<(), Fault>
+where
+    S::Key: Drop + Send + Sync,
+    S::Value: Drop + Send + Sync,
+{
+    let map = filled::<S, R>(rt, load.pairs)?;
+    let got = calls_by_more(rt, &map, keys, load.rounds, Reads::Got);
+    let copied = calls_by_more(rt, &map, keys, load.rounds, Reads::Copied);
+    drop(map);
+    got?;
+    copied
+}
+
+/// The calls by one, two and four threads.
+fn calls_by_more<
+    S: Slots<ByteText, i64> + Send + Sync,
+    R: Runtime + AllocGlobal + Threads + Wait + Sync,
+>(rt: &R, map: &Map<S>, keys: &[ByteText], rounds: u32, reads: Reads) -> Result<(), Fault>
+where
+    S::Key: Drop + Send + Sync,
+    S::Value: Drop + Send + Sync,
+{
+    calls_by(rt, map, keys, rounds, 1, reads)?;
+    calls_by(rt, map, keys, rounds, 2, reads)?;
+    calls_by(rt, map, keys, rounds, 4, reads)
 }
 
 /// The same by `threads` threads.
-fn calls_by<R: Runtime + AllocGlobal + Threads + Wait + Sync>(
+fn calls_by<
+    S: Slots<ByteText, i64> + Send + Sync,
+    R: Runtime + AllocGlobal + Threads + Wait + Sync,
+>(
     rt: &R,
-    map: &Map,
+    map: &Map<S>,
     keys: &[ByteText],
     rounds: u32,
     threads: u32,
     reads: Reads,
-) -> Result<(), Fault> {
+) -> Result<(), Fault>
+where
+    S::Key: Drop + Send + Sync,
+    S::Value: Drop + Send + Sync,
+{
     let mut best = Best::new();
     let mut sum = 0i64;
     for _ in 0..rounds {
@@ -69,24 +108,22 @@ fn name_of(reads: Reads) -> &'static str {
 }
 
 /// The calls of one round, divided among the threads: the sum of the values that were read.
-fn one_round<R: Runtime + AllocGlobal + Threads + Wait + Sync>(
-    rt: &R,
-    map: &Map,
-    keys: &[ByteText],
-    threads: u32,
-    reads: Reads,
-) -> Result<i64, Fault> {
+fn one_round<
+    S: Slots<ByteText, i64> + Send + Sync,
+    R: Runtime + AllocGlobal + Threads + Wait + Sync,
+>(rt: &R, map: &Map<S>, keys: &[ByteText], threads: u32, reads: Reads) -> Result<i64, Fault>
+where
+    S::Key: Drop + Send + Sync,
+    S::Value: Drop + Send + Sync,
+{
     let calls = CALLS / threads.max(1);
-    let mut sum = 0i64;
-    for read in thread::map_indices(
+    let sums = thread::map_indices(
         rt,
         rt.alloc(),
         threads as usize,
         &|thread: usize| { calls_of(rt, rt.alloc(), map, keys, calls, thread as u64, reads) },
-    )? {
-        sum = sum.wrapping_add(read?);
-    }
-    Ok(sum)
+    )?;
+    sum_of(sums)
 }
 
 /// The next random number: xorshift.
@@ -97,15 +134,19 @@ pub fn next(state: u64) -> u64 {
 }
 
 /// The calls of one thread. A put gives a key the value that it has, so that the sum is the same in each run.
-pub fn calls_of<R: Wait>(
+pub fn calls_of<S: Slots<ByteText, i64>, R: Wait>(
     rt: &R,
     alloc: Global,
-    map: &Map,
+    map: &Map<S>,
     keys: &[ByteText],
     calls: u32,
     thread: u64,
     reads: Reads,
-) -> Result<i64, Fault> {
+) -> Result<i64, Fault>
+where
+    S::Key: Drop,
+    S::Value: Drop,
+{
     let mut sum = 0i64;
     let mut state = thread.wrapping_add(1);
     for call in 0..calls {
@@ -115,7 +156,7 @@ pub fn calls_of<R: Wait>(
             break;
         };
         if call % CALLS_OF_A_PUT == 0 {
-            map.put(rt, copied(alloc, key)?, place as i64)?;
+            put(rt, map, copied(alloc, key)?, place as i64)?;
         } else {
             sum = sum.wrapping_add(read(rt, map, key, reads)?);
         }
@@ -124,9 +165,18 @@ pub fn calls_of<R: Wait>(
 }
 
 /// The value of the key, 0 where it has none.
-fn read<R: Wait>(rt: &R, map: &Map, key: &ByteText, reads: Reads) -> Result<i64, Fault> {
+fn read<S: Slots<ByteText, i64>, R: Wait>(
+    rt: &R,
+    map: &Map<S>,
+    key: &ByteText,
+    reads: Reads,
+) -> Result<i64, Fault>
+where
+    S::Key: Drop,
+    S::Value: Drop,
+{
     match reads {
-        Reads::Got => Ok(map.get(rt, key)?.map_or(0, |value| *value)),
+        Reads::Got => Ok(number_of::<S>(map.get(rt, key)?)),
         Reads::Copied => Ok(map.get_copied(rt, key).unwrap_or(0)),
     }
 }

@@ -88,7 +88,11 @@ fn one_round<R: Runtime + AllocGlobal + Threads + Wait + Sync>(
         entries: MOST_ENTRIES,
     };
     let visitors = visitors(alloc, meeting, readers)?;
-    let (outs, _) = with_clients(rt, alloc, limits, visitors)?;
+    let Ok(served) = with_clients(rt, alloc, limits, visitors) else {
+        return Err(Fault::NoJournal);
+    };
+    let (outs, closed) = served;
+    drop(closed);
     round_of(outs)
 }
 

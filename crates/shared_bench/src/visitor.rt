@@ -118,7 +118,8 @@ fn prepare<J: JournalName, R: Wait, C>(
     meeting: &Meeting<'_, C>,
 ) -> Result<(), Fault> {
     match map.call(rt, seat, Call::Open(MAP)) {
-        Ok(_) => {
+        Ok(opened) => {
+            drop(opened);
             let made = fill(rt, alloc, map, seat, meeting.keys);
             meeting.filled.store(true, Ordering::SeqCst);
             made
@@ -140,7 +141,7 @@ fn fill<J: JournalName, R: Wait>(
     keys: &[Arc<ByteText>],
 ) -> Result<(), Fault> {
     for (number, key) in keys.iter().enumerate() {
-        map.call(rt, seat, put(alloc, Arc::try_clone(key)?, number as i64)?)?;
+        drop(map.call(rt, seat, put(alloc, Arc::try_clone(key)?, number as i64)?)?);
     }
     Ok(())
 }
@@ -176,7 +177,7 @@ fn write<J: JournalName, R: Wait, C>(
             break;
         };
         let own = Arc::new(alloc, copied(alloc, key)?)?;
-        map.call(rt, seat, put(alloc, own, place as i64)?)?;
+        drop(map.call(rt, seat, put(alloc, own, place as i64)?)?);
     }
     Ok(())
 }
@@ -192,8 +193,19 @@ fn read<J: JournalName, R: Wait, C: Clock>(
 ) -> Result<Reading, Fault> {
     prepare(rt, alloc, map, seat, meeting)?;
     let view = map.view(rt, seat, MAP)?;
+    let reading = read_from(&view, meeting, order);
+    drop(view);
+    reading
+}
+
+/// Makes the gets on this view.
+fn read_from<C: Clock>(
+    view: &View<ByteText, i64>,
+    meeting: &Meeting<'_, C>,
+    order: u64,
+) -> Result<Reading, Fault> {
     let began = meeting.start.elapsed(meeting.clock)?;
-    let sum = get_all(&view, meeting.keys, meeting.gets, order);
+    let sum = get_all(view, meeting.keys, meeting.gets, order);
     let ended = meeting.start.elapsed(meeting.clock)?;
     Ok(Reading { began, ended, sum })
 }

@@ -7,11 +7,10 @@ use Rattle.std.specs.Cmp.{IsTotalOrder}
 use Rattle.std.specs.FinMap.{find}
 use Rattle.std.specs.Int.RustNames.{count_ones}
 use Rattle.hash_path.specs.Digits.{digit, fan_out, last_level}
-use Rattle.trie_shape.specs.Looks.{Shows}
+use Rattle.trie_shape.specs.Looks.{ShowsBitmap, ShowsPairs}
 use Rattle.trie_shape.specs.Outline.{children, list_of}
 use Rattle.trie_shape.specs.Tree.{Tree, branch, bucket, Trees, no_trees, more_trees, trees, entries, entries_of_all, digits_of, AreTries, IsTrie, HasTwoWords}
 use Rattle.trie_shape.specs.View.{tree}
-use Rattle.trie_shape.specs.declared.looks.Look.TheVariants.{Branch, Pairs}
 use Rattle.trie_shape.specs.declared.node.Node.{Node}
 use Rattle.trie_shape.proofs.Bits.{length-digits_of}
 use Rattle.trie_shape.proofs.Counts.{has_pair}
@@ -21,6 +20,7 @@ use Rattle.trie_shape.proofs.Ways.{are_tries_long}
 use Rattle.iter.specs.Subtries.{children_between, pairs_of_all}
 use Rattle.splitter.proofs.Divisions.{one_of}
 use Rattle.splitter.proofs.Rows.{Rises, digits_of_rise, rises_drop, rises_take}
+use denote.Ref.{Bor}
 
 listed : {K V : Type 0} (ts : Trees K V) → trees (list_of ts) ≡ ts
 listed no_trees = refl
@@ -46,18 +46,18 @@ module _ {K V : Type 0} (R : K → K → Ordering) (path : K → ℕ) (level : �
   tries_drop (suc n) (d ∷ ds) (t ∷ ts) h = tries_drop n ds ts h.2
 
   -- some children, each with its digit
-  tries_between : (t : Tree K V) (b from to : ℕ) → IsTrie R path level t → Shows (Branch b) t → AreTries R path level (drop from (take to (digits_of b))) (trees (children_between t from to))
+  tries_between : (t : Tree K V) (b from to : ℕ) → IsTrie R path level t → ShowsBitmap b t → AreTries R path level (drop from (take to (digits_of b))) (trees (children_between t from to))
   tries_between (bucket stamp es) b from to trie shown = absurd shown
   tries_between (branch stamp size bitmap ts) b from to trie shown =
       let all : AreTries R path level (digits_of b) (trees (list_of ts)) = subst (AreTries R path level (digits_of b)) (sym (listed ts)) (subst (λ n. AreTries R path level (digits_of n) ts) (sym shown) trie.3) in
       tries_drop from (take to (digits_of b)) (take to (list_of ts)) (tries_take to (digits_of b) (list_of ts) all)
 
-  bitmap_small : (t : Tree K V) (b : ℕ) → IsTrie R path level t → Shows (Branch b) t → b < 2 ^ fan_out
+  bitmap_small : (t : Tree K V) (b : ℕ) → IsTrie R path level t → ShowsBitmap b t → b < 2 ^ fan_out
   bitmap_small (branch stamp size bitmap ts) b trie shown = omega (arith, trie.1, shown)
   bitmap_small (bucket stamp es) b trie shown = absurd shown
 
   -- a branch of these children alone
-  pub alone_trie : {stamp : ℕ} (t u : Tree K V) (b from to size bits : ℕ) (us : List (Tree K V)) → IsTrie R path level t → Shows (Branch b) t → bits ≤ b → digits_of bits ≡ drop from (take to (digits_of b)) → size ≡ length (pairs_of_all (children_between t from to))
+  pub alone_trie : {stamp : ℕ} (t u : Tree K V) (b from to size bits : ℕ) (us : List (Tree K V)) → IsTrie R path level t → ShowsBitmap b t → bits ≤ b → digits_of bits ≡ drop from (take to (digits_of b)) → size ≡ length (pairs_of_all (children_between t from to))
       → (0 < level → HasTwoWords R path (pairs_of_all (children_between t from to))) → level ≤ last_level → us ≡ children_between t from to → u ≡ branch stamp size bits (trees us) → IsTrie R path level u × (entries u ≡ pairs_of_all (children_between t from to))
   alone_trie t u b from to size bits us trie shown few digits count two deep children is =
       let all = pairs_listed us ∙ ap pairs_of_all children in
@@ -67,7 +67,7 @@ module _ {K V : Type 0} (R : K → K → Ordering) (path : K → ℕ) (level : �
       )
 
   -- as many as the bitmap of their digits has
-  pub alone_long : (t : Tree K V) (b from to bits : ℕ) (ns : List (Node K V)) → IsTrie R path level t → Shows (Branch b) t → bits ≤ b → digits_of bits ≡ drop from (take to (digits_of b)) → map tree ns ≡ children_between t from to → length ns ≡ count_ones bits
+  pub alone_long : {S X Y : Type 0} (t : Tree K V) (b from to bits : ℕ) (ns : List (Node K V S X Y)) → IsTrie R path level t → ShowsBitmap b t → bits ≤ b → digits_of bits ≡ drop from (take to (digits_of b)) → map tree ns ≡ children_between t from to → length ns ≡ count_ones bits
   alone_long t b from to bits ns trie shown few digits same =
       let row = subst (λ ds. AreTries R path level ds (trees (children_between t from to))) (sym digits) (tries_between t b from to trie shown) in
       sym (length-map ns tree) ∙ ap length same ∙ are_tries_long R path level (digits_of bits) (children_between t from to) row ∙ length-digits_of bits (omega (arith, few, bitmap_small t b trie shown))
@@ -100,7 +100,7 @@ module _ {K V : Type 0} (R : K → K → Ordering) (path : K → ℕ) (level : �
         )
 
     -- two children or more have two words
-    pub two_of_many : (t : Tree K V) (b from to : ℕ) → IsTrie R path level t → Shows (Branch b) t → from + 1 < to → to ≤ length (children t) → HasTwoWords R path (pairs_of_all (children_between t from to))
+    pub two_of_many : (t : Tree K V) (b from to : ℕ) → IsTrie R path level t → ShowsBitmap b t → from + 1 < to → to ≤ length (children t) → HasTwoWords R path (pairs_of_all (children_between t from to))
     two_of_many t b from to trie shown many within =
         let cs = children_between t from to in
         let long : 1 < length cs = omega (arith, within, many, length-drop from (take to (children t)), length-take to (children t)) in
@@ -113,11 +113,11 @@ module _ {K V : Type 0} (R : K → K → Ordering) (path : K → ℕ) (level : �
       sym (ap (λ k. pairs_of_all (drop from (take k (children t)))) only ∙ ap pairs_of_all (one_of (children t) from u there is) ∙ append-nil (entries u))
 
   -- an only child that is a branch has two words
-  pub two_of_branch : (t u : Tree K V) (b from to : ℕ) → IsTrie R path (level + 1) u → Shows (Branch b) u → entries u ≡ pairs_of_all (children_between t from to) → HasTwoWords R path (pairs_of_all (children_between t from to))
+  pub two_of_branch : (t u : Tree K V) (b from to : ℕ) → IsTrie R path (level + 1) u → ShowsBitmap b u → entries u ≡ pairs_of_all (children_between t from to) → HasTwoWords R path (pairs_of_all (children_between t from to))
   two_of_branch t (branch stamp size bitmap ts) b from to trie shown same = subst (HasTwoWords R path) same (trie.4 (omega arith))
   two_of_branch t (bucket stamp es) b from to trie shown same = absurd shown
 
   -- and one that is a leaf or bucket may hang from a root
-  pub leaf_rises : (u : Tree K V) (ps : _) → IsTrie R path (level + 1) u → Shows (Pairs ps) u → IsTrie R path 1 u
+  pub leaf_rises : (u : Tree K V) (ps : Bor (List (K × V))) → IsTrie R path (level + 1) u → ShowsPairs ps.now u → IsTrie R path 1 u
   leaf_rises (branch stamp size bitmap ts) ps trie shown = absurd shown
   leaf_rises (bucket stamp es) ps trie shown = (omega arith, trie.1, trie.2, trie.3)

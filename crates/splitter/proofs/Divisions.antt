@@ -10,13 +10,12 @@ use Rattle.std.specs.declared.cmp.Ordering.{Ordering}
 use Rattle.std.specs.FinMap.Entries.{where_key}
 use Rattle.hash_path.specs.Digits.{last_level, word_bits, word_digits, digit, digits_after, lowest, position, breadth, fan_out}
 use Rattle.hash_path.specs.Laws.{PositionIsBelow, DigitInterval, SharedDigits, IntervalStep}
-use Rattle.trie_shape.specs.Looks.{Shows}
+use Rattle.trie_shape.specs.Looks.{ShowsBitmap}
 use Rattle.trie_shape.specs.Map.{Map, IsMap}
 use Rattle.trie_shape.specs.Order.{walked}
 use Rattle.trie_shape.specs.Outline.{children}
 use Rattle.trie_shape.specs.Shape.{Fits}
 use Rattle.trie_shape.specs.Tree.{Tree, IsTrie, digits_of, entries}
-use Rattle.trie_shape.specs.declared.looks.Look.TheVariants.{Branch}
 use Rattle.iter.specs.Subtries.{children_between, pairs_of_all}
 use Rattle.iter.specs.Intervals.{lies_in, part}
 use Rattle.iter.specs.declared.interval.Interval.{Interval}
@@ -87,10 +86,10 @@ module _ {K V : Type 0} (R : K → K → Ordering) (path : K → ℕ)
     (passing : (test : K → Bool) (m : Map K V) → where_key R test (walked R path m) ≡ walked R path (where_key R test m))
     (interval : DigitInterval) (shared : SharedDigits) (step : IntervalStep) (positions : PositionIsBelow) (small : (k : K) → path k < 2 ^ word_bits)
     (fits : (t : Tree K V) (level : ℕ) → IsTrie R path level t → Fits t)
-    (high : (t : Tree K V) (level b : ℕ) → IsTrie R path level t → Shows (Branch b) t → level ≤ last_level)
+    (high : (t : Tree K V) (level b : ℕ) → IsTrie R path level t → ShowsBitmap b t → level ≤ last_level)
     (stands : (t u : Tree K V) (level n : ℕ) → IsTrie R path level t → n < length (children t) → u ≡ get_or (children t) n u → IsTrie R path (level + 1) u × (0 < length (entries u)))
-    (digits : (t u : Tree K V) (level b n : ℕ) → IsTrie R path level t → Shows (Branch b) t → n < length (children t) → u ≡ get_or (children t) n u → All (λ e. digit (path e.0) level ≡ get_or (digits_of b) n 0) (entries u))
-    (pairs : (t : Tree K V) (b : ℕ) → Shows (Branch b) t → entries t ≡ pairs_of_all (children t))
+    (digits : (t u : Tree K V) (level b n : ℕ) → IsTrie R path level t → ShowsBitmap b t → n < length (children t) → u ≡ get_or (children t) n u → All (λ e. digit (path e.0) level ≡ get_or (digits_of b) n 0) (entries u))
+    (pairs : (t : Tree K V) (b : ℕ) → ShowsBitmap b t → entries t ≡ pairs_of_all (children t))
     (m : Map K V) (i : Interval) (t : Tree K V) (b level base from_n to_n : ℕ) (place : IsPlace R path m i t b level base from_n to_n)
   where
     abbrev cs : List (Tree K V)
@@ -263,7 +262,7 @@ module _ {K V : Type 0} (R : K → K → Ordering) (path : K → ℕ)
           ∙ append-nil (entries u)
 
       -- its pairs are those of the child's children
-      pub place_below : (c n : ℕ) → Shows (Branch c) u → length (children u) ≡ n → IsPlace R path m i u c (level + 1) (base + digit_of from_n * width) 0 n
+      pub place_below : (c n : ℕ) → ShowsBitmap c u → length (children u) ≡ n → IsPlace R path m i u c (level + 1) (base + digit_of from_n * width) 0 n
       place_below c n shown few =
           let has = digits t u level b from_n place.trie place.shown there is in
           let shares = all_of_one (λ y. lowest (digits_after 0 level (path y.0)) ≡ base) (children t) from_n u there is all_shared in

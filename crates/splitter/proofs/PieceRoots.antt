@@ -6,13 +6,12 @@ use Rattle.std.specs.declared.cmp.Ordering.TheVariants.{Equal}
 use Rattle.std.specs.Cmp.{IsTotalOrder}
 use Rattle.hash_path.specs.Digits.{word_bits, digit, digits_after, fan_out, last_level, lowest}
 use Rattle.trie_shape.specs.Listings.{gathered}
-use Rattle.trie_shape.specs.Looks.{Shows}
+use Rattle.trie_shape.specs.Looks.{ShowsBitmap}
 use Rattle.trie_shape.specs.Map.{Map, IsMap}
 use Rattle.trie_shape.specs.Order.{walked}
 use Rattle.trie_shape.specs.Outline.{children}
 use Rattle.trie_shape.specs.Roots.{IsRoot, map_of}
 use Rattle.trie_shape.specs.Tree.{Tree, branch, more_trees, no_trees, IsTrie, entries}
-use Rattle.trie_shape.specs.declared.looks.Look.TheVariants.{Branch}
 use Rattle.trie_shape.proofs.Roots.{map_of_is_map, trie_is_root}
 use Rattle.iter.specs.Intervals.{part}
 use Rattle.iter.specs.Subtries.{children_between, pairs_of_all}
@@ -29,7 +28,7 @@ module _ {K V : Type 0} (R : K → K → Ordering) (path : K → ℕ) (gathers :
       let root = trie_is_root R path total exact small t trie in
       (root, sym (gathers (map_of R t) (map_of_is_map R path total t)) ∙ ap (gathered R []) (sym (order t root) ∙ same) ∙ gathers p map)
 
-module _ {K V : Type 0} (R : K → K → Ordering) (path : K → ℕ) (pairs : (t : Tree K V) (b : ℕ) → Shows (Branch b) t → entries t ≡ pairs_of_all (children t)) (m : Map K V) (i : Interval) (t : Tree K V) (b level base from to : ℕ) (place : IsPlace R path m i t b level base from to) where
+module _ {K V : Type 0} (R : K → K → Ordering) (path : K → ℕ) (pairs : (t : Tree K V) (b : ℕ) → ShowsBitmap b t → entries t ≡ pairs_of_all (children t)) (m : Map K V) (i : Interval) (t : Tree K V) (b level base from to : ℕ) (place : IsPlace R path m i t b level base from to) where
   -- the words of a place share the digits above its level
   pub place_shares : All (λ e. lowest (digits_after 0 level (path e.0)) ≡ base) (pairs_of_all (children_between t from to))
   place_shares = all_between (λ e. lowest (digits_after 0 level (path e.0)) ≡ base) (children t) from to (subst (All (λ e. lowest (digits_after 0 level (path e.0)) ≡ base)) (pairs t b place.shown) place.shared)

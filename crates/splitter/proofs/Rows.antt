@@ -7,10 +7,9 @@ use Rattle.std.proofs.lemmas.List.Elements.{All-head, All-tail, filter-append}
 use Rattle.std.proofs.lemmas.List.Concat.{flat_map-append}
 use Rattle.hash_path.specs.Digits.{digit, fan_out}
 use Rattle.trie_shape.specs.Tree.{Tree, branch, bucket, Trees, no_trees, more_trees, digits_of, digits_from, entries}
-use Rattle.trie_shape.specs.Looks.{Shows}
+use Rattle.trie_shape.specs.Looks.{ShowsBitmap}
 use Rattle.trie_shape.specs.Outline.{children, list_of}
 use Rattle.trie_shape.specs.Shape.{Fits, count_of}
-use Rattle.trie_shape.specs.declared.looks.Look.TheVariants.{Branch}
 use Rattle.iter.specs.Subtries.{pairs_of_all}
 
 -- 1. Rising digits.
@@ -166,7 +165,7 @@ module _ {K V : Type 0} (path : K → ℕ) (level : ℕ) where
       by later false e = ap (λ es. nat_lt 0 (length (es ++ rest))) (kept_none d x (entries c) e h.0) ∙ later
 
 -- a branch has as many children as its bitmap has digits
-pub children_long : {K V : Type 0} (t : Tree K V) (b : ℕ) → Fits t → Shows (Branch b) t → length (children t) ≡ length (digits_of b)
+pub children_long : {K V : Type 0} (t : Tree K V) (b : ℕ) → Fits t → ShowsBitmap b t → length (children t) ≡ length (digits_of b)
 children_long (bucket stamp es) b fits shown = absurd shown
 children_long {K} {V} (branch stamp size bitmap ts) b fits shown = long ts ∙ fits.1 ∙ ap (λ m. length (digits_of m)) (sym shown)
   where

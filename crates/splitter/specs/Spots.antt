@@ -18,19 +18,19 @@ use denote.Ref.{Bor}
 
 module _ {K V : Type 0} (R : K → K → Ordering) (path : K → ℕ) where
   -- the interval is one of positions, and has this many pairs of the map, which stand at the place; where there is none it is the whole interval
-  abbrev pub IsPortion : Map K V → Interval → ℕ → Option (Place K V) → Type 0
+  abbrev pub IsPortion : {S X Y : Type 0} → Map K V → Interval → ℕ → Option (Place K V S X Y) → Type 0
   IsPortion m i count place =
       (i.lo ≤ i.hi) × (i.hi ≤ 2 ^ word_bits) × IsMap R m × (count ≡ length (part path m i))
       × MatchOption place (i ≡ whole) (λ p. IsPlace R path m i (tree p.branch) p.bitmap p.level p.base p.from p.to)
 
   -- the part is cut at the spot, where two children of a branch or more have its pairs; where there is none it has no middle
-  abbrev pub IsCutAt : Map K V → Interval → Option (Spot K V) → Type 0
+  abbrev pub IsCutAt : {S X Y : Type 0} → Map K V → Interval → Option (Spot K V S X Y) → Type 0
   IsCutAt m i spot =
       MatchOption spot (middle_of (words_of path (part path m i)) ≡ None)
       (λ s. (s.from + 1 < s.to) × IsPlace R path m i (tree s.branch.now) s.bitmap s.level s.base s.from s.to)
 
   -- the spot is divided at the child of this number, whose words begin at mid: the middle of the words of the part
-  pub record IsDivided (m : Map K V) (i : Interval) (s : Spot K V) (half mid : ℕ) : Type 0 where
+  pub record IsDivided {S X Y : Type 0} (m : Map K V) (i : Interval) (s : Spot K V S X Y) (half mid : ℕ) : Type 0 where
     pub low : i.lo ≤ mid
     pub high : mid ≤ i.hi
     pub middle : middle_of (words_of path (part path m i)) ≡ Some mid
@@ -38,11 +38,11 @@ module _ {K V : Type 0} (R : K → K → Ordering) (path : K → ℕ) where
     pub upper : IsPlace R path m (from i mid) (tree s.branch.now) s.bitmap s.level s.base half s.to
 
   -- the pairs of the spot's children
-  abbrev pub pairs_at : Spot K V → Map K V
+  abbrev pub pairs_at : {S X Y : Type 0} → Spot K V S X Y → Map K V
   pairs_at s = pairs_of_all (children_between (tree s.branch.now) s.from s.to)
 
   -- the node is the leaf or bucket that is the spot's only child, below the first level; where there is none the pairs have two words, or the spot is a root's
-  abbrev pub IsLoneAt : Spot K V → Option (Bor (Node K V)) → Type 0
+  abbrev pub IsLoneAt : {S X Y : Type 0} → Spot K V S X Y → Option (Bor (Node K V S X Y)) → Type 0
   IsLoneAt s node =
       MatchOption node (0 < s.level → HasTwoWords R path (pairs_at s))
       (λ n. (0 < s.level) × IsTrie R path 1 (tree n.now) × (entries (tree n.now) ≡ pairs_at s))

@@ -19,14 +19,14 @@ use hash_path::laws::{
 use hash_path::{Bound, PathKey, Word, weight_at};
 use iter::{Interval, intervals_tile, parts_follow_intervals};
 use trie_node::{
-    Look, NoMemory, bitmap_counts_children, branch_is_its_children, child, leaf_is_its_pairs, look,
-    trie_follows_digits, walk_lists_map,
+    Look, NoMemory, Slots, bitmap_counts_children, branch_is_its_children, child,
+    leaf_is_its_pairs, look, trie_follows_digits, walk_lists_map,
 };
 
-impl<K: PathKey, V> Piece<K, V> {
+impl<K: PathKey, V, S: Slots<K, V>> Piece<K, V, S> {
     /// The branch at which the pairs of the piece part, where they have two path words or more: there
     /// two of its children or more have them.
-    fn cut_spot(&self) -> Option<Spot<'_, K, V>>
+    fn cut_spot(&self) -> Option<Spot<'_, K, V, S>>
         ensures { IsCutAt K.cmp K.path_of self.now.map self.now.interval result }
     {
         bitmap_counts_children::<K, V>();
@@ -61,15 +61,19 @@ impl<K: PathKey, V> Piece<K, V> {
     }
 }
 
-impl<K: PathKey + Drop, V: Drop> Piece<K, V> {
+impl<K: PathKey, V, S: Slots<K, V>> Piece<K, V, S>
+where
+    S::Key: Drop,
+    S::Value: Drop,
+{
     /// The pairs of the view in an interval, which some children of the spot have.
     fn half(
         &self,
-        spot: &Spot<'_, K, V>,
+        spot: &Spot<'_, K, V, S>,
         interval: Interval,
         from: u32,
         to: u32,
-    ) -> Result<Piece<K, V>, NoMemory>
+    ) -> Result<Piece<K, V, S>, NoMemory>
         requires order { interval.lo ≤ interval.hi }
         requires within { interval.hi ≤ 2 ^ word_bits }
         requires place { IsPlace K.cmp K.path_of self.now.map interval (tree spot.now.branch.now) spot.now.bitmap spot.now.level spot.now.base from to }
@@ -97,7 +101,7 @@ impl<K: PathKey + Drop, V: Drop> Piece<K, V> {
 
     /// Where the pairs of the spot are divided: the number of the first child of the upper half, and the position at
     /// which its words begin.
-    fn middle(&self, spot: &Spot<'_, K, V>) -> (u32, Bound)
+    fn middle(&self, spot: &Spot<'_, K, V, S>) -> (u32, Bound)
         requires many { spot.now.from + 1 < spot.now.to }
         requires place { IsPlace K.cmp K.path_of self.now.map self.now.interval (tree spot.now.branch.now) spot.now.bitmap spot.now.level spot.now.base spot.now.from spot.now.to }
         ensures { IsDivided K.cmp K.path_of self.now.map self.now.interval spot.now result.0 result.1 }
@@ -120,7 +124,7 @@ impl<K: PathKey + Drop, V: Drop> Piece<K, V> {
     }
 
     /// The pieces below the middle and from there on, where the piece has a middle.
-    pub(crate) fn halves(&self) -> Result<Option<(Piece<K, V>, Piece<K, V>)>, NoMemory>
+    pub(crate) fn halves(&self) -> Result<Option<(Piece<K, V, S>, Piece<K, V, S>)>, NoMemory>
         ensures middle { IfOk result (λ halves. MatchOption halves (middle_of (words_of K.path_of (part K.path_of self.now.map self.now.interval)) ≡ None) (λ two. middle_of (words_of K.path_of (part K.path_of self.now.map self.now.interval)) ≡ Some two.0.interval.hi)) }
         ensures lower { IfOk result (λ halves. MatchOption halves (Unit {0}) (λ two. two.0 ≡ record self.now { interval = below self.now.interval two.0.interval.hi })) }
         ensures upper { IfOk result (λ halves. MatchOption halves (Unit {0}) (λ two. two.1 ≡ record self.now { interval = from self.now.interval two.0.interval.hi })) }

@@ -15,22 +15,22 @@ use iter::{BunchedPairs, Interval, Pairs, parts_follow_intervals};
 use std::alloc::Global;
 use std::marker::Model;
 use trie_node::{
-    Look, NoMemory, bitmap_counts_children, branch_is_its_children, look, root_walks_in_order,
-    trie_follows_digits, walk_lists_map,
+    Look, NoMemory, Shared, Slots, bitmap_counts_children, branch_is_its_children, look,
+    root_walks_in_order, trie_follows_digits, walk_lists_map,
 };
 use versions::View;
 
 /// The pairs of a view whose positions lie in an interval.
 #[derive(Drop)]
-pub struct Piece<K: PathKey, V> {
-    pub(crate) view: View<K, V>,
+pub struct Piece<K: PathKey, V, S: Slots<K, V> = Shared> {
+    pub(crate) view: View<K, V, S>,
     pub(crate) interval: Interval,
     pub(crate) count: u64,
-    pub(crate) place: Option<Place<K, V>>,
+    pub(crate) place: Option<Place<K, V, S>>,
     pub(crate) alloc: Global,
 }
 
-impl<K: PathKey, V> Model for Piece<K, V> {
+impl<K: PathKey, V, S: Slots<K, V>> Model for Piece<K, V, S> {
     ghost use Rattle.splitter.specs.Portion.{Portion};
     ghost use Rattle.splitter.specs.Spots.{IsPortion};
 
@@ -42,7 +42,7 @@ impl<K: PathKey, V> Model for Piece<K, V> {
 }
 
 /// The piece of all pairs of the view. It makes no request for memory.
-pub fn whole<K: PathKey, V>(alloc: Global, view: View<K, V>) -> Piece<K, V>
+pub fn whole<K: PathKey, V, S: Slots<K, V>>(alloc: Global, view: View<K, V, S>) -> Piece<K, V, S>
     ensures { result ≡ record { map = view; interval = whole } }
 {
     parts_follow_intervals::<K, V>();
@@ -59,7 +59,7 @@ pub fn whole<K: PathKey, V>(alloc: Global, view: View<K, V>) -> Piece<K, V>
     }
 }
 
-impl<K: PathKey, V> Piece<K, V> {
+impl<K: PathKey, V, S: Slots<K, V>> Piece<K, V, S> {
     /// The first position of the piece.
     pub fn lo(&self) -> Bound
         ensures lo { result ≡ self.now.interval.lo }
@@ -84,7 +84,7 @@ impl<K: PathKey, V> Piece<K, V> {
     }
 
     /// A walk over the pairs of the piece.
-    pub fn pairs(&self) -> Result<Pairs<'_, K, V>, NoMemory>
+    pub fn pairs(&self) -> Result<Pairs<'_, K, V, S>, NoMemory>
         ensures sorted { IsMap K.cmp self.now.map }
         ensures few { length self.now.map ≤ MOST_PAIRS }
         ensures walk { IfOk result (λ walk. walk.rest ≡ walked K.cmp K.path_of (part K.path_of self.now.map self.now.interval)) }
@@ -104,7 +104,7 @@ impl<K: PathKey, V> Piece<K, V> {
     }
 
     /// The same walk, which takes its pairs from the trie in bunches: for whoever looks at all of them.
-    pub fn bunched_pairs(&self) -> BunchedPairs<'_, K, V>
+    pub fn bunched_pairs(&self) -> BunchedPairs<'_, K, V, S>
         ensures sorted { IsMap K.cmp self.now.map }
         ensures few { length self.now.map ≤ MOST_PAIRS }
         ensures walk { result ≡ walked K.cmp K.path_of (part K.path_of self.now.map self.now.interval) }
@@ -124,7 +124,7 @@ impl<K: PathKey, V> Piece<K, V> {
     }
 
     /// Where the pairs of the piece stand: of the whole, below the root.
-    pub(crate) fn spot(&self) -> Spot<'_, K, V>
+    pub(crate) fn spot(&self) -> Spot<'_, K, V, S>
         ensures sorted { IsMap K.cmp self.now.map }
         ensures place { IsPlace K.cmp K.path_of self.now.map self.now.interval (tree result.branch.now) result.bitmap result.level result.base result.from result.to }
     {

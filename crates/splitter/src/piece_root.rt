@@ -4,12 +4,11 @@ ghost use Rattle.std.specs.Prelude.{◌≡◌, ◌<◌, ◌≤◌, IfOk, length,
 ghost use Rattle.iter.specs.Intervals.{part};
 ghost use Rattle.iter.specs.Subtries.{children_between, pairs_of_all};
 ghost use Rattle.splitter.specs.Spots.{IsLoneAt};
-ghost use Rattle.trie_shape.specs.Looks.{Shows};
+ghost use Rattle.trie_shape.specs.Looks.{ShowsBitmap};
 ghost use Rattle.trie_shape.specs.Outline.{children};
 ghost use Rattle.trie_shape.specs.Roots.{IsRoot, map_of};
 ghost use Rattle.trie_shape.specs.Tree.{HasTwoWords, IsTrie, entries};
 ghost use Rattle.trie_shape.specs.View.{tree};
-ghost use Rattle.trie_shape.specs.declared.looks.Look.TheVariants.{Branch};
 
 use crate::digits::{digits_between, shared_digit};
 use crate::piece::Piece;
@@ -19,14 +18,18 @@ use hash_path::PathKey;
 use iter::parts_follow_intervals;
 use std::alloc::Global;
 use trie_node::{
-    Look, NoMemory, Node, Stamp, branch_is_its_children, child, empty_root, look,
+    Look, NoMemory, Node, Slots, Stamp, branch_is_its_children, child, empty_root, look,
     root_walks_in_order, trie_follows_digits, walk_lists_map,
 };
 use trie_shape::make_branch;
 
-impl<'a, K: Drop, V: Drop> Spot<'a, K, V> {
+impl<'a, K, V, S: Slots<K, V>> Spot<'a, K, V, S>
+where
+    S::Key: Drop,
+    S::Value: Drop,
+{
     /// Handles on the children.
-    fn row(&self, alloc: Global) -> Result<Vec<Node<K, V>>, NoMemory>
+    fn row(&self, alloc: Global) -> Result<Vec<Node<K, V, S>>, NoMemory>
         requires order { self.now.from ≤ self.now.to }
         requires within { self.now.to ≤ length (children (tree self.now.branch.now)) }
         ensures { IfOk result (λ row. map tree row.items ≡ children_between (tree self.now.branch.now) self.now.from self.now.to) }
@@ -39,11 +42,15 @@ impl<'a, K: Drop, V: Drop> Spot<'a, K, V> {
     }
 }
 
-impl<'a, K: PathKey + Drop, V: Drop> Spot<'a, K, V> {
+impl<'a, K: PathKey, V, S: Slots<K, V>> Spot<'a, K, V, S>
+where
+    S::Key: Drop,
+    S::Value: Drop,
+{
     /// A branch of the children alone, which have `count` pairs.
-    fn alone(&self, alloc: Global, count: u64) -> Result<Node<K, V>, NoMemory>
+    fn alone(&self, alloc: Global, count: u64) -> Result<Node<K, V, S>, NoMemory>
         requires trie { IsTrie K.cmp K.path_of self.now.level (tree self.now.branch.now) }
-        requires shown { Shows (Branch self.now.bitmap) (tree self.now.branch.now) }
+        requires shown { ShowsBitmap self.now.bitmap (tree self.now.branch.now) }
         requires order { self.now.from ≤ self.now.to }
         requires within { self.now.to ≤ length (children (tree self.now.branch.now)) }
         requires count { count ≡ length (pairs_of_all (children_between (tree self.now.branch.now) self.now.from self.now.to)) }
@@ -59,9 +66,9 @@ impl<'a, K: PathKey + Drop, V: Drop> Spot<'a, K, V> {
 
     /// The leaf or bucket that is the only child, where the branch is not a root's. In a root of its pairs it hangs
     /// from the root itself; all other children have pairs of two words or more.
-    fn lone(&self) -> Option<&Node<K, V>>
+    fn lone(&self) -> Option<&Node<K, V, S>>
         requires trie { IsTrie K.cmp K.path_of self.now.level (tree self.now.branch.now) }
-        requires shown { Shows (Branch self.now.bitmap) (tree self.now.branch.now) }
+        requires shown { ShowsBitmap self.now.bitmap (tree self.now.branch.now) }
         requires some { self.now.from < self.now.to }
         requires within { self.now.to ≤ length (children (tree self.now.branch.now)) }
         ensures { IsLoneAt K.cmp K.path_of self.now result }
@@ -78,11 +85,15 @@ impl<'a, K: PathKey + Drop, V: Drop> Spot<'a, K, V> {
     }
 }
 
-impl<K: PathKey + Drop, V: Drop> Piece<K, V> {
+impl<K: PathKey, V, S: Slots<K, V>> Piece<K, V, S>
+where
+    S::Key: Drop,
+    S::Value: Drop,
+{
     /// A root of its own with the pairs of the piece alone. It shares the subtries of the view whole: it makes one
     /// branch of the children that the piece has, and one of one child for each level above. Its new nodes have no
     /// generation's stamp: it is there to be read.
-    pub fn root(&self) -> Result<Node<K, V>, NoMemory>
+    pub fn root(&self) -> Result<Node<K, V, S>, NoMemory>
         ensures root { IfOk result (λ n. IsRoot K.cmp K.path_of (tree n)) }
         ensures pairs { IfOk result (λ n. map_of K.cmp (tree n) ≡ part K.path_of self.now.map self.now.interval) }
     {
@@ -94,7 +105,7 @@ impl<K: PathKey + Drop, V: Drop> Piece<K, V> {
     }
 
     /// The same, with a new branch of the children where the pairs of the piece stand.
-    fn cut_root(&self) -> Result<Node<K, V>, NoMemory>
+    fn cut_root(&self) -> Result<Node<K, V, S>, NoMemory>
         ensures root { IfOk result (λ n. IsRoot K.cmp K.path_of (tree n)) }
         ensures pairs { IfOk result (λ n. map_of K.cmp (tree n) ≡ part K.path_of self.now.map self.now.interval) }
     {

@@ -8,13 +8,13 @@ ghost use Rattle.trie_shape.specs.Tree.{entries};
 ghost use Rattle.trie_shape.specs.View.{tree};
 
 use hash_path::Word;
-use trie_node::{NoMemory, Node, bitmap_counts_children, child, size};
+use trie_node::{NoMemory, Node, Slots, bitmap_counts_children, child, size};
 
 /// Some children of a branch, from one number on and below another, and what is known of the branch:
 /// its bitmap, its level, and the least position with the digits that the words below it share.
 #[derive(Drop)]
-pub(crate) struct Place<K, V> {
-    pub(crate) branch: Node<K, V>,
+pub(crate) struct Place<K, V, S: Slots<K, V>> {
+    pub(crate) branch: Node<K, V, S>,
     pub(crate) bitmap: u32,
     pub(crate) level: u32,
     pub(crate) base: Word,
@@ -24,8 +24,8 @@ pub(crate) struct Place<K, V> {
 
 /// The same of a branch that is lent.
 #[derive(Drop)]
-pub(crate) struct Spot<'a, K, V> {
-    pub(crate) branch: &'a Node<K, V>,
+pub(crate) struct Spot<'a, K, V, S: Slots<K, V>> {
+    pub(crate) branch: &'a Node<K, V, S>,
     pub(crate) bitmap: u32,
     pub(crate) level: u32,
     pub(crate) base: Word,
@@ -33,9 +33,13 @@ pub(crate) struct Spot<'a, K, V> {
     pub(crate) to: u32,
 }
 
-impl<'a, K: Drop, V: Drop> Spot<'a, K, V> {
+impl<'a, K, V, S: Slots<K, V>> Spot<'a, K, V, S>
+where
+    S::Key: Drop,
+    S::Value: Drop,
+{
     /// The place of some of the branch's children.
-    pub(crate) fn place(&self, from: u32, to: u32) -> Result<Place<K, V>, NoMemory>
+    pub(crate) fn place(&self, from: u32, to: u32) -> Result<Place<K, V, S>, NoMemory>
         ensures branch { IfOk result (λ place. tree place.branch ≡ tree self.now.branch.now) }
         ensures bitmap { IfOk result (λ place. place.bitmap ≡ self.now.bitmap) }
         ensures level { IfOk result (λ place. place.level ≡ self.now.level) }
@@ -55,7 +59,7 @@ impl<'a, K: Drop, V: Drop> Spot<'a, K, V> {
 }
 
 /// How many pairs some children of a branch have, from one number on and below another.
-pub(crate) fn count_between<K, V>(branch: &Node<K, V>, from: u32, to: u32) -> u64
+pub(crate) fn count_between<K, V, S: Slots<K, V>>(branch: &Node<K, V, S>, from: u32, to: u32) -> u64
     requires fits { Fits (tree branch.now) }
     requires order { from ≤ to }
     requires within { to ≤ length (children (tree branch.now)) }

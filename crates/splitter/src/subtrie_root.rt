@@ -9,15 +9,18 @@ ghost use Rattle.trie_shape.specs.View.{tree};
 use crate::digits::shared_digit;
 use hash_path::{PathKey, Word};
 use std::alloc::Global;
-use trie_node::{NoMemory, Node, Stamp, size, trie_follows_digits};
+use trie_node::{NoMemory, Node, Slots, Stamp, size, trie_follows_digits};
 use trie_shape::make_branch;
 
 /// A branch of one child, which has the digit.
-pub(crate) fn branch_above<K: Drop, V: Drop>(
+pub(crate) fn branch_above<K, V, S: Slots<K, V>>(
     alloc: Global,
-    node: Node<K, V>,
+    node: Node<K, V, S>,
     digit: u32,
-) -> Result<Node<K, V>, NoMemory>
+) -> Result<Node<K, V, S>, NoMemory>
+where
+    S::Key: Drop,
+    S::Value: Drop,
     requires fits { Fits (tree node) }
     requires digit { digit < fan_out }
     ensures { IfOk result (λ n. tree n ≡ branch Stamp.LOOSE.0 (length (entries (tree node))) (1 * 2 ^ digit % 2 ^ 32) (more_trees (tree node) no_trees)) }
@@ -30,12 +33,15 @@ pub(crate) fn branch_above<K: Drop, V: Drop>(
 
 /// The root of the pairs of a subtrie of two words or more: a branch of one child for each level above, by the digits
 /// that all words share. `base` is the least position with these.
-pub(crate) fn root_of_subtrie<K: PathKey + Drop, V: Drop>(
+pub(crate) fn root_of_subtrie<K: PathKey, V, S: Slots<K, V>>(
     alloc: Global,
-    node: Node<K, V>,
+    node: Node<K, V, S>,
     level: u32,
     base: Word,
-) -> Result<Node<K, V>, NoMemory>
+) -> Result<Node<K, V, S>, NoMemory>
+where
+    S::Key: Drop,
+    S::Value: Drop,
     requires trie { IsTrie K.cmp K.path_of level (tree node) }
     requires level { level ≤ last_level }
     requires two { 0 < level → HasTwoWords K.cmp K.path_of (entries (tree node)) }

@@ -9,16 +9,18 @@ use Rattle.std.specs.contracts.alloc.Global as Heap
 use Rattle.std.specs.contracts.impls.GlobalAllocator.TheImpl as allocator
 use Rattle.std.specs.contracts.sync.Mutex as Mutex
 use Rattle.std.specs.contracts.vec.Vec as Vec
+use Rattle.slots.specs.declared.storage.KeySlots as KeySlots
+use Rattle.slots.specs.declared.storage.ValueSlots as ValueSlots
 use Rattle.std.specs.declared.cmp.Eq as Eq
 use Rattle.std.specs.declared.cmp.Ord as Ord
 use Rattle.std.specs.declared.cmp.PartialEq as PartialEq
 use Rattle.std.specs.declared.cmp.PartialOrd as PartialOrd
 use Rattle.hash_path.specs.declared.key.PathKey as PathKey
-use Rattle.stripes.specs.declared.keeps.Keeps as Keeps
+use Rattle.stripe.specs.declared.keeps.Keeps as Keeps
 use Rattle.crossbeam_utils.specs.contracts.cache_padded.CachePadded as CachePadded
 use Rattle.stripes.specs.contracts.locks.Locks as Locks
 use Rattle.stripes.specs.contracts.locks.Locks.TheInside as Inside
-use Rattle.stripes.specs.contracts.stripe.Stripe as Stripe
+use Rattle.stripe.specs.contracts.stripe.Stripe as Stripe
 use Rattle.versions.proofs.Crossing as maps
 use Rattle.ghost_log.proofs.Rights.TheSendSync.{the_send as rights_send}
 use Rattle.logbook.proofs.tokens.Seen.TheSendSync.{the_send as seen_send}
@@ -30,31 +32,31 @@ pub quiet : {D X : Type 0} (to : D → X) (e : Exit X) → Quiet e → Quiet (hi
 quiet to unchanged q = λ x w. tt
 quiet to (leaves L l S s r) q = λ d. q (to d)
 
-module _ (K V P J : RattleType) (key : PathKey.Ghosts K.Denot) (order : Ord.Ghosts K.Denot) (equal : Eq.Ghosts K.Denot) (keq : PartialEq.Ghosts K.Denot) (kord : PartialOrd.Ghosts K.Denot) (keeps : Keeps.Ghosts P.Denot K.Denot V.Denot) (naming : Naming.Ghosts J.Denot) where
+module _ (K V P J S A B : RattleType) (key : PathKey.Ghosts K.Denot) (order : Ord.Ghosts K.Denot) (equal : Eq.Ghosts K.Denot) (keq : PartialEq.Ghosts K.Denot) (kord : PartialOrd.Ghosts K.Denot) (keeps : Keeps.Ghosts P.Denot K.Denot V.Denot) (naming : Naming.Ghosts J.Denot) (keys : KeySlots.Ghosts S.Denot K.Denot A.Denot) (values : ValueSlots.Ghosts S.Denot V.Denot B.Denot) where
   abbrev List : RattleType
-  List = Vec.the_row (CachePadded.the_row (Mutex.the_row (Stripe.the_row K V P J key order equal keq kord keeps naming))) Heap.the_row allocator.ghosts
+  List = Vec.the_row (CachePadded.the_row (Mutex.the_row (Stripe.the_row K V P J S A B key order equal keq kord keeps naming keys values))) Heap.the_row allocator.ghosts
 
   part_send : IsSend (Part.the_row K V J key order equal keq kord naming)
   part_send = search (sendable, seen_send, rights_send) depth 30
 
-  list_send : IsSend K → IsSync K → IsSend V → IsSync V → IsSend List
+  list_send : IsSend A → IsSync A → IsSend B → IsSync B → IsSend List
   list_send ks ky vs vy = search (sendable, heap.crosses, maps.version_send, part_send) depth 40 fits 20000
 
-  list_sync : IsSend K → IsSync K → IsSend V → IsSync V → IsSync List
+  list_sync : IsSend A → IsSync A → IsSend B → IsSync B → IsSync List
   list_sync ks ky vs vy = search (sendable, heap.crosses, maps.version_send, part_send) depth 40 fits 20000
 
-  fields_send : IsSend List → IsSend (Inside.the_row K V P J key order equal keq kord keeps naming)
+  fields_send : IsSend List → IsSend (Inside.the_row K V P J S A B key order equal keq kord keeps naming keys values)
   fields_send list =
-      let T = Inside.the_type K V P J key order equal keq kord keeps naming in
+      let T = Inside.the_type K V P J S A B key order equal keq kord keeps naming keys values in
       owning_send T (list, tt) (λ d. tt) (λ k. quiet (to T) (exits_of k (fields T)) ((struct_send (shape T) (list, tt)).leaving k))
 
-  fields_sync : IsSync List → IsSync (Inside.the_row K V P J key order equal keq kord keeps naming)
+  fields_sync : IsSync List → IsSync (Inside.the_row K V P J S A B key order equal keq kord keeps naming keys values)
   fields_sync list =
-      let T = Inside.the_type K V P J key order equal keq kord keeps naming in
+      let T = Inside.the_type K V P J S A B key order equal keq kord keeps naming keys values in
       record { shared = λ d b o κ. ((struct_sync (shape T) (list, tt)).shared (to T d) b o κ, tt) }
 
-  pub locks_send : IsSend K → IsSend V → IsSync K → IsSync V → IsSend (Locks.the_row K V P J key order equal keq kord keeps naming)
+  pub locks_send : IsSend A → IsSend B → IsSync A → IsSync B → IsSend (Locks.the_row K V P J S A B key order equal keq kord keeps naming keys values)
   locks_send ks vs ky vy = let inside = fields_send (list_send ks ky vs vy) in search sendable
 
-  pub locks_sync : IsSend K → IsSend V → IsSync K → IsSync V → IsSync (Locks.the_row K V P J key order equal keq kord keeps naming)
+  pub locks_sync : IsSend A → IsSend B → IsSync A → IsSync B → IsSync (Locks.the_row K V P J S A B key order equal keq kord keeps naming keys values)
   locks_sync ks vs ky vy = let inside = fields_sync (list_sync ks ky vs vy) in search sendable

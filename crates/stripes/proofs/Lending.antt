@@ -1,7 +1,8 @@
 -- The digits of the stripes that are held, from the last one on.
-use Rattle.std.proofs.Common.{◌≡◌, ℕ, zero, suc, ◌+◌, ◌<◌, ◌≤◌, List, [], ◌∷◌, ◌++◌, length, map, drop, get_or, refl, ap, sym, ◌∙◌, subst, arith, ⊎_elim, eq-or-lt_of_le}
-use Rattle.std.proofs.lemmas.List.{drop_more}
-use Rattle.stripes.specs.Stripes.{Content, digits_of}
+use Rattle.std.proofs.Common.{◌≡◌, ℕ, zero, suc, ◌+◌, ◌<◌, ◌≤◌, List, [], ◌∷◌, ◌++◌, length, map, drop, take, get_or, refl, ap, sym, ◌∙◌, subst, arith, ⊎_elim, eq-or-lt_of_le}
+use Rattle.std.proofs.lemmas.List.{drop_more, take_more}
+use Rattle.stripe.specs.Contents.{Content}
+use Rattle.stripes.specs.Stripes.{digits_of}
 use Rattle.write_history.specs.Rules.{up_to}
 
 pub length_snoc : {A : Type 0} (xs : List A) (x : A) → length (xs ++ x ∷ []) ≡ suc (length xs)
@@ -70,11 +71,29 @@ digits_snoc (x ∷ xs) s = ap (λ (ds : List ℕ). x.digit ∷ ds) (digits_snoc 
 pub digits_more : {K V : Type 0} (ss all : List (Content K V)) (s : Content K V) (n : ℕ) → all ≡ ss ++ s ∷ [] → digits_of ss ≡ up_to n → s.digit ≡ n → digits_of all ≡ up_to (n + 1)
 digits_more ss all s n more is here = ap digits_of more ∙ (digits_snoc ss s ∙ (ap (λ (ds : List ℕ). ds ++ s.digit ∷ []) is ∙ (ap (λ (d : ℕ). up_to n ++ d ∷ []) here ∙ sym (up_more n))))
 
+pub each_snoc : {A X : Type 0} (h : A → X) (xs : List A) (x : A) → map h (xs ++ x ∷ []) ≡ map h xs ++ h x ∷ []
+each_snoc h [] x = refl
+each_snoc h (y ∷ xs) x = ap (λ ys. h y ∷ ys) (each_snoc h xs x)
+
+-- stripes of the digits below m are m
+count_of : {K V : Type 0} (ss : List (Content K V)) → length (digits_of ss) ≡ length ss
+count_of [] = refl
+count_of (s ∷ ss) = ap suc (count_of ss)
+
+pub stripe_count : {K V : Type 0} (ss : List (Content K V)) (m : ℕ) → digits_of ss ≡ up_to m → length ss ≡ m
+stripe_count ss m is = sym (count_of ss) ∙ (ap length is ∙ length_up_to m)
+
 -- stripes that are held, by their guards
 module _ {G K V : Type 0} (f : G → Content K V) where
   map_snoc : (gs : List G) (s : G) → map f (gs ++ s ∷ []) ≡ map f gs ++ f s ∷ []
   map_snoc [] s = refl
   map_snoc (x ∷ xs) s = ap (λ (ys : List (Content K V)). f x ∷ ys) (map_snoc xs s)
+
+  -- the copies have what the stripes have, once a copy of the next one is among them
+  pub copied : {X : Type 0} (h : Content K V → X) (gs : List G) (copies all : List (Content K V)) (copy : Content K V) (i : ℕ) (d : G) → i < length gs → all ≡ copies ++ copy ∷ [] → map h copies ≡ map h (map f (take i gs)) → h copy ≡ h (f (get_or gs i d)) → map h all ≡ map h (map f (take (i + 1) gs))
+  copied {X} h gs copies all copy i d less more before same =
+      ap (map h) more ∙ (each_snoc h copies copy ∙ (ap (λ (xs : List X). xs ++ h copy ∷ []) before ∙ (ap (λ (x : X). map h (map f (take i gs)) ++ x ∷ []) same
+      ∙ (sym (each_snoc h (map f (take i gs)) (f (get_or gs i d))) ∙ (ap (map h) (sym (map_snoc (take i gs) (get_or gs i d))) ∙ ap (λ (ys : List G). map h (map f ys)) (sym (take_more gs i d less)))))))
 
   count_digits : (gs : List G) → length (digits_of (map f gs)) ≡ length gs
   count_digits [] = refl

@@ -1,9 +1,6 @@
 pub mod Crossing
-pub mod Deciding
 pub mod Keeping
 pub mod Lending
 pub mod Moments
 pub mod Placing
-pub mod Seeing
 pub mod Tallies
-pub mod Telling

@@ -6,8 +6,9 @@ use Rattle.std.specs.List.{list_any}
 use Rattle.std.specs.Option.{option_or}
 use Rattle.united_roots.specs.Rows.{EachHasDigit}
 use Rattle.versions.specs.Map.{Map, IsMap, value_at, union}
-use Rattle.stripes.specs.Rules.{AllKeep, Belongs, first_digit}
-use Rattle.stripes.specs.Stripes.{Content, all_differ, digits_of, map_of_digit, maps_of, unions}
+use Rattle.stripe.specs.Rules.{AllKeep, Belongs, first_digit}
+use Rattle.stripe.specs.Contents.{Content}
+use Rattle.stripes.specs.Stripes.{all_differ, digits_of, map_of_digit, maps_of, unions}
 use Rattle.stripes.proofs.Keeping.{kept_union}
 
 not_true : (b : Bool) → not b ≡ true → b ≡ false

@@ -9,8 +9,9 @@ use Rattle.std.specs.FinMap.{is_sorted}
 use Rattle.std.specs.FinMap.Entries.{below_all, length-put}
 use Rattle.versions.specs.Map.{IsMap, Map, union, value_at, with_pair}
 use Rattle.write_history.specs.declared.entry.Entry.{Entry}
-use Rattle.stripes.specs.Rules.{AllKeep, Belongs, first_digit}
-use Rattle.stripes.specs.Told.{LeavesFrom, Tells}
+use Rattle.stripe.specs.Rules.{AllKeep, Belongs, first_digit}
+use Rattle.stripes.specs.Moments.{LeavesFrom}
+use Rattle.stripe.specs.Told.{Tells}
 use Rattle.stripes.proofs.Moments.{gone, or_none, some_value}
 
 left_of : (a b : Bool) → T (a && b) → T a

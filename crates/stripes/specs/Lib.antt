@@ -1,4 +1,2 @@
-pub mod Told
-pub mod Rules
+pub mod Moments
 pub mod Stripes
-pub mod Updates

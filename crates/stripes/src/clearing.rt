@@ -9,22 +9,25 @@ ghost use Rattle.write_history.specs.declared.entry.Write.TheVariants.{Clear};
 ghost use Rattle.write_history.specs.Rules.{HasHistory};
 ghost use Rattle.write_history.specs.Signers.{Made, signed_once};
 
-use crate::empty_map::EmptyMap;
-use crate::keeps::Keeps;
 use crate::stripes::Guards;
 use hash_path::PathKey;
+use stripe::{EmptyMap, Keeps};
+use trie_node::Slots;
 use write_history::{Author, Cleared, Gathered, Naming};
 
 /// Removes all pairs of all stripes, which are held, an empty map for each. It is one entry of the history, which the
 /// author signs. Each stripe is let go then, and the history up to that entry is returned.
 ///
 /// `all` has no right of a stripe yet.
-pub fn clear_all<K: PathKey + Drop, V: Drop, P: Keeps<K, V>, J: Naming>(
-    held: Guards<'_, K, V, P, J>,
-    empty_maps: Vec<EmptyMap<K, V>>,
+pub fn clear_all<K: PathKey + Drop, V: Drop, P: Keeps<K, V>, J: Naming, S: Slots<K, V>>(
+    held: Guards<'_, K, V, P, J, S>,
+    empty_maps: Vec<EmptyMap<K, V, S>>,
     all: Gathered<K, V, J>,
     author: &mut Author<J>,
 ) -> Cleared<K, V, J>
+where
+    S::Key: Drop,
+    S::Value: Drop,
     requires digits { digits_of (map mutex_guard_value held.items) ≡ up_to fan_out }
     requires maps { length empty_maps.items ≡ fan_out }
     requires none { all.digits ≡ [] }
@@ -35,12 +38,15 @@ pub fn clear_all<K: PathKey + Drop, V: Drop, P: Keeps<K, V>, J: Naming>(
 }
 
 // The same of the stripes before some that have lent their rights to `all`, and are held too.
-fn clear_from<K: PathKey + Drop, V: Drop, P: Keeps<K, V>, J: Naming>(
-    mut held: Guards<'_, K, V, P, J>,
-    mut empty_maps: Vec<EmptyMap<K, V>>,
+fn clear_from<K: PathKey + Drop, V: Drop, P: Keeps<K, V>, J: Naming, S: Slots<K, V>>(
+    mut held: Guards<'_, K, V, P, J, S>,
+    mut empty_maps: Vec<EmptyMap<K, V, S>>,
     mut all: Gathered<K, V, J>,
     author: &mut Author<J>,
 ) -> Cleared<K, V, J>
+where
+    S::Key: Drop,
+    S::Value: Drop,
     requires digits { digits_of (map mutex_guard_value held.items) ≡ up_to (length held.items) }
     requires few { length held.items ≤ fan_out }
     requires maps { length empty_maps.items ≡ length held.items }

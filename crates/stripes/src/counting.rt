@@ -2,19 +2,22 @@
 ghost use Rattle.std.specs.Prelude.{◌≡◌, ◌<◌, ◌≤◌, ◌+◌, ◌-◌, ◌*◌, None, length};
 ghost use mathlib.Core.List.{IsPrefix};
 ghost use Rattle.hash_path.specs.Digits.{fan_out};
-ghost use Rattle.stripes.specs.Rules.{first_digit as digit_of};
-ghost use Rattle.stripes.specs.Told.{LeavesFrom};
+ghost use Rattle.stripe.specs.Rules.{first_digit as digit_of};
+ghost use Rattle.stripes.specs.Moments.{LeavesFrom};
 ghost use Rattle.versions.specs.Map.{IsMap, Map, value_at};
 
-use crate::keeps::Keeps;
-use crate::stripe::{MOST_PAIRS_OF_STRIPE, STRIPES, Stripe};
 use crate::stripes::Stripes;
 use hash_path::PathKey;
 use std::sync::Wait;
-use trie_node::union_of_maps;
+use stripe::{Keeps, MOST_PAIRS_OF_STRIPE, STRIPES, Stripe};
+use trie_node::{Slots, union_of_maps};
 use write_history::{Front, Naming};
 
-impl<K: PathKey + Drop, V: Drop, P: Keeps<K, V>, J: Naming> Stripes<K, V, P, J> {
+impl<K: PathKey + Drop, V: Drop, P: Keeps<K, V>, J: Naming, S: Slots<K, V>> Stripes<K, V, P, J, S>
+where
+    S::Key: Drop,
+    S::Value: Drop,
+{
     /// How many pairs the stripes from the digit on have at one moment: as many as the map has that the history leaves
     /// their keys, which the front has seen then. Each stripe is taken once those before it are held.
     pub fn count_from<R: Wait>(&self, rt: &R, digit: u32, front: &mut Front<K, V, J>) -> u64
@@ -36,11 +39,14 @@ impl<K: PathKey + Drop, V: Drop, P: Keeps<K, V>, J: Naming> Stripes<K, V, P, J> 
 }
 
 // How many pairs there are with those of a stripe, where the stripes behind it have so many.
-fn with_rest<K: PathKey + Drop, V: Drop, P: Keeps<K, V>, J: Naming>(
-    stripe: &Stripe<K, V, P, J>,
+fn with_rest<K: PathKey + Drop, V: Drop, P: Keeps<K, V>, J: Naming, S: Slots<K, V>>(
+    stripe: &Stripe<K, V, P, J, S>,
     digit: u32,
     rest: u64,
 ) -> u64
+where
+    S::Key: Drop,
+    S::Value: Drop,
     requires digit { stripe.now.digit ≡ digit }
     requires low { digit < fan_out }
     requires few { rest ≤ (fan_out - (digit + 1)) * MOST_PAIRS_OF_STRIPE }

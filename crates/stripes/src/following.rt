@@ -4,14 +4,12 @@ ghost use Rattle.std.specs.Sync.Mutex.{mutex_guard_value};
 ghost use Rattle.hash_path.specs.Digits.{fan_out};
 ghost use Rattle.stripes.specs.Stripes.{digits_of, up_to};
 
-use crate::keeps::Keeps;
-use crate::marks::Marks;
-use crate::stripe::{STRIPES, Stripe};
 use crate::stripes::{Guards, Stripes, pushed};
 use hash_path::PathKey;
 use std::alloc::Global;
 use std::sync::{Arc, MutexGuard, Wait};
-use trie_node::NoMemory;
+use stripe::{Keeps, Marks, STRIPES, Stripe};
+use trie_node::{NoMemory, Slots};
 use write_history::Naming;
 
 /// New marks, with room for the marks that stripes had before: what `Stripes::all_marked` needs.
@@ -37,10 +35,13 @@ impl Marking {
     }
 
     // Has the stripe's writes marked by the new marks, and ends those before.
-    fn apply<K: PathKey + Drop, V: Drop, P: Keeps<K, V>, J: Naming>(
+    fn apply<K: PathKey + Drop, V: Drop, P: Keeps<K, V>, J: Naming, S: Slots<K, V>>(
         &mut self,
-        stripe: &mut Stripe<K, V, P, J>,
+        stripe: &mut Stripe<K, V, P, J, S>,
     ) -> Result<(), NoMemory>
+    where
+        S::Key: Drop,
+        S::Value: Drop,
         ensures { stripe.new ≡ stripe.old }
     {
         let marks = self.handles.pop().ok_or(NoMemory)?;
@@ -52,7 +53,11 @@ impl Marking {
     }
 }
 
-impl<K: PathKey + Drop, V: Drop, P: Keeps<K, V>, J: Naming> Stripes<K, V, P, J> {
+impl<K: PathKey + Drop, V: Drop, P: Keeps<K, V>, J: Naming, S: Slots<K, V>> Stripes<K, V, P, J, S>
+where
+    S::Key: Drop,
+    S::Value: Drop,
+{
     /// All stripes, as by `all`. Each is marked by the new marks from then on. The marks that it had before have ended
     /// once it is held: they tell of no later write.
     ///
@@ -62,7 +67,7 @@ impl<K: PathKey + Drop, V: Drop, P: Keeps<K, V>, J: Naming> Stripes<K, V, P, J> 
         rt: &R,
         alloc: Global,
         marking: &mut Marking,
-    ) -> Result<Guards<'_, K, V, P, J>, NoMemory>
+    ) -> Result<Guards<'_, K, V, P, J, S>, NoMemory>
         ensures { IfOk result (λ held. digits_of (map mutex_guard_value held.items) ≡ up_to fan_out) }
     {
         let mut held = Vec::with_capacity(alloc, STRIPES as usize)?;
@@ -78,7 +83,7 @@ impl<K: PathKey + Drop, V: Drop, P: Keeps<K, V>, J: Naming> Stripes<K, V, P, J> 
         rt: &R,
         digit: u32,
         marking: &mut Marking,
-    ) -> Result<MutexGuard<'_, Stripe<K, V, P, J>>, NoMemory>
+    ) -> Result<MutexGuard<'_, Stripe<K, V, P, J, S>>, NoMemory>
         requires { digit < fan_out }
         ensures { IfOk result (λ guard. (mutex_guard_value guard).digit ≡ digit) }
     {

@@ -2,18 +2,17 @@
 ghost use Rattle.std.specs.Prelude.{◌≡◌, ◌<◌, ◌≤◌, ◌+◌, ◌*◌, ◌^◌, [], IfOk, IsTrue, length, map};
 ghost use Rattle.std.specs.Sync.Mutex.{mutex_guard_value};
 ghost use Rattle.hash_path.specs.Digits.{fan_out};
-ghost use Rattle.stripes.specs.Rules.{AllKeep, first_digit};
+ghost use Rattle.stripe.specs.Rules.{AllKeep, first_digit};
 ghost use Rattle.stripes.specs.Stripes.{all_differ, digits_of, map_of_digit, maps_of, unions};
 ghost use Rattle.united_roots.specs.Rows.{NoneHasDigit};
 ghost use Rattle.versions.specs.Map.{union, value_at};
 ghost use Rattle.versions.specs.declared.version.TheConstants.{MOST_PAIRS};
 
-use crate::keeps::Keeps;
-use crate::stripe::{MOST_PAIRS_OF_STRIPE, Stripe};
 use crate::stripes::Guards;
 use hash_path::PathKey;
 use std::alloc::Global;
-use trie_node::{NoMemory, union_of_maps};
+use stripe::{Keeps, MOST_PAIRS_OF_STRIPE, Stripe};
+use trie_node::{NoMemory, Slots, union_of_maps};
 use united_roots::RootRow;
 use versions::{MOST_PAIRS, Version, law_of_equal_maps};
 use write_history::Naming;
@@ -24,11 +23,14 @@ use write_history::Naming;
 /// Stripes of different digits share no subtrie below the root, so their map's root has the children of their roots:
 /// this makes one branch, however many pairs there are. While the stripes are held it makes no request for memory, since
 /// `room` has it; but the clone of a handle may be refused.
-pub fn joined<K: PathKey + Drop, V: Drop, P: Keeps<K, V>, J: Naming>(
+pub fn joined<K: PathKey + Drop, V: Drop, P: Keeps<K, V>, J: Naming, S: Slots<K, V>>(
     alloc: Global,
-    room: RootRow<K, V>,
-    held: Guards<'_, K, V, P, J>,
-) -> Result<Version<K, V>, NoMemory>
+    room: RootRow<K, V, S>,
+    held: Guards<'_, K, V, P, J, S>,
+) -> Result<Version<K, V, S>, NoMemory>
+where
+    S::Key: Drop,
+    S::Value: Drop,
     requires empty { room.entries ≡ [] }
     requires few { length held.items ≤ fan_out }
     requires differ { IsTrue (all_differ (digits_of (map mutex_guard_value held.items))) }
@@ -44,10 +46,13 @@ pub fn joined<K: PathKey + Drop, V: Drop, P: Keeps<K, V>, J: Naming>(
 }
 
 /// The children of the roots of all stripes that are held.
-pub(crate) fn children<K: PathKey + Drop, V: Drop, P: Keeps<K, V>, J: Naming>(
-    mut row: RootRow<K, V>,
-    held: &Guards<'_, K, V, P, J>,
-) -> Result<RootRow<K, V>, NoMemory>
+pub(crate) fn children<K: PathKey + Drop, V: Drop, P: Keeps<K, V>, J: Naming, S: Slots<K, V>>(
+    mut row: RootRow<K, V, S>,
+    held: &Guards<'_, K, V, P, J, S>,
+) -> Result<RootRow<K, V, S>, NoMemory>
+where
+    S::Key: Drop,
+    S::Value: Drop,
     requires empty { row.entries ≡ [] }
     requires few { length held.now.items ≤ fan_out }
     requires differ { IsTrue (all_differ (digits_of (map mutex_guard_value held.now.items))) }
@@ -59,7 +64,7 @@ pub(crate) fn children<K: PathKey + Drop, V: Drop, P: Keeps<K, V>, J: Naming>(
     union_of_maps::<K, V>();
     law_of_equal_maps::<K, V>();
     for guard in held {
-        let stripe: &Stripe<K, V, P, J> = &**guard;
+        let stripe: &Stripe<K, V, P, J, S> = &**guard;
         stripe.law();
         stripe.len();
         row.len();
@@ -70,10 +75,13 @@ pub(crate) fn children<K: PathKey + Drop, V: Drop, P: Keeps<K, V>, J: Naming>(
 }
 
 // The row once it has the stripe's pairs too. A function that drops less than `children` would has less to prove.
-pub(crate) fn with_stripe<K: PathKey + Drop, V: Drop, P: Keeps<K, V>, J: Naming>(
-    mut row: RootRow<K, V>,
-    stripe: &Stripe<K, V, P, J>,
-) -> Result<RootRow<K, V>, NoMemory>
+pub(crate) fn with_stripe<K: PathKey + Drop, V: Drop, P: Keeps<K, V>, J: Naming, S: Slots<K, V>>(
+    mut row: RootRow<K, V, S>,
+    stripe: &Stripe<K, V, P, J, S>,
+) -> Result<RootRow<K, V, S>, NoMemory>
+where
+    S::Key: Drop,
+    S::Value: Drop,
     requires none { NoneHasDigit K.cmp K.path_of stripe.now.digit row.entries }
     requires room { length row.entries + length stripe.now.entries < 2 ^ 63 }
     ensures { IfOk result (λ more. more.entries ≡ union K.cmp stripe.now.entries row.entries) }
@@ -85,10 +93,13 @@ pub(crate) fn with_stripe<K: PathKey + Drop, V: Drop, P: Keeps<K, V>, J: Naming>
 }
 
 /// The map of the row's pairs.
-pub(crate) fn map_of_row<K: PathKey + Drop, V: Drop>(
+pub(crate) fn map_of_row<K: PathKey + Drop, V: Drop, S: Slots<K, V>>(
     alloc: Global,
-    row: RootRow<K, V>,
-) -> Result<Version<K, V>, NoMemory>
+    row: RootRow<K, V, S>,
+) -> Result<Version<K, V, S>, NoMemory>
+where
+    S::Key: Drop,
+    S::Value: Drop,
     requires { length row.entries ≤ MOST_PAIRS }
     ensures entries { IfOk result (λ map. map.entries ≡ row.entries) }
     ensures limit { IfOk result (λ map. map.limit ≡ MOST_PAIRS) }

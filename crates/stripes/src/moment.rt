@@ -2,25 +2,28 @@
 ghost use Rattle.std.specs.Prelude.{◌≡◌, ◌<◌, ◌≤◌, ◌+◌, ◌*◌, ℕ, [], IfOk, length};
 ghost use mathlib.Core.List.{IsPrefix};
 ghost use Rattle.hash_path.specs.Digits.{fan_out};
-ghost use Rattle.stripes.specs.Rules.{AllKeep, first_digit as digit_of};
+ghost use Rattle.stripe.specs.Rules.{AllKeep, first_digit as digit_of};
 ghost use Rattle.united_roots.specs.Rows.{NoneHasDigit};
 ghost use Rattle.versions.specs.Map.{value_at};
 ghost use Rattle.versions.specs.declared.version.TheConstants.{MOST_PAIRS};
 ghost use Rattle.write_history.specs.Histories.{value_in};
 
 use crate::joining::{map_of_row, with_stripe};
-use crate::keeps::Keeps;
-use crate::stripe::{MOST_PAIRS_OF_STRIPE, STRIPES, Stripe};
 use crate::stripes::Stripes;
 use hash_path::PathKey;
 use std::alloc::Global;
 use std::sync::Wait;
-use trie_node::{NoMemory, union_of_maps};
+use stripe::{Keeps, MOST_PAIRS_OF_STRIPE, STRIPES, Stripe};
+use trie_node::{NoMemory, Slots, union_of_maps};
 use united_roots::RootRow;
 use versions::Version;
 use write_history::{Front, Naming};
 
-impl<K: PathKey + Drop, V: Drop, P: Keeps<K, V>, J: Naming> Stripes<K, V, P, J> {
+impl<K: PathKey + Drop, V: Drop, P: Keeps<K, V>, J: Naming, S: Slots<K, V>> Stripes<K, V, P, J, S>
+where
+    S::Key: Drop,
+    S::Value: Drop,
+{
     /// The map of all pairs at one moment: each key has the value that the history leaves it, which the front has seen
     /// then. Each pair keeps the rule.
     ///
@@ -30,9 +33,9 @@ impl<K: PathKey + Drop, V: Drop, P: Keeps<K, V>, J: Naming> Stripes<K, V, P, J> 
         &self,
         rt: &R,
         alloc: Global,
-        room: RootRow<K, V>,
+        room: RootRow<K, V, S>,
         front: &mut Front<K, V, J>,
-    ) -> Result<Version<K, V>, NoMemory>
+    ) -> Result<Version<K, V, S>, NoMemory>
         requires { room.entries ≡ [] }
         ensures seen { IsPrefix front.old front.new }
         ensures tells { IfOk result (λ map. (q : K) → value_at K.cmp map.entries q ≡ value_in K.cmp K.path_of front.new q) }
@@ -48,9 +51,9 @@ impl<K: PathKey + Drop, V: Drop, P: Keeps<K, V>, J: Naming> Stripes<K, V, P, J> 
         &self,
         rt: &R,
         digit: u32,
-        row: RootRow<K, V>,
+        row: RootRow<K, V, S>,
         front: &mut Front<K, V, J>,
-    ) -> Result<RootRow<K, V>, NoMemory>
+    ) -> Result<RootRow<K, V, S>, NoMemory>
         requires few { digit ≤ fan_out }
         requires none { (d : ℕ) → digit ≤ d → NoneHasDigit K.cmp K.path_of d row.entries }
         requires size { length row.entries ≤ digit * MOST_PAIRS_OF_STRIPE }
@@ -75,11 +78,14 @@ impl<K: PathKey + Drop, V: Drop, P: Keeps<K, V>, J: Naming> Stripes<K, V, P, J> 
 }
 
 // The row once it has the pairs of the stripe of the next digit.
-fn with_next<K: PathKey + Drop, V: Drop, P: Keeps<K, V>, J: Naming>(
-    row: RootRow<K, V>,
-    stripe: &Stripe<K, V, P, J>,
+fn with_next<K: PathKey + Drop, V: Drop, P: Keeps<K, V>, J: Naming, S: Slots<K, V>>(
+    row: RootRow<K, V, S>,
+    stripe: &Stripe<K, V, P, J, S>,
     digit: u32,
-) -> Result<RootRow<K, V>, NoMemory>
+) -> Result<RootRow<K, V, S>, NoMemory>
+where
+    S::Key: Drop,
+    S::Value: Drop,
     requires digit { stripe.now.digit ≡ digit }
     requires few { digit < fan_out }
     requires none { (d : ℕ) → digit ≤ d → NoneHasDigit K.cmp K.path_of d row.entries }

@@ -15,11 +15,11 @@ pub use key_parts::{Parts, ThreeParts};
 pub use seeded_keys::{Seed, SeededText};
 pub use test::{Passes, Tested, test_by};
 pub use trie_map::{
-    Answer, Anything, Asks, Both, ByteText, Crew, Greatest, Groups, ImageFn, Keeps, Keys, Least,
-    MOST_PAIRS, MOST_PAIRS_OF_STRIPE, Monoid, NoImages, NoMemory, Pair, PairFn, Pairs, PathKey,
-    PutError, PutsRefused, Query, Ranked, Reader, Readers, Refusal, RemovalsRefused, Scored,
-    Session, Stored, StoredItem, StoredMap, StoredPairs, StoredTest, Sum, TrieMap, Values, Version,
-    View, pairs_of,
+    Answer, Anything, Asks, Both, ByteText, Crew, Greatest, Groups, Half, ImageFn, InPlace,
+    InPlaceMap, Inline, Keeps, Keys, KeysInPlace, Least, MOST_PAIRS, MOST_PAIRS_OF_STRIPE, Monoid,
+    NoImages, NoMemory, Pair, PairFn, Pairs, PathKey, PutError, PutsRefused, Quarter, Query,
+    Ranked, Reader, Readers, Refusal, RemovalsRefused, Scored, Session, Stored, StoredItem,
+    StoredMap, StoredPairs, StoredTest, Sum, TrieMap, Values, Version, View, pairs_of,
 };
 pub use trie_set::TrieSet;
 pub use view_sets::Changes;

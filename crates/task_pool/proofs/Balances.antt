@@ -1,6 +1,7 @@
 -- What balances add up to.
 use Rattle.std.proofs.Common.{◌≡◌, ℕ, suc, ◌+◌, List, [], ◌∷◌, ◌++◌, length, refl, sym, ap, ◌∙◌, arith}
 use Rattle.std.specs.List.{sum_by}
+use Rattle.std.specs.Prelude.{IfOk, Result, Ok, Err}
 use Rattle.std.proofs.lemmas.List.Sums.{sum_by-cons}
 use Rattle.std.proofs.lemmas.List.Concat.{flat_map-append}
 use Rattle.iter.specs.declared.interval.Interval.{Interval}
@@ -68,3 +69,15 @@ given_later place p = refl
 -- what was given is what was worked and what is left over, once the deques are closed
 pub closed : (first given taken worked pushed left rest both : ℕ) → given ≡ first → given + taken ≡ worked + pushed + left → pushed ≡ taken + rest → both ≡ left + rest → first ≡ worked + both
 closed first given taken worked pushed left rest both e b c d = omega (arith, e, b, c, d)
+
+-- a piece that was worked whole, or is left over: what was pushed stays
+pub ends_same : (ws all pushed pushes left more : List Interval) (task lower : Interval) → lower ≡ task → pushes ≡ pushed → ((p : ℕ) → cover all p + cover more p ≡ cover ws p + cover left p + once lower p) → (p : ℕ) → cover all p + cover pushes p + cover more p ≡ cover ws p + cover pushed p + cover left p + once task p
+ends_same ws all pushed pushes left more task lower whole stays did p =
+    let w = ap (λ i. once i p) whole in
+    let s = ap (λ xs. cover xs p) stays in
+    omega (arith, w, s, did p)
+
+-- two things that hold where a call succeeds
+pub ok_both : {T E : Type 0} (r : Result T E) (P Q : T → Type 0) → IfOk r P → IfOk r Q → IfOk r (λ x. P x × Q x)
+ok_both (Ok x) P Q p q = (p, q)
+ok_both (Err e) P Q p q = tt

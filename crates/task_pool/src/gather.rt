@@ -7,30 +7,40 @@ ghost use Rattle.task_pool.specs.Asked.{EachAsked};
 
 use crate::gate::Gate;
 use crate::worker::{IdleWorker, WorkerState};
-use combiner::Bulk;
+use combiner::BulkIn;
 use hash_path::PathKey;
 use partial_results::{Gathered, OfBulk, OfView, Task};
 use ruled_deques::{Deques, WorkerEnds, close};
 use std::alloc::Global;
-use trie_node::NoMemory;
+use trie_node::{NoMemory, Slots};
 
 // The workers by their fields.
 #[derive(Drop)]
-struct Parted<'a, C: OfView<K, V> + OfBulk<B>, K: PathKey, V, B: Bulk<K, V>, D: Deques> {
-    ends: Vec<WorkerEnds<Task<C, K, V>, D>>,
-    gathered: Gathered<'a, C, K, V, B>,
+struct Parted<
+    'a,
+    C: OfView<K, V> + OfBulk<B>,
+    K: PathKey,
+    V,
+    S: Slots<K, V>,
+    B: BulkIn<K, V, S>,
+    D: Deques,
+> {
+    ends: Vec<WorkerEnds<Task<C, K, V, S>, D>>,
+    gathered: Gathered<'a, C, K, V, S, B>,
 }
 
-impl<'a, C, K, V, B, D> Parted<'a, C, K, V, B, D>
+impl<'a, C, K, V, S, B, D> Parted<'a, C, K, V, S, B, D>
 where
     C: OfView<K, V> + OfBulk<B>,
-    K: PathKey + Drop,
-    V: Drop,
-    B: Bulk<K, V>,
+    K: PathKey,
+    S: Slots<K, V>,
+    S::Key: Drop,
+    S::Value: Drop,
+    B: BulkIn<K, V, S>,
     D: Deques,
 {
     // Puts the fields of one worker behind those of the others.
-    fn add(&mut self, state: WorkerState<'a, C, K, V, B, D>) -> Result<(), NoMemory>
+    fn add(&mut self, state: WorkerState<'a, C, K, V, S, B, D>) -> Result<(), NoMemory>
         ensures ends { OnOk result (self.new.ends.items ≡ self.old.ends.items ++ state.entry.ends ∷ []) }
         ensures partials { OnOk result (self.new.gathered.partials.items ≡ self.old.gathered.partials.items ++ state.entry.partial ∷ []) }
         ensures leftover { OnOk result (self.new.gathered.leftover.items ≡ self.old.gathered.leftover.items ++ state.entry.leftover.items) }
@@ -50,16 +60,18 @@ where
 }
 
 // Takes the workers apart, and adds their balances.
-fn part_all<'a, C, K, V, B, D, G>(
+fn part_all<'a, C, K, V, S, B, D, G>(
     alloc: Global,
     gate: &G,
-    done: Vec<Result<IdleWorker<'a, C, K, V, B, D>, NoMemory>>,
-) -> Result<Parted<'a, C, K, V, B, D>, NoMemory>
+    done: Vec<Result<IdleWorker<'a, C, K, V, S, B, D>, NoMemory>>,
+) -> Result<Parted<'a, C, K, V, S, B, D>, NoMemory>
 where
     C: OfView<K, V> + OfBulk<B>,
-    K: PathKey + Drop,
-    V: Drop,
-    B: Bulk<K, V>,
+    K: PathKey,
+    S: Slots<K, V>,
+    S::Key: Drop,
+    S::Value: Drop,
+    B: BulkIn<K, V, S>,
     D: Deques,
     G: Gate,
     requires places { (i : ℕ) (d : _) → i < length done.items → IfOk (slice_index_or done.items i d) (λ w. w.state.ends.place ≡ i) }
@@ -82,16 +94,18 @@ where
 }
 
 /// Closes the deques: what was given is what was worked and what is left over, each position as often.
-pub fn gather<'a, C, K, V, B, D, G>(
+pub fn gather<'a, C, K, V, S, B, D, G>(
     alloc: Global,
     gate: &G,
-    done: Vec<Result<IdleWorker<'a, C, K, V, B, D>, NoMemory>>,
-) -> Result<Gathered<'a, C, K, V, B>, NoMemory>
+    done: Vec<Result<IdleWorker<'a, C, K, V, S, B, D>, NoMemory>>,
+) -> Result<Gathered<'a, C, K, V, S, B>, NoMemory>
 where
     C: OfView<K, V> + OfBulk<B>,
-    K: PathKey + Drop,
-    V: Drop,
-    B: Bulk<K, V>,
+    K: PathKey,
+    S: Slots<K, V>,
+    S::Key: Drop,
+    S::Value: Drop,
+    B: BulkIn<K, V, S>,
     D: Deques,
     G: Gate,
     requires count { (length done.items ≡ D.count) × (0 < D.count) }

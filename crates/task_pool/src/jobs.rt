@@ -4,26 +4,28 @@ ghost use Rattle.iter.specs.Intervals.{whole};
 ghost use Rattle.ruled_deques.specs.EndsView.{given};
 
 use crate::worker::{IdleWorker, WorkerState};
-use combiner::Bulk;
+use combiner::BulkIn;
 use hash_path::PathKey;
 use partial_results::{OfBulk, OfView, Partial, Task};
 use ruled_deques::{Deques, WorkerEnds};
 use std::alloc::Global;
-use trie_node::NoMemory;
+use trie_node::{NoMemory, Slots};
 use versions::View;
 
 // A worker that has worked nothing.
-fn new_worker<'a, C, K, V, B, D>(
+fn new_worker<'a, C, K, V, S, B, D>(
     alloc: Global,
-    view: &View<K, V>,
+    view: &View<K, V, S>,
     bulk: &'a B,
-    ends: WorkerEnds<Task<C, K, V>, D>,
-) -> Result<IdleWorker<'a, C, K, V, B, D>, NoMemory>
+    ends: WorkerEnds<Task<C, K, V, S>, D>,
+) -> Result<IdleWorker<'a, C, K, V, S, B, D>, NoMemory>
 where
     C: OfView<K, V> + OfBulk<B>,
-    K: PathKey + Drop,
-    V: Drop,
-    B: Bulk<K, V>,
+    K: PathKey,
+    S: Slots<K, V>,
+    S::Key: Drop,
+    S::Value: Drop,
+    B: BulkIn<K, V, S>,
     D: Deques,
     requires view { view.now ≡ C.map }
     requires bulk { Some bulk.now ≡ C.bulk }
@@ -45,17 +47,19 @@ where
 }
 
 /// A worker for each deque.
-pub fn make_workers<'a, C, K, V, B, D>(
+pub fn make_workers<'a, C, K, V, S, B, D>(
     alloc: Global,
-    view: &View<K, V>,
+    view: &View<K, V, S>,
     bulk: &'a B,
-    all: Vec<WorkerEnds<Task<C, K, V>, D>>,
-) -> Result<Vec<IdleWorker<'a, C, K, V, B, D>>, NoMemory>
+    all: Vec<WorkerEnds<Task<C, K, V, S>, D>>,
+) -> Result<Vec<IdleWorker<'a, C, K, V, S, B, D>>, NoMemory>
 where
     C: OfView<K, V> + OfBulk<B>,
-    K: PathKey + Drop,
-    V: Drop,
-    B: Bulk<K, V>,
+    K: PathKey,
+    S: Slots<K, V>,
+    S::Key: Drop,
+    S::Value: Drop,
+    B: BulkIn<K, V, S>,
     D: Deques,
     requires view { view.now ≡ C.map }
     requires bulk { Some bulk.now ≡ C.bulk }

@@ -5,24 +5,26 @@ ghost use Rattle.partial_results.specs.Worked.{once};
 
 use crate::gate::Gate;
 use crate::shared::Shared;
-use combiner::Bulk;
+use combiner::BulkIn;
 use hash_path::PathKey;
 use partial_results::{OfBulk, OfView, Partial, Task};
 use splitter::law_of_cuts;
-use trie_node::NoMemory;
+use trie_node::{NoMemory, Slots};
 
 /// Cuts a piece down to the grain and works all of it.
-pub fn work_alone<'a, C, K, V, B, G>(
+pub fn work_alone<'a, C, K, V, S, B, G>(
     shared: &Shared<'_, G>,
-    partial: Partial<'a, C, K, V, B>,
+    partial: Partial<'a, C, K, V, S, B>,
     number: u32,
-    task: Task<C, K, V>,
-) -> Result<Partial<'a, C, K, V, B>, NoMemory>
+    task: Task<C, K, V, S>,
+) -> Result<Partial<'a, C, K, V, S, B>, NoMemory>
 where
     C: OfView<K, V> + OfBulk<B>,
-    K: PathKey + Drop,
-    V: Drop,
-    B: Bulk<K, V>,
+    K: PathKey,
+    S: Slots<K, V>,
+    S::Key: Drop,
+    S::Value: Drop,
+    B: BulkIn<K, V, S>,
     G: Gate,
     requires grain { shared.now.grain ≡ C.grain }
     requires apart { AreApart (partial ++ task ∷ []) }
@@ -53,17 +55,19 @@ where
 }
 
 /// Works the pieces that the workers left over.
-pub fn work_leftovers<'a, C, K, V, B, G>(
+pub fn work_leftovers<'a, C, K, V, S, B, G>(
     shared: &Shared<'_, G>,
-    partial: Partial<'a, C, K, V, B>,
+    partial: Partial<'a, C, K, V, S, B>,
     number: u32,
-    leftover: Vec<Task<C, K, V>>,
-) -> Result<Partial<'a, C, K, V, B>, NoMemory>
+    leftover: Vec<Task<C, K, V, S>>,
+) -> Result<Partial<'a, C, K, V, S, B>, NoMemory>
 where
     C: OfView<K, V> + OfBulk<B>,
-    K: PathKey + Drop,
-    V: Drop,
-    B: Bulk<K, V>,
+    K: PathKey,
+    S: Slots<K, V>,
+    S::Key: Drop,
+    S::Value: Drop,
+    B: BulkIn<K, V, S>,
     G: Gate,
     requires grain { shared.now.grain ≡ C.grain }
     requires apart { AreApart (partial ++ leftover.items) }

@@ -5,7 +5,7 @@ ghost use Rattle.task_pool.specs.Asked.{KeepsAsked};
 use crate::gate::Gate;
 use crate::shared::Shared;
 use crate::worker::IdleWorker;
-use combiner::Bulk;
+use combiner::BulkIn;
 use hash_path::PathKey;
 use partial_results::{OfBulk, OfView, Task};
 use ruled_deques::Deques;
@@ -13,30 +13,32 @@ use sized_threads::{Work, map_vec};
 use std::marker::PhantomData;
 use std::sync::Wait;
 use std::thread::Threads;
-use trie_node::NoMemory;
+use trie_node::{NoMemory, Slots};
 
 // The stack of a worker's thread, in bytes: as much as that of a client, whose thread is a crew's first worker.
 const WORKER_STACK: usize = 512 * 1024;
 
 // Runs a worker, by whichever thread.
 #[derive(Drop)]
-struct RunWorker<'s, 'g, 'a, C, K, V, B, D, G> {
+struct RunWorker<'s, 'g, 'a, C, K, V, S: Slots<K, V>, B, D, G> {
     shared: &'s Shared<'g, G>,
-    crew: PhantomData<(&'a B, C, K, V, D)>,
+    crew: PhantomData<(&'a B, C, K, V, S::Key, D)>,
 }
 
-impl<'a, C, K, V, B, D, G> Work for RunWorker<'_, '_, 'a, C, K, V, B, D, G>
+impl<'a, C, K, V, S, B, D, G> Work for RunWorker<'_, '_, 'a, C, K, V, S, B, D, G>
 where
     C: OfView<K, V> + OfBulk<B>,
-    K: PathKey + Drop,
-    V: Drop,
-    B: Bulk<K, V>,
+    K: PathKey,
+    S: Slots<K, V>,
+    S::Key: Drop,
+    S::Value: Drop,
+    B: BulkIn<K, V, S>,
     D: Deques,
     G: Gate,
 {
-    type Job = IdleWorker<'a, C, K, V, B, D>;
+    type Job = IdleWorker<'a, C, K, V, S, B, D>;
 
-    type Out = Result<IdleWorker<'a, C, K, V, B, D>, NoMemory>;
+    type Out = Result<IdleWorker<'a, C, K, V, S, B, D>, NoMemory>;
 
     ghost needs = { λ w _. w.shared.now.grain ≡ C.grain };
 
@@ -44,8 +46,8 @@ where
 
     fn run(
         &self,
-        job: IdleWorker<'a, C, K, V, B, D>,
-    ) -> Result<IdleWorker<'a, C, K, V, B, D>, NoMemory> {
+        job: IdleWorker<'a, C, K, V, S, B, D>,
+    ) -> Result<IdleWorker<'a, C, K, V, S, B, D>, NoMemory> {
         job.run(self.shared)
     }
 }
@@ -54,16 +56,19 @@ where
 ///
 /// The first runs on the caller's thread, and each other on a thread of its own. A worker whose thread cannot be started
 /// is run by the caller's thread too, after those before it.
-pub fn run_workers<'a, C, K, V, B, D, G, R>(
+pub fn run_workers<'a, C, K, V, S, B, D, G, R>(
     rt: &R,
     shared: &Shared<'_, G>,
-    workers: Vec<IdleWorker<'a, C, K, V, B, D>>,
-) -> Result<Vec<Result<IdleWorker<'a, C, K, V, B, D>, NoMemory>>, NoMemory>
+    workers: Vec<IdleWorker<'a, C, K, V, S, B, D>>,
+) -> Result<Vec<Result<IdleWorker<'a, C, K, V, S, B, D>, NoMemory>>, NoMemory>
 where
     C: OfView<K, V> + OfBulk<B> + Send + Sync,
-    K: PathKey + Drop + Send + Sync,
-    V: Drop + Send + Sync,
-    B: Bulk<K, V> + Sync,
+    K: PathKey + Send + Sync,
+    V: Send + Sync,
+    S: Slots<K, V> + Send + Sync,
+    S::Key: Drop + Send + Sync,
+    S::Value: Drop + Send + Sync,
+    B: BulkIn<K, V, S> + Sync,
     B::Part: Send,
     D: Deques + Send + Sync,
     G: Gate + Sync,

@@ -5,6 +5,7 @@ use std::process::Abort;
 
 mod changed;
 mod hostile;
+mod lines;
 mod model;
 mod rows;
 mod runs;

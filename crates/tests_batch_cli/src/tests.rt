@@ -5,6 +5,7 @@ mod clients;
 mod contention;
 mod entries;
 mod events;
+mod faults;
 mod gates;
 mod journals;
 mod scripts;

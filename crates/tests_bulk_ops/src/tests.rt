@@ -5,18 +5,14 @@ mod growing;
 mod images;
 mod laws;
 mod memory;
+mod pieces;
 mod stopping;
 mod sums;
 
-ghost use Rattle.combiner.specs.Unions.{AreApart};
-ghost use Rattle.iter.specs.Intervals.{part};
-
 use bulk_ops::{NoImages, PairFn, Part, Query, Stored, StoredItem, StoredMap, StoredTest};
-use bulk_work::{Answer, Asks, Pair, ask, work};
+use bulk_work::{Answer, Asks, Pair, ask};
 use combiner::{Both, Bulk, Greatest, Least, Sum};
-use hash_path::PathKey;
-use iter::parts_follow_intervals;
-use splitter::{Cut, Piece, cut, law_of_cuts, whole};
+use pieces::joined;
 use std::alloc::Global;
 use std::fmt::Debug;
 use std::panic::Expect;
@@ -170,57 +166,6 @@ fn at(made: &Map, key: ChosenKey) -> Option<i64> {
         Some(value) => Some(**value),
         None => None,
     }
-}
-
-// The two pieces of a cut of the map.
-fn two_of<K: PathKey + Drop, V: Drop>(
-    rt: &impl Abort,
-    alloc: Global,
-    view: View<K, V>,
-) -> (Piece<K, V>, Piece<K, V>)
-    ensures { AreApart K.cmp (part K.path_of result.0.map result.0.interval) (part K.path_of result.1.map result.1.interval) }
-{
-    law_of_cuts::<K, V>();
-    parts_follow_intervals::<K, V>();
-    view.len();
-    let Ok(Cut::Two(lower, upper)) = cut(whole(alloc, view), 1) else {
-        panic!(rt; "no cut")
-    };
-    if lower.len() > 100 || upper.len() > 100 {
-        panic!(rt; "a piece of many pairs");
-    }
-    (lower, upper)
-}
-
-// The part of the piece.
-fn part_of<K: PathKey + Drop, V: Drop, B: Bulk<K, V>>(
-    rt: &impl Abort,
-    alloc: Global,
-    piece: &Piece<K, V>,
-    bulk: &B,
-) -> B::Part
-    requires { B.ready bulk.now }
-    ensures { B.answers bulk.now (part K.path_of piece.now.map piece.now.interval) result }
-{
-    work(alloc, piece, bulk).expect(rt, "no part")
-}
-
-// The parts of the two pieces of a cut, joined.
-fn joined<K: PathKey + Drop, V: Drop, B: Bulk<K, V>>(
-    rt: &impl Abort,
-    alloc: Global,
-    view: View<K, V>,
-    bulk: &B,
-) -> B::Part
-    requires { B.ready bulk.now }
-{
-    let (lower, upper) = two_of(rt, alloc, view);
-    let below = part_of(rt, alloc, &lower, bulk);
-    let above = part_of(rt, alloc, &upper, bulk);
-    drop((lower, upper));
-    let both = bulk.join(alloc, &below, &above).expect(rt, "no join");
-    drop((below, above));
-    both
 }
 
 // An answer or a part, as plain values: of a map, how many pairs it has and what it has at the three keys; of a pair

@@ -1,11 +1,11 @@
 //! Random steps, most of which have something to do.
 
 use crate::machine::Machine;
-use crate::plans::Plan;
 use crate::worker_states::Job;
 use core_steps::Move;
 use handles::Limits;
 use std::alloc::Global;
+use test_cores::Plan;
 use test_keys::{ChosenKey, PARTING_WORDS, Random};
 use test_machine::{ALL, Do, Passing, Question};
 

@@ -1,20 +1,13 @@
-//! Tests of `core_steps` through its public surface alone: worked steps of a board and of a core, each public call,
-//! steps with every request for memory refused, and many random lists of steps beside a plain program of the machine
-//! and of the boards.
+//! Tests of `core_steps` through its public surface alone: worked steps of a board and of a core, each public call, and
+//! many random lists of steps beside a plain program of the machine and of the boards.
 #![tactic(auto)]
 
 #[cfg(test)]
 mod choices;
 #[cfg(test)]
-mod client;
-#[cfg(test)]
 mod machine;
 #[cfg(test)]
 mod maps;
-#[cfg(test)]
-mod plain_outcome;
-#[cfg(test)]
-mod plans;
 #[cfg(test)]
 mod tests;
 #[cfg(test)]

@@ -1,13 +1,12 @@
 //! The machine of handles with its boards, as a plain program over lists.
 
-use crate::plain_outcome::{PlainOutcome, outcome_of};
-use crate::plans::Plan;
 use crate::worker_states::Job;
 use core_steps::Move;
 use handles::Limits;
 use std::alloc::Global;
 use std::panic::Expect;
 use std::process::Abort;
+use test_cores::{PlainOutcome, Plan, outcome_of};
 use test_machine::{PlainPair, PlainTable, Question, Request, TableOutcome};
 use versions::Refusal;
 

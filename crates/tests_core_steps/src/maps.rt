@@ -9,9 +9,6 @@ use test_machine::PlainPair;
 /// The positions from the first on and below the second.
 pub type Span = (u128, u128);
 
-/// The end of all positions.
-pub const END: u128 = 1 << 64;
-
 /// The rows whose positions lie in some of the spans.
 pub fn rows_within(
     rt: &impl Abort,

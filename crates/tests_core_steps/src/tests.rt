@@ -1,36 +1,30 @@
 //! Cores and boards beside what they should return.
 //!
-//! Most tests are a list of steps, each beside its outcome: a list is no work to prove. A step that has no memory ends
-//! its test where it stands, so that no test has values to drop on the way.
-ghost use Rattle.bulk_ops.specs.Queries.{IsReady};
-ghost use Rattle.core_steps.specs.Steps.{CanAsk, asked_by};
+//! Most tests are a list of steps, each beside its outcome. A step that has no memory ends its test where it stands.
 
 mod boards;
 mod calls;
-mod clients;
 mod kinds;
-mod memory;
 mod random;
-mod refusals;
 mod rows;
 mod twins;
 
-use crate::plain_outcome::{PlainOutcome, TestOutcome, plain_of};
-use crate::plans::{Plan, TestCore, TestStep, step_of, steps_of};
-use handles::Limits;
+use handles::{Limits, MOST_ENTRIES};
+use splitter::{MOST_GRAIN, MOST_WORKERS};
 use std::alloc::Global;
 use std::fmt::Debug;
 use std::panic::Expect;
 use std::process::Abort;
+use test_cores::{
+    Case, PlainOutcome, Plan, TestCore, TestOutcome, TestStep, plain_of, step_of, steps_of,
+};
+use versions::MOST_PAIRS;
 
 // The largest limits.
 const LARGEST: Limits = Limits {
     pairs: 1 << 24,
     entries: 1 << 20,
 };
-
-// A step, and its outcome.
-type Case = (Plan, PlainOutcome);
 
 // The plans of steps.
 fn plans_of(rt: &impl Abort, alloc: Global, rows: &[Case]) -> Vec<Plan> {
@@ -50,21 +44,28 @@ fn outcomes_of(rt: &impl Abort, alloc: Global, rows: &[Case]) -> Vec<PlainOutcom
     returned
 }
 
+// A core. No check of the crate proves what a call asks for, so it is asserted here.
+fn core_of(rt: &impl Abort, alloc: Global, limits: Limits, workers: u32, grain: u64) -> TestCore {
+    assert!(rt; 1 <= limits.pairs && limits.pairs <= MOST_PAIRS);
+    assert!(rt; 2 <= limits.entries && limits.entries <= MOST_ENTRIES);
+    assert!(rt; 1 <= workers && workers <= MOST_WORKERS);
+    assert!(rt; 1 <= grain && grain <= MOST_GRAIN);
+    TestCore::new(alloc, limits, workers, grain).expect(rt, "no core")
+}
+
 // A core with the largest limits, two workers and grain 1.
 fn core_of_two(rt: &impl Abort, alloc: Global) -> TestCore {
-    TestCore::new(alloc, LARGEST, 2, 1).expect(rt, "no core")
+    core_of(rt, alloc, LARGEST, 2, 1)
 }
 
 // What the core answers to a step.
-fn answer_to(rt: &impl Abort, alloc: Global, core: &mut TestCore, step: TestStep) -> TestOutcome
-    requires { CanAsk IsReady (asked_by step) }
-{
+fn answer_to(rt: &impl Abort, alloc: Global, core: &mut TestCore, step: TestStep) -> TestOutcome {
     core.step(alloc, step).expect(rt, "no answer")
 }
 
 // What the core returns for a step.
 fn take_step(rt: &impl Abort, alloc: Global, core: &mut TestCore, plan: Plan) -> PlainOutcome {
-    let step = step_of(rt, alloc, plan);
+    let step = step_of(alloc, plan).expect(rt, "no step");
     plain_of(&answer_to(rt, alloc, core, step))
 }
 
@@ -83,7 +84,7 @@ fn assert_run(
     plans: &[Plan],
     returned: &[PlainOutcome],
 ) {
-    let steps = steps_of(rt, alloc, plans);
+    let steps = steps_of(alloc, plans).expect(rt, "no steps");
     match core.run(alloc, steps.as_slice()) {
         Ok(trace) => assert_outcomes(rt, &trace.outcomes, returned),
         Err(_) => panic!(rt; "no memory"),
@@ -108,7 +109,7 @@ fn assert_true(rt: &impl Abort, is_so: bool) {
     assert_is(rt, is_so, true);
 }
 
-// What is seen is what is wanted. An assertion is proved wherever it is written out, so it stands here once.
+// What is seen is what is wanted.
 fn assert_is<T: PartialEq + Debug + Drop>(rt: &impl Abort, seen: T, want: T) {
     assert_eq!(rt; seen, want);
 }

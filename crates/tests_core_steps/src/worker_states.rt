@@ -1,11 +1,12 @@
 //! A job as a plain program: its frozen rows, and for each worker the spans that wait, the one that it holds and those
 //! that it has worked.
 
-use crate::maps::{END, Span, middle_of_rows, rows_within};
+use crate::maps::{Span, middle_of_rows, rows_within};
 use core_steps::{Move, Progress};
 use std::alloc::Global;
 use std::panic::Expect;
 use std::process::Abort;
+use test_cores::END;
 use test_machine::{PlainPair, Question};
 
 /// What a worker has of a job. The oldest span stands first in the queue.

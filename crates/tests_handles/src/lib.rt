@@ -1,12 +1,5 @@
-//! Tests of `handles`: what calls of a table are answered, what its jobs record and reserve, and what its laws show of
-//! calls.
+//! Tests of `handles`: what calls of a table are answered, what its jobs record and reserve, and what is foreseen.
 #![tactic(auto)]
 
-#[cfg(test)]
-mod asking;
-#[cfg(test)]
-mod plain_outcome;
-#[cfg(test)]
-mod steps;
 #[cfg(test)]
 mod tests;

@@ -1,23 +1,17 @@
 //! What calls of a table answer, by hand.
 //!
-//! Most tests are a list of steps, each beside its outcome: a list is no work to prove. A step that has no memory ends
-//! its test where it stands, so that no test has values to drop on the way.
+//! Most tests are a list of steps, each beside its outcome. A step that has no memory ends its test where it stands.
 
 mod calls;
 mod foresight;
 mod jobs;
-mod laws;
-mod memory;
-mod served;
 
-use crate::asking::Asking;
-use crate::plain_outcome::PlainOutcome;
-use crate::steps::{Do, Prepared, step_of, take};
 use handles::{Limits, MOST_ENTRIES};
 use std::alloc::Global;
 use std::fmt::Debug;
 use std::panic::Expect;
 use std::process::Abort;
+use test_tables::{Asking, Do, PlainOutcome, Prepared, step_of, take};
 use versions::MOST_PAIRS;
 
 /// The largest limits.
@@ -29,12 +23,12 @@ const LARGEST: Limits = Limits {
 /// A step, and its outcome.
 type Case = (Do, PlainOutcome);
 
-/// What is seen is what is wanted. An assertion is proved wherever it is written out, so it stands here once.
+/// What is seen is what is wanted.
 fn assert_is<T: PartialEq + Debug + Drop>(rt: &impl Abort, seen: T, want: T) {
     assert_eq!(rt; seen, want);
 }
 
-/// A table with no handles.
+/// A table with no handles. No check of the crate proves what a call asks for, so it is asserted here.
 fn table_of(rt: &impl Abort, alloc: Global, limits: Limits) -> Asking {
     assert!(rt; 1 <= limits.pairs && limits.pairs <= MOST_PAIRS);
     assert!(rt; 2 <= limits.entries && limits.entries <= MOST_ENTRIES);

@@ -1,12 +1,9 @@
 //! What maps of a few pairs answer, by hand, and many calls beside plain sorted lists.
 mod beside_list;
 mod conditions;
-mod laws;
-mod memory;
 mod nodes;
 mod operations;
-mod plain;
-mod shape;
+mod sets;
 mod stamps;
 mod texts;
 mod views;
@@ -20,8 +17,8 @@ use std::panic::Expect;
 use std::process::Abort;
 use std::sync::Arc;
 use test_keys::ChosenKey;
-use trie_node::{Condition, IfAbsent, IfEqual, IfPresent, Stamp};
-use versions::{NoMemory, Refusal, Version};
+use trie_node::Stamp;
+use versions::{MOST_PAIRS, NoMemory, Refusal, Version};
 
 // A map from texts.
 type Texts = Version<ByteText, i64>;
@@ -121,7 +118,7 @@ fn fork<K: PathKey + Drop>(
 
 // A version that maps a to 1, b to 2 and c to 3.
 fn of_three(rt: &impl Abort, alloc: Global, stamp: Stamp) -> Texts {
-    let mut version = Version::empty(alloc, 10, stamp).expect(rt, "no map");
+    let mut version = empty_at(rt, alloc, 10, stamp);
     for (at, value) in [("a", 1), ("b", 2), ("c", 3)] {
         assert_put(rt, alloc, &mut version, (at, value), Ok(None));
     }
@@ -131,14 +128,31 @@ fn of_three(rt: &impl Abort, alloc: Global, stamp: Stamp) -> Texts {
 // The version of three pairs, and the source of its stamp.
 fn started(rt: &impl Abort, alloc: Global) -> (Texts, Source) {
     let mut source = Source::new();
-    let version = of_three(rt, alloc, source.next());
+    let version = of_three(rt, alloc, next(rt, &mut source));
     (version, source)
 }
 
-// A version with no pairs, the stamp 1 and this limit.
+// A version with no pairs, this limit and this stamp. No check of the crate proves what a call asks for, so it is asserted
+// here.
+fn empty_at<K: PathKey + Drop>(
+    rt: &impl Abort,
+    alloc: Global,
+    limit: u64,
+    stamp: Stamp,
+) -> Version<K, i64> {
+    assert!(rt; 1 <= limit && limit <= MOST_PAIRS);
+    Version::empty(alloc, limit, stamp).expect(rt, "no map")
+}
+
+// The same with the stamp 1.
 fn empty<K: PathKey + Drop>(rt: &impl Abort, alloc: Global, limit: u64) -> Version<K, i64> {
-    assert!(rt; 1 <= limit && limit <= 1000);
-    Version::empty(alloc, limit, Stamp(1)).expect(rt, "no map")
+    empty_at(rt, alloc, limit, Stamp(1))
+}
+
+// The next stamp.
+fn next(rt: &impl Abort, source: &mut Source) -> Stamp {
+    assert!(rt; source.issued() < 1 << 63);
+    source.next()
 }
 
 // Whether the key is there.
@@ -235,7 +249,7 @@ fn assert_removal(
 #[test]
 fn a_new_map_is_empty(rt: HostRuntime) {
     let alloc = rt.alloc();
-    let version: Texts = Version::empty(alloc, 2, Stamp(7)).expect(&rt, "no map");
+    let version: Texts = empty_at(&rt, alloc, 2, Stamp(7));
     assert_is(&rt, (is_empty(&version), len(&version)), (true, 0));
     assert_is(&rt, limit_and_stamp(&version), (2, Stamp(7)));
     assert_own(&rt, &version, 1);
@@ -283,7 +297,7 @@ fn a_third_key_is_full_and_a_key_that_is_there_never_is(rt: HostRuntime) {
 // A version that maps a to 1, and the source of its stamp.
 fn with_one(rt: &impl Abort, alloc: Global) -> (Texts, Source) {
     let mut source = Source::new();
-    let mut version = Version::empty(alloc, 10, source.next()).expect(rt, "no map");
+    let mut version = empty_at(rt, alloc, 10, next(rt, &mut source));
     assert_put(rt, alloc, &mut version, ("a", 1), Ok(None));
     (version, source)
 }

@@ -1,5 +1,5 @@
-//! Tests of `iter` and `splitter` over keys whose path words are chosen: small maps by hand, many random ones beside
-//! plain sorted lists, and walks and cuts with every request for memory refused.
+//! Tests of `iter` and `splitter` over keys whose path words are chosen: small maps by hand, and many random ones beside
+//! plain sorted lists.
 #![tactic(auto)]
 
 #[cfg(test)]

@@ -8,7 +8,7 @@ use std::process::Abort;
 use std::sync::Arc;
 use test_keys::{ChosenKey, PARTING_WORDS, Random, position_of};
 use trie_node::Stamp;
-use versions::{Version, View};
+use versions::{MOST_PAIRS, Version, View};
 
 /// A map of the tests.
 pub type Map = Version<ChosenKey, i64>;
@@ -49,6 +49,7 @@ pub fn map_of(rt: &impl Abort, alloc: Global, paths: &[u64]) -> (Map, Vec<PlainP
 
 /// The empty map, which has room for 2,000 keys.
 pub fn empty(rt: &impl Abort, alloc: Global) -> Map {
+    assert!(rt; MOST_PAIRS >= 2_000);
     Version::empty(alloc, 2_000, Stamp(1)).expect(rt, "no map")
 }
 

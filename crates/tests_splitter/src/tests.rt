@@ -2,7 +2,6 @@
 
 mod bunches;
 mod cuts;
-mod memory;
 mod roots;
 mod small_cuts;
 mod small_walks;

@@ -4,10 +4,4 @@
 #![tactic(auto)]
 
 #[cfg(test)]
-mod outline;
-#[cfg(test)]
-mod parts;
-#[cfg(test)]
-mod test_root;
-#[cfg(test)]
 mod tests;

@@ -1,13 +1,12 @@
 //! Tests of the trie. What stands here is of those that make a trie of given keys by hand: a step that has no memory ends
-//! its test where it stands, so that no test has values to drop on the way.
+//! its test where it stands.
 
 mod conditions;
 mod filtered;
-mod holders;
 mod in_place;
+mod in_rows;
 mod lookups;
 mod maps;
-mod memory;
 mod merged;
 mod random;
 mod shapes;
@@ -15,14 +14,13 @@ mod stamps;
 mod united;
 mod values;
 
-use crate::outline::{Line, Outline, outline_of};
-use crate::test_root::TestRoot;
 use std::alloc::Global;
 use std::fmt::Debug;
 use std::panic::Expect;
 use std::process::Abort;
 use std::sync::Arc;
 use test_keys::ChosenKey;
+use test_roots::{Line, Outline, TestRoot};
 use trie_node::Stamp;
 
 /// A trie of the tests.
@@ -33,7 +31,7 @@ fn key(path: u64, id: u32) -> ChosenKey {
     ChosenKey { path, id }
 }
 
-/// What is seen is what is wanted. An assertion is proved wherever it is written out, so it stands here once.
+/// What is seen is what is wanted.
 fn assert_is<T: PartialEq + Debug + Drop>(rt: &impl Abort, seen: T, want: T) {
     assert_eq!(rt; seen, want);
 }
@@ -108,8 +106,8 @@ fn trie_of(rt: &impl Abort, alloc: Global, pairs: &[(ChosenKey, u32)]) -> Trie {
 }
 
 /// The nodes and pairs of the trie.
-fn seen(rt: &impl Abort, alloc: Global, trie: &Trie) -> Outline {
-    outline_of(alloc, trie.root()).expect(rt, "no outline")
+fn seen(rt: &impl Abort, alloc: Global, trie: &Trie) -> Outline<u32> {
+    trie.outline(alloc).expect(rt, "no outline")
 }
 
 /// The value of the key, or none.
@@ -135,20 +133,10 @@ fn assert_pairs(rt: &impl Abort, seen: &[(ChosenKey, u32)], want: &[(ChosenKey, 
     assert_eq!(rt; seen, want);
 }
 
-/// A branch in an outline.
-fn branch(depth: u32, bitmap: u32, size: u64) -> Line {
-    Line {
-        depth,
-        bitmap: Some(bitmap),
-        size,
-    }
-}
-
-/// A leaf or bucket in an outline.
-fn pairs(depth: u32, size: u64) -> Line {
-    Line {
-        depth,
-        bitmap: None,
-        size,
-    }
+/// The root has these nodes, with these stamps, and these pairs.
+fn assert_same(rt: &impl Abort, alloc: Global, trie: &Trie, before: &Outline<u32>) {
+    let now = seen(rt, alloc, trie);
+    assert_lines(rt, &now.lines, &before.lines);
+    assert_eq!(rt; now.stamps.as_slice(), before.stamps.as_slice());
+    assert_pairs(rt, &now.pairs, &before.pairs);
 }

@@ -1,4 +1,5 @@
 //! What the calls answer, by hand and by several threads at once.
+mod ahead;
 mod asked;
 mod bounded;
 mod calls;
@@ -7,9 +8,12 @@ mod crew_made;
 mod crews;
 mod drops;
 mod equality;
+mod exchanged;
 mod filled;
 mod hot_keys;
+mod in_rows;
 mod let_go;
+mod listed;
 mod made;
 mod many;
 mod many_written;

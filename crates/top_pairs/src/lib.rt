@@ -11,6 +11,3 @@ mod top_pairs;
 pub use ranked::Ranked;
 pub use scored::Scored;
 pub use top_pairs::TopPairs;
-
-#[cfg(test)]
-mod tests;

@@ -7,8 +7,7 @@ ghost use Rattle.top_pairs.specs.Merges.{Below, highest};
 use crate::scored::Scored;
 use std::alloc::Global;
 use std::marker::Model;
-use std::sync::Arc;
-use trie_node::NoMemory;
+use trie_node::{NoMemory, Shared, Slots};
 
 /// Pairs of a map with their scores, from the highest score down.
 ///
@@ -21,22 +20,26 @@ use trie_node::NoMemory;
 ///
 /// Contracts see the list of them.
 #[derive(Drop)]
-pub struct Ranked<K, V, S> {
-    items: Vec<Scored<K, V, S>>,
+pub struct Ranked<K, V, N, S: Slots<K, V> = Shared> {
+    items: Vec<Scored<K, V, N, S>>,
 }
 
-impl<K, V, S> Model for Ranked<K, V, S> {
+impl<K, V, N, S: Slots<K, V>> Model for Ranked<K, V, N, S> {
     ghost use Rattle.std.specs.Prelude.{List};
     ghost use Rattle.top_pairs.specs.Ranks.{Listed};
 
-    ghost Value = { List (Listed K V S) };
+    ghost Value = { List (Listed K V N) };
 
     ghost view = { λ ranked. ranked.items.items };
 }
 
-impl<K: Drop, V: Drop, S: Ord + Copy> Ranked<K, V, S> {
+impl<K, V, N: Ord + Copy, S: Slots<K, V>> Ranked<K, V, N, S>
+where
+    S::Key: Drop,
+    S::Value: Drop,
+{
     /// No pairs. It makes no request for memory.
-    pub(crate) fn none(alloc: Global) -> Ranked<K, V, S>
+    pub(crate) fn none(alloc: Global) -> Ranked<K, V, N, S>
         ensures { result ≡ [] }
     {
         Ranked {
@@ -65,7 +68,7 @@ impl<K: Drop, V: Drop, S: Ord + Copy> Ranked<K, V, S> {
     /// The pair at the index, from 0 for the highest score, or none beyond the last.
     ///
     /// Cost: O(1), no lock. Refused: never.
-    pub fn get(&self, index: usize) -> Option<&Scored<K, V, S>>
+    pub fn get(&self, index: usize) -> Option<&Scored<K, V, N, S>>
         ensures { option_map (λ item. item.now) result ≡ slice_get self.now index }
     {
         self.items.get(index)
@@ -74,7 +77,7 @@ impl<K: Drop, V: Drop, S: Ord + Copy> Ranked<K, V, S> {
     /// The pairs, from the highest score down.
     ///
     /// Cost: O(1), no lock. Refused: never.
-    pub fn as_slice(&self) -> &[Scored<K, V, S>]
+    pub fn as_slice(&self) -> &[Scored<K, V, N, S>]
         ensures { result.now ≡ self.now }
     {
         &self.items
@@ -87,18 +90,18 @@ impl<K: Drop, V: Drop, S: Ord + Copy> Ranked<K, V, S> {
     pub(crate) fn offer(
         &mut self,
         most: usize,
-        score: S,
-        key: &Arc<K>,
-        value: &Arc<V>,
+        score: N,
+        key: &S::Key,
+        value: &S::Value,
     ) -> Result<(), NoMemory>
-        ensures added { OnOk result (Falls S.cmp self.old → length self.old ≤ most → self.new ≡ highest S.cmp most self.old (record { score = score; key = key.now.value; value = value.now.value } ∷ [])) }
+        ensures added { OnOk result (Falls N.cmp self.old → length self.old ≤ most → self.new ≡ highest N.cmp most self.old (record { score = score; key = S.key_of key.now; value = S.value_of value.now } ∷ [])) }
         ensures err { OnErr result (self.new ≡ self.old) }
     {
         let place = place_of(&self.items, &score);
         if place >= most {
             return Ok(());
         }
-        let item = Scored::of(score, key, value)?;
+        let item: Scored<K, V, N, S> = Scored::of(score, key, value)?;
         self.items.insert(place, item)?;
         self.items.truncate(most);
         Ok(())
@@ -108,10 +111,10 @@ impl<K: Drop, V: Drop, S: Ord + Copy> Ranked<K, V, S> {
     pub(crate) fn joined(
         &self,
         alloc: Global,
-        other: &Ranked<K, V, S>,
+        other: &Ranked<K, V, N, S>,
         most: usize,
-    ) -> Result<Ranked<K, V, S>, NoMemory>
-        ensures { IfOk result (λ both. both ≡ highest S.cmp most self.now other.now) }
+    ) -> Result<Ranked<K, V, N, S>, NoMemory>
+        ensures { IfOk result (λ both. both ≡ highest N.cmp most self.now other.now) }
     {
         Ok(Ranked {
             items: merged(alloc, &self.items, &other.items, most)?,
@@ -120,10 +123,13 @@ impl<K: Drop, V: Drop, S: Ord + Copy> Ranked<K, V, S> {
 }
 
 // Where the score has its place: behind each pair that scores as high or higher.
-fn place_of<K: Drop, V: Drop, S: Ord + Copy>(items: &[Scored<K, V, S>], score: &S) -> usize
+fn place_of<K, V, N: Ord + Copy, S: Slots<K, V>>(items: &[Scored<K, V, N, S>], score: &N) -> usize
+where
+    S::Key: Drop,
+    S::Value: Drop,
     ensures bound { result ≤ length items.now }
-    ensures before { Falls S.cmp items.now → AllByRecursion (AtLeast S.cmp score.now) (take result items.now) }
-    ensures behind { Falls S.cmp items.now → AllByRecursion (Below S.cmp score.now) (drop result items.now) }
+    ensures before { Falls N.cmp items.now → AllByRecursion (AtLeast N.cmp score.now) (take result items.now) }
+    ensures behind { Falls N.cmp items.now → AllByRecursion (Below N.cmp score.now) (drop result items.now) }
 {
     let mut low = 0;
     let mut high = items.len();
@@ -139,13 +145,16 @@ fn place_of<K: Drop, V: Drop, S: Ord + Copy>(items: &[Scored<K, V, S>], score: &
 }
 
 // The `most` pairs of both lists with the highest scores.
-fn merged<K: Drop, V: Drop, S: Ord + Copy>(
+fn merged<K, V, N: Ord + Copy, S: Slots<K, V>>(
     alloc: Global,
-    left: &[Scored<K, V, S>],
-    right: &[Scored<K, V, S>],
+    left: &[Scored<K, V, N, S>],
+    right: &[Scored<K, V, N, S>],
     most: usize,
-) -> Result<Vec<Scored<K, V, S>>, NoMemory>
-    ensures { IfOk result (λ both. both.items ≡ highest S.cmp most left.now right.now) }
+) -> Result<Vec<Scored<K, V, N, S>>, NoMemory>
+where
+    S::Key: Drop,
+    S::Value: Drop,
+    ensures { IfOk result (λ both. both.items ≡ highest N.cmp most left.now right.now) }
 {
     let count = left.len().saturating_add(right.len()).min(most);
     let mut both = Vec::with_capacity(alloc, count)?;
@@ -163,17 +172,20 @@ fn merged<K: Drop, V: Drop, S: Ord + Copy>(
 }
 
 // The pair with the highest score of both lists, and what is left of them: of two alike that of the first.
-fn next_of<'a, K: Drop, V: Drop, S: Ord + Copy>(
-    first: &'a [Scored<K, V, S>],
-    second: &'a [Scored<K, V, S>],
+fn next_of<'a, K, V, N: Ord + Copy, S: Slots<K, V>>(
+    first: &'a [Scored<K, V, N, S>],
+    second: &'a [Scored<K, V, N, S>],
 ) -> Option<
     (
-        &'a Scored<K, V, S>,
-        &'a [Scored<K, V, S>],
-        &'a [Scored<K, V, S>],
+        &'a Scored<K, V, N, S>,
+        &'a [Scored<K, V, N, S>],
+        &'a [Scored<K, V, N, S>],
     ),
 >
-    ensures { MatchOption result ((first.now ≡ []) × (second.now ≡ [])) (λ next. (n : ℕ) → highest S.cmp (suc n) first.now second.now ≡ next.0.now ∷ highest S.cmp n next.1.now next.2.now) }
+where
+    S::Key: Drop,
+    S::Value: Drop,
+    ensures { MatchOption result ((first.now ≡ []) × (second.now ≡ [])) (λ next. (n : ℕ) → highest N.cmp (suc n) first.now second.now ≡ next.0.now ∷ highest N.cmp n next.1.now next.2.now) }
 {
     match (first.split_first(), second.split_first()) {
         (Some((a, _)), Some((b, rest))) if a.score().cmp(&b.score()).is_lt() => Some((

@@ -2,8 +2,7 @@
 ghost use Rattle.std.specs.Prelude.{◌≡◌, IfOk};
 
 use std::marker::Model;
-use std::sync::Arc;
-use trie_node::NoMemory;
+use trie_node::{NoMemory, Shared, Slots};
 
 /// A pair of a map with its score.
 ///
@@ -18,36 +17,44 @@ use trie_node::NoMemory;
 ///
 /// Contracts see the score, the key and the value.
 #[derive(Drop)]
-pub struct Scored<K, V, S> {
-    score: S,
-    key: Arc<K>,
-    value: Arc<V>,
+pub struct Scored<K, V, N, S: Slots<K, V> = Shared> {
+    score: N,
+    key: S::Key,
+    value: S::Value,
 }
 
-impl<K, V, S> Model for Scored<K, V, S> {
+impl<K, V, N, S: Slots<K, V>> Model for Scored<K, V, N, S> {
     ghost use Rattle.top_pairs.specs.Ranks.{Listed};
 
-    ghost Value = { Listed K V S };
+    ghost Value = { Listed K V N };
 
-    ghost view = { λ s. record { score = s.score; key = s.key.value; value = s.value.value } };
+    ghost view = { λ s. record { score = s.score; key = S.key_of s.key; value = S.value_of s.value } };
 }
 
-impl<K: Drop, V: Drop, S: Copy> Scored<K, V, S> {
+impl<K, V, N: Copy, S: Slots<K, V>> Scored<K, V, N, S>
+where
+    S::Key: Drop,
+    S::Value: Drop,
+{
     /// The pair of these handles with the score. Only the handles are cloned.
-    pub(crate) fn of(score: S, key: &Arc<K>, value: &Arc<V>) -> Result<Scored<K, V, S>, NoMemory>
-        ensures { IfOk result (λ item. item ≡ record { score = score; key = key.now.value; value = value.now.value }) }
+    pub(crate) fn of(
+        score: N,
+        key: &S::Key,
+        value: &S::Value,
+    ) -> Result<Scored<K, V, N, S>, NoMemory>
+        ensures { IfOk result (λ item. item ≡ record { score = score; key = S.key_of key.now; value = S.value_of value.now }) }
     {
         Ok(Scored {
             score,
-            key: Arc::try_clone(key)?,
-            value: Arc::try_clone(value)?,
+            key: S::another_key(key)?,
+            value: S::another_value(value)?,
         })
     }
 
     /// The score of the pair.
     ///
     /// Cost: O(1), no lock. Refused: never.
-    pub fn score(&self) -> S
+    pub fn score(&self) -> N
         ensures { result ≡ self.now.score }
     {
         self.score
@@ -56,8 +63,8 @@ impl<K: Drop, V: Drop, S: Copy> Scored<K, V, S> {
     /// A handle on the key of the pair.
     ///
     /// Cost: O(1), no lock. Refused: never.
-    pub fn key(&self) -> &Arc<K>
-        ensures { result.now.value ≡ self.now.key }
+    pub fn key(&self) -> &S::Key
+        ensures { S.key_of result.now ≡ self.now.key }
     {
         &self.key
     }
@@ -65,8 +72,8 @@ impl<K: Drop, V: Drop, S: Copy> Scored<K, V, S> {
     /// A handle on the value of the pair.
     ///
     /// Cost: O(1), no lock. Refused: never.
-    pub fn value(&self) -> &Arc<V>
-        ensures { result.now.value ≡ self.now.value }
+    pub fn value(&self) -> &S::Value
+        ensures { S.value_of result.now ≡ self.now.value }
     {
         &self.value
     }
@@ -74,7 +81,7 @@ impl<K: Drop, V: Drop, S: Copy> Scored<K, V, S> {
     /// The same pair with its score, by other handles.
     ///
     /// Cost: O(1), no lock. Refused: `NoMemory`, where a handle cannot be cloned.
-    pub fn try_clone(&self) -> Result<Scored<K, V, S>, NoMemory>
+    pub fn try_clone(&self) -> Result<Scored<K, V, N, S>, NoMemory>
         ensures { IfOk result (λ item. item ≡ self.now) }
     {
         Scored::of(self.score, &self.key, &self.value)

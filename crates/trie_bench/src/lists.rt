@@ -1,63 +1,54 @@
 //! Rounds of look-ups of several keys by one call.
 
+use crate::maps::SharedView;
 use bench_kit::{Best, Fault};
 use keys::ByteText;
-use std::alloc::Global;
+use slots::Slots;
 use std::rt::Runtime;
-use std::sync::Arc;
 use std::time::Instant;
-use trie_map::View;
 
 /// Gets each key once, at most `at_once` keys a call.
-pub fn read_lists<R: Runtime + AllocGlobal>(
+pub fn read_lists<S: Slots<ByteText, i64>, R: Runtime>(
     rt: &R,
     rounds: u32,
     name: &str,
-    view: &View<ByteText, i64>,
-    keys: &[Arc<ByteText>],
+    view: &SharedView<ByteText, S>,
+    keys: &[&ByteText],
     at_once: usize,
-) -> Result<(), Fault> {
-    let sought = sought_by(rt.alloc(), keys)?;
+) -> Result<(), Fault>
+where
+    S::Key: Drop,
+    S::Value: Drop,
+{
     let mut best = Best::new();
     let mut sum = 0;
     for _ in 0..rounds {
         let start = Instant::now(rt)?;
-        sum = get_lists(view, sought.as_slice(), at_once)?;
+        sum = get_lists(view, keys, at_once)?;
         best.count(start.elapsed(rt)?);
     }
     best.show(rt, name, 1, i128::from(sum))
 }
 
-/// The keys as look-ups take them.
-fn sought_by(alloc: Global, keys: &[Arc<ByteText>]) -> Result<Vec<&Arc<ByteText>>, Fault> {
-    let mut sought = Vec::with_capacity(alloc, keys.len())?;
-    for key in keys {
-        sought.push(key)?;
-    }
-    Ok(sought)
-}
-
 /// The sum of the values of the keys, of which each call looks up at most `at_once`.
-fn get_lists(
-    view: &View<ByteText, i64>,
-    keys: &[&Arc<ByteText>],
+fn get_lists<S: Slots<ByteText, i64>>(
+    view: &SharedView<ByteText, S>,
+    keys: &[&ByteText],
     at_once: usize,
-) -> Result<i64, Fault> {
+) -> Result<i64, Fault>
+where
+    S::Key: Drop,
+    S::Value: Drop,
+{
     let mut sum = 0i64;
     for n in 0..=keys.len() / at_once.max(1) {
         let from = n.saturating_mul(at_once).min(keys.len());
         let to = from.saturating_add(at_once).min(keys.len());
-        for value in view.get_many(&keys[from..to])? {
-            sum = sum.wrapping_add(number_of(value));
+        for found in view.get_many(&keys[from..to])? {
+            if let Some(value) = found {
+                sum = sum.wrapping_add(*S::lend_value(value));
+            }
         }
     }
     Ok(sum)
-}
-
-/// The value, 0 for none.
-fn number_of(value: Option<&Arc<i64>>) -> i64 {
-    match value {
-        Some(value) => **value,
-        None => 0,
-    }
 }

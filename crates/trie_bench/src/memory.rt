@@ -1,6 +1,6 @@
 //! How much memory the process holds.
 
-use bench_kit::Fault;
+use bench_kit::{Fault, show_figure};
 use std::fs;
 use std::rt::Runtime;
 
@@ -23,7 +23,7 @@ pub fn show_bytes<R: Runtime>(
 ) -> Result<(), Fault> {
     if let (Some(before), Some(after)) = (before, after) {
         let each = after.saturating_sub(before) / pairs.max(1);
-        rt.eprintln(format_args!("tambyulo bytes_a_pair 1 {each}"))?;
+        show_figure(rt, "bytes_a_pair", 1, u128::from(each))?;
     }
     Ok(())
 }

@@ -3,91 +3,197 @@
 use crate::arguments::Load;
 use crate::asking::ask_all;
 use crate::lists::read_lists;
-use crate::maps::Map;
+use crate::maps::{Map, shared_view};
 use crate::memory::{resident_bytes, show_bytes};
 use crate::rounds::{fill, read, remove, replace};
 use crate::wholes::{cut, merge, snapshot, view_filter, view_map_values, walk};
-use bench_kit::{Best, Fault, shuffled, text_keys};
+use bench_kit::{Best, Fault, shuffled, sought, text_keys};
 use keys::ByteText;
+use slots::Slots;
 use std::rt::Runtime;
-use std::sync::{Arc, Wait};
-use trie_map::{TrieMap, View};
 
 /// Measures a map whose keys are the texts `k0000000`, `k0000001` and so on.
-pub fn texts<R: Runtime + AllocGlobal + Wait>(rt: &R, load: Load) -> Result<(), Fault> {
-    let Load { pairs, rounds } = load;
-    let keys = text_keys(rt.alloc(), pairs)?;
-    let keys = keys.as_slice();
+pub fn texts<S: Slots<ByteText, i64>, R: Runtime + AllocGlobal>(
+    rt: &R,
+    load: Load,
+) -> Result<(), Fault>
+where
+    S::Key: Drop,
+    S::Value: Drop,
+{
+    let keys = text_keys::<S>(rt.alloc(), load.pairs)?;
+    let done = measure::<S, R>(rt, load.rounds, keys.as_slice());
+    drop(keys);
+    done
+}
+
+/// Measures a map of these keys.
+fn measure<S: Slots<ByteText, i64>, R: Runtime + AllocGlobal>(
+    rt: &R,
+    rounds: u32,
+    keys: &[S::Key],
+) -> Result<(), Fault>
+where
+    S::Key: Drop,
+    S::Value: Drop,
+{
+    let sought = sought::<ByteText, S>(rt.alloc(), keys)?;
+    let sought = sought.as_slice();
     let mut puts = Best::new();
-    fresh(rt, rounds, &mut puts, keys)?;
-    scattered(rt, rounds, &mut puts, keys)?;
-    snapshot(rt, rounds, keys)?;
-    remove(rt, rounds, "remove", keys)?;
-    merge(rt, rounds, keys)
+    fresh::<S, R>(rt, rounds, &mut puts, keys, sought)?;
+    scattered::<S, R>(rt, rounds, &mut puts, keys, sought)?;
+    snapshot::<S, R>(rt, rounds, keys)?;
+    remove::<ByteText, S, R>(rt, rounds, "remove", keys, sought)?;
+    merge::<S, R>(rt, rounds, keys)
 }
 
 /// The first map of the process, on a heap that nothing has left in pieces.
-fn fresh<R: Runtime + AllocGlobal + Wait>(
+fn fresh<S: Slots<ByteText, i64>, R: Runtime + AllocGlobal>(
     rt: &R,
     rounds: u32,
     puts: &mut Best,
-    keys: &[Arc<ByteText>],
-) -> Result<(), Fault> {
-    let in_random_order = shuffled(rt.alloc(), keys)?;
+    keys: &[S::Key],
+    sought: &[&ByteText],
+) -> Result<(), Fault>
+where
+    S::Key: Drop,
+    S::Value: Drop,
+{
+    let in_random_order = shuffled(rt.alloc(), sought)?;
     let before = resident_bytes(rt);
-    let mut map = fill(rt, puts, keys)?;
-    show_bytes(rt, before, resident_bytes(rt), map.len())?;
-    read(rt, rounds, "get", &map, keys)?;
-    let at_random = in_random_order.as_slice();
-    read(rt, rounds, "get_random", &map, at_random)?;
-    let view = shared_view(rt, &map)?;
-    read_lists(rt, rounds, "get_many_8", &view, at_random, 8)?;
-    read_lists(rt, rounds, "get_many_64", &view, at_random, 64)?;
-    drop(view);
-    replace(rt, rounds, "replace", &mut map, keys)?;
-    whole(rt, rounds, &map)
+    let mut map = fill::<ByteText, S, R>(rt, puts, keys)?;
+    let done = each_alone(
+        rt,
+        rounds,
+        before,
+        &mut map,
+        keys,
+        sought,
+        in_random_order.as_slice(),
+    );
+    drop(map);
+    done
 }
 
-/// What is done with all pairs at once.
-fn whole<R: Runtime + AllocGlobal + Wait>(
+/// What is done with a map that has the keys, one after another.
+fn each_alone<S: Slots<ByteText, i64>, R: Runtime + AllocGlobal>(
     rt: &R,
     rounds: u32,
-    map: &Map<ByteText>,
-) -> Result<(), Fault> {
-    let view = map.view()?;
-    walk(rt, rounds, &view)?;
-    cut(rt, rounds, &view)?;
-    ask_all(rt, rounds, &view)?;
-    drop(view);
-    let view = shared_view(rt, map)?;
-    view_filter(rt, rounds, &view)?;
-    view_map_values(rt, rounds, &view)
+    before: Option<u64>,
+    map: &mut Map<ByteText, S>,
+    keys: &[S::Key],
+    sought: &[&ByteText],
+    at_random: &[&ByteText],
+) -> Result<(), Fault>
+where
+    S::Key: Drop,
+    S::Value: Drop,
+{
+    show_bytes(rt, before, resident_bytes(rt), map.len())?;
+    read(rt, rounds, "get", map, sought)?;
+    read(rt, rounds, "get_random", map, at_random)?;
+    by_lists(rt, rounds, map, at_random)?;
+    replace(rt, rounds, "replace", map, keys)?;
+    walks(rt, rounds, map)?;
+    questions(rt, rounds, map)
 }
 
-/// A view of a map that threads share, with the pairs and nodes of this one.
-fn shared_view<R: Runtime + AllocGlobal + Wait>(
+/// Look-ups of several keys by one call.
+fn by_lists<S: Slots<ByteText, i64>, R: Runtime + AllocGlobal>(
     rt: &R,
-    map: &Map<ByteText>,
-) -> Result<View<ByteText, i64>, Fault> {
-    let shared = TrieMap::<ByteText, i64>::from_version(rt, map)?;
-    Ok(shared.view(rt)?)
+    rounds: u32,
+    map: &Map<ByteText, S>,
+    at_random: &[&ByteText],
+) -> Result<(), Fault>
+where
+    S::Key: Drop,
+    S::Value: Drop,
+{
+    let view = shared_view(rt.alloc(), map)?;
+    let eight = read_lists(rt, rounds, "get_many_8", &view, at_random, 8);
+    let more = read_lists(rt, rounds, "get_many_64", &view, at_random, 64);
+    drop(view);
+    eight?;
+    more
+}
+
+/// Walks and cuts of the whole map.
+fn walks<S: Slots<ByteText, i64>, R: Runtime + AllocGlobal>(
+    rt: &R,
+    rounds: u32,
+    map: &Map<ByteText, S>,
+) -> Result<(), Fault>
+where
+    S::Key: Drop,
+    S::Value: Drop,
+{
+    let plain = map.view()?;
+    let walked = walk(rt, rounds, &plain);
+    let done = cut(rt, rounds, &plain);
+    drop(plain);
+    walked?;
+    done
+}
+
+/// Questions about all pairs, and maps that are made of them.
+fn questions<S: Slots<ByteText, i64>, R: Runtime + AllocGlobal>(
+    rt: &R,
+    rounds: u32,
+    map: &Map<ByteText, S>,
+) -> Result<(), Fault>
+where
+    S::Key: Drop,
+    S::Value: Drop,
+{
+    let view = shared_view(rt.alloc(), map)?;
+    let asked = ask_all(rt, rounds, &view);
+    let filtered = view_filter(rt, rounds, &view);
+    let made = view_map_values(rt, rounds, &view);
+    drop(view);
+    asked?;
+    filtered?;
+    made
 }
 
 /// Maps on the heap that dropped maps have left, whose free blocks are scattered.
-fn scattered<R: Runtime + AllocGlobal + Wait>(
+fn scattered<S: Slots<ByteText, i64>, R: Runtime + AllocGlobal>(
     rt: &R,
     rounds: u32,
     puts: &mut Best,
-    keys: &[Arc<ByteText>],
-) -> Result<(), Fault> {
+    keys: &[S::Key],
+    sought: &[&ByteText],
+) -> Result<(), Fault>
+where
+    S::Key: Drop,
+    S::Value: Drop,
+{
     let mut again = Best::new();
     for _ in 0..rounds {
-        drop(fill(rt, &mut again, keys)?);
+        drop(fill::<ByteText, S, R>(rt, &mut again, keys)?);
     }
-    let mut map = fill(rt, &mut again, keys)?;
+    let mut map = fill::<ByteText, S, R>(rt, &mut again, keys)?;
     puts.count(again.shortest());
+    let done = each_scattered(rt, rounds, *puts, again, &mut map, keys, sought);
+    drop(map);
+    done
+}
+
+/// What is done with the last of these maps.
+fn each_scattered<S: Slots<ByteText, i64>, R: Runtime + AllocGlobal>(
+    rt: &R,
+    rounds: u32,
+    puts: Best,
+    again: Best,
+    map: &mut Map<ByteText, S>,
+    keys: &[S::Key],
+    sought: &[&ByteText],
+) -> Result<(), Fault>
+where
+    S::Key: Drop,
+    S::Value: Drop,
+{
     puts.show(rt, "put", 1, i128::from(map.len()))?;
     again.show(rt, "scattered_put", 1, i128::from(map.len()))?;
-    read(rt, rounds, "scattered_get", &map, keys)?;
-    replace(rt, rounds, "scattered_replace", &mut map, keys)
+    read(rt, rounds, "scattered_get", map, sought)?;
+    replace(rt, rounds, "scattered_replace", map, keys)
 }

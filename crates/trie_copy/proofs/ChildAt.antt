@@ -8,8 +8,7 @@ use Rattle.std.specs.FinMap.{find}
 use Rattle.std.specs.Int.{bit_at}
 use Rattle.std.specs.Int.RustNames.{count_ones}
 use Rattle.hash_path.specs.Digits.{digit, fan_out}
-use Rattle.trie_shape.specs.declared.looks.Look.TheVariants.{Branch}
-use Rattle.trie_shape.specs.Looks.{Shows}
+use Rattle.trie_shape.specs.Looks.{ShowsBitmap}
 use Rattle.trie_copy.specs.Merges.{child_among, child_at, pairs_of}
 use Rattle.trie_shape.specs.Outline.{children, list_of}
 use Rattle.trie_shape.specs.Shape.{Fits, Lacks}
@@ -47,18 +46,18 @@ module _ {K V : Type 0} where
       ap (λ e. cond e (Some t) (child_among (bs ++ d ∷ after) ts d)) (other_digit b d l.0) ∙ child_behind d bs after ts c l.1 (omega arith) is
 
   -- the place of a digit that the bitmap has is a child's
-  pub place_in : (t : Tree K V) (b d : ℕ) → d < fan_out → Fits t → Shows (Branch b) t → (bit_at b d == 1) ≡ true → count_ones (b % 2 ^ d) < length (children t)
+  pub place_in : (t : Tree K V) (b d : ℕ) → d < fan_out → Fits t → ShowsBitmap b t → (bit_at b d == 1) ≡ true → count_ones (b % 2 ^ d) < length (children t)
   place_in t b d below fits shown has =
       let a = digits_around b d below in
       let whole : digits_of b ≡ a.before ++ d ∷ a.after = a.now ∙ ap (λ e. a.before ++ cond e (d ∷ a.after) a.after) has in
       omega (arith, a.place, length-children t b fits shown, length-digits_of b (small t fits shown), ap length whole, length-append a.before (d ∷ a.after))
     where
-      small : (u : Tree K V) → Fits u → Shows (Branch b) u → b < 2 ^ fan_out
+      small : (u : Tree K V) → Fits u → ShowsBitmap b u → b < 2 ^ fan_out
       small (branch stamp size bitmap ts) f s = let P : ℕ → Type 0 = λ n. n < 2 ^ fan_out in subst P (sym s) f.0
       small (bucket stamp es) f s = absurd s
 
   -- the child there has the digit
-  pub child_in : (t : Tree K V) (b d : ℕ) → d < fan_out → Fits t → Shows (Branch b) t → (bit_at b d == 1) ≡ true → (c : Tree K V) → c ≡ get_or (children t) (count_ones (b % 2 ^ d)) c → Some c ≡ child_at t d
+  pub child_in : (t : Tree K V) (b d : ℕ) → d < fan_out → Fits t → ShowsBitmap b t → (bit_at b d == 1) ≡ true → (c : Tree K V) → c ≡ get_or (children t) (count_ones (b % 2 ^ d)) c → Some c ≡ child_at t d
   child_in (branch stamp size bitmap ts) b d below fits shown has c is =
       let a = digits_around b d below in
       let whole : digits_of b ≡ a.before ++ d ∷ a.after = a.now ∙ ap (λ e. a.before ++ cond e (d ∷ a.after) a.after) has in
@@ -68,7 +67,7 @@ module _ {K V : Type 0} where
   child_in (bucket stamp es) b d below fits shown has c is = absurd shown
 
   -- no child has a digit that the bitmap lacks
-  pub child_out : (t : Tree K V) (b d : ℕ) → d < fan_out → Shows (Branch b) t → (bit_at b d == 1) ≡ false → None ≡ child_at t d
+  pub child_out : (t : Tree K V) (b d : ℕ) → d < fan_out → ShowsBitmap b t → (bit_at b d == 1) ≡ false → None ≡ child_at t d
   child_out (branch stamp size bitmap ts) b d below shown lacks =
       let a = digits_around b d below in
       let whole : digits_of b ≡ a.before ++ a.after = a.now ∙ ap (λ e. a.before ++ cond e (d ∷ a.after) a.after) lacks in

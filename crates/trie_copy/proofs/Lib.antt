@@ -15,3 +15,4 @@ pub mod StampTests
 pub mod Taken
 pub mod Words
 pub mod Cases
+pub mod MergedPairs

@@ -12,8 +12,7 @@ use Rattle.std.proofs.lemmas.List.{append-nil, get_or_default}
 use Rattle.std.proofs.lemmas.Nat.{or_lt}
 use Rattle.std.proofs.lemmas.Nat.Bits.{bit_at_or, bit_at-suc, bit_at_lowest}
 use Rattle.hash_path.specs.Digits.{last_level, digit, digit_bits, fan_out}
-use Rattle.trie_shape.specs.declared.looks.Look.TheVariants.{Branch}
-use Rattle.trie_shape.specs.Looks.{Shows}
+use Rattle.trie_shape.specs.Looks.{ShowsBitmap}
 use Rattle.trie_copy.specs.Merges.{CanMerge, Merges, StampsPass, AllStampsPass, child_among, child_at, pairs_of}
 use Rattle.trie_shape.specs.Outline.{children}
 use Rattle.trie_shape.specs.Shape.{Fits, Lacks}
@@ -91,7 +90,7 @@ module _ {K V : Type 0} where
   all_within test (t ∷ row) c h here = (h.0, all_within test row c h.1 here)
 
   -- a branch has a child for each digit of its bitmap
-  has_child : (t : Tree K V) (b d : ℕ) → d < fan_out → Fits t → Shows (Branch b) t → is_some (child_at t d) ≡ (bit_at b d == 1)
+  has_child : (t : Tree K V) (b d : ℕ) → d < fan_out → Fits t → ShowsBitmap b t → is_some (child_at t d) ≡ (bit_at b d == 1)
   has_child t b d below fits shown = of_bit (bit_at b d == 1) refl
     where
       of_bit : (e : Bool) → (bit_at b d == 1) ≡ e → is_some (child_at t d) ≡ (bit_at b d == 1)
@@ -134,7 +133,7 @@ module _ {K V : Type 0} (R : K → K → Ordering) (path : K → ℕ) (exact : (
     pub two : 0 < level → HasTwoWords R path (entries t)
     pub within : (test : ℕ → Bool) (d : ℕ) → StampsPass test t → IfSome (child_at t d) (StampsPass test)
 
-  pub side : (b : ℕ) (t : Tree K V) → Shows (Branch b) t → IsTrie R path level t → IsSide b t
+  pub side : (b : ℕ) (t : Tree K V) → ShowsBitmap b t → IsTrie R path level t → IsSide b t
   side b (branch stamp size bitmap ts) shown trie = record {
     level_in = trie.0;
     small = let P : ℕ → Type 0 = λ n. n < 2 ^ fan_out in subst P (sym shown) trie.1;

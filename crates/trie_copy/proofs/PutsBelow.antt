@@ -15,7 +15,7 @@ use Rattle.trie_shape.proofs.Ways.{Turn, Way}
 use Rattle.trie_copy.specs.Writes.{Writes, KeysAgree}
 use Rattle.trie_copy.proofs.Branches.{puts_replaced, puts_added}
 
-module _ {K V : Type 0} {R : K → K → Ordering} {path : K → ℕ} {level : ℕ} {k : K} {b : Below K V} {d : ℕ} (t : Turn R path level k b d) where
+module _ {K V S X Y : Type 0} {R : K → K → Ordering} {path : K → ℕ} {level : ℕ} {k : K} {b : Below K V S X Y} {d : ℕ} (t : Turn R path level k b d) where
   -- a put of a leaf where no child has the digit
   pub leaf_added : IsTotalOrder R → ((x y : K) → R x y ≡ Equal → x ≡ y) → (bit_at b.bitmap d == 1) ≡ false → (before stamp : ℕ) (v : V) (new : Tree K V) →
       new ≡ branch stamp (b.size + 1) (bit_or b.bitmap (1 * 2 ^ d % 2 ^ 32)) (trees (insert (map tree b.children) (count_ones (b.bitmap % 2 ^ d)) (bucket stamp ((k, v) ∷ [])))) →
@@ -23,7 +23,7 @@ module _ {K V : Type 0} {R : K → K → Ordering} {path : K → ℕ} {level : �
   leaf_added total exact lacks before stamp v new made =
       puts_added R path total exact level stamp k v d t.here t.small before b.size b.bitmap (map tree b.children) (branch_of before b) refl t.trie lacks (bucket stamp ((k, v) ∷ [])) refl new made
 
-module _ {K V : Type 0} {R : K → K → Ordering} {path : K → ℕ} {level : ℕ} {k : K} {b : Below K V} {d i : ℕ} {child : Node K V} (w : Way R path level k b d i child) where
+module _ {K V S X Y : Type 0} {R : K → K → Ordering} {path : K → ℕ} {level : ℕ} {k : K} {b : Below K V S X Y} {d i : ℕ} {child : Node K V S X Y} (w : Way R path level k b d i child) where
   -- the keys of the child agree with the key's word one level further
   pub agree_below : {word : ℕ} → word ≡ path k → KeysAgree R path level word (entries (branch_of 0 b)) → KeysAgree R path (level + 1) word (entries (tree child))
   agree_below {word} e agree q found =

@@ -16,12 +16,12 @@ use Rattle.trie_copy.proofs.Removals.{removes_absent, removes_nothing, some_size
 use Rattle.trie_shape.proofs.Ways.{Turn, Way}
 
 -- nothing is removed where no child has the key's digit
-pub absent_below : {K V : Type 0} {R : K → K → Ordering} {path : K → ℕ} {level : ℕ} {k : K} {b : Below K V} {d : ℕ} → Turn R path level k b d → IsTotalOrder R → ((x y : K) → R x y ≡ Equal → x ≡ y) →
+pub absent_below : {K V S X Y : Type 0} {R : K → K → Ordering} {path : K → ℕ} {level : ℕ} {k : K} {b : Below K V S X Y} {d : ℕ} → Turn R path level k b d → IsTotalOrder R → ((x y : K) → R x y ≡ Equal → x ≡ y) →
     (before stamp : ℕ) (holds : Option V → Bool) → (bit_at b.bitmap d == 1) ≡ false → (None ≡ find R k (entries (branch_of before b))) × (is_removable R k holds (entries (branch_of before b)) ≡ false)
 absent_below {R = R} {path} {level} {k} {b} {d} t total exact before stamp holds lacks =
     removes_absent R path total exact level stamp k holds d t.here t.small before b.size b.bitmap (map tree b.children) (branch_of before b) refl t.trie lacks
 
-module _ {K V : Type 0} {R : K → K → Ordering} {path : K → ℕ} {level : ℕ} {k : K} {b : Below K V} {d i : ℕ} {child : Node K V} (w : Way R path level k b d i child) (total : IsTotalOrder R) (exact : (x y : K) → R x y ≡ Equal → x ≡ y)
+module _ {K V S X Y : Type 0} {R : K → K → Ordering} {path : K → ℕ} {level : ℕ} {k : K} {b : Below K V S X Y} {d i : ℕ} {child : Node K V S X Y} (w : Way R path level k b d i child) (total : IsTotalOrder R) (exact : (x y : K) → R x y ≡ Equal → x ≡ y)
     (before stamp : ℕ) (holds : Option V → Bool) where
   -- nor where nothing is removed from the child
   pub nothing_below : (found : Option V) → (found ≡ find R k (entries (tree child))) × (is_removable R k holds (entries (tree child)) ≡ false) →

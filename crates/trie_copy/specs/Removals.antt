@@ -36,7 +36,7 @@ module _ {K V : Type 0} (R : K → K → Ordering) where
     pub fewer : length (entries new) + 1 ≡ length (entries old)
 
   -- what the removal of k from a subtree answers: nothing removed, nothing left, or what is left
-  abbrev pub Removes : (K → ℕ) → ℕ → ℕ → K → (Option V → Bool) → Tree K V → Removal K V → Type 0
-  Removes path level stamp k holds old (Nothing found) = (option_map (λ v. v.now.value) found ≡ find R k (entries old)) × (is_removable k holds (entries old) ≡ false)
-  Removes path level stamp k holds old (Gone v) = IsTaken k holds old v.now.value × IsOnly k old × (0 < level)
-  Removes path level stamp k holds old (Left node v) = Leaves path level stamp k holds old v.now.value (tree node)
+  abbrev pub Removes : {S X Y : Type 0} → (K → ℕ) → ℕ → ℕ → K → (Option V → Bool) → Tree K V → Removal K V S X Y → Type 0
+  Removes path level stamp k holds old (Nothing found) = (option_map (λ p. p.now.1) found ≡ find R k (entries old)) × (is_removable k holds (entries old) ≡ false)
+  Removes path level stamp k holds old (Gone p) = IsTaken k holds old p.now.1 × IsOnly k old × (0 < level)
+  Removes path level stamp k holds old (Left node p) = Leaves path level stamp k holds old p.now.1 (tree node)

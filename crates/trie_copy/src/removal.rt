@@ -14,6 +14,7 @@ use crate::pair_removal::take_pair;
 use crate::put::Written;
 use crate::removal_outcome::Removal;
 use hash_path::{Path, PathKey, Sought};
+use slots::Slots;
 use std::alloc::Global;
 use trie_shape::{
     Always, Branch, Condition, Contents, NoMemory, Node, Stamp, has_digit, nth, open_node, place,
@@ -22,15 +23,18 @@ use trie_shape::{
 
 /// The removal of the key from a branch that stands at the level.
 #[cycle(removal)]
-fn remove_below<'a, K: PathKey + Drop, V: Drop, Q: Sought<K>, C: Condition<V>>(
+fn remove_below<'a, K: PathKey, V, S: Slots<K, V>, Q: Sought<K>, C: Condition<V>>(
     alloc: Global,
-    below: Branch<'a, K, V>,
+    below: Branch<'a, K, V, S>,
     key: Q,
     path: Path,
     stamp: Stamp,
     level: u32,
     condition: &C,
-) -> Result<Removal<'a, K, V>, NoMemory>
+) -> Result<Removal<'a, K, V, S>, NoMemory>
+where
+    S::Key: Drop,
+    S::Value: Drop,
     requires path { path.0 ≡ K.path_of (Q.key_of key) }
     requires trie { IsTrie K.cmp K.path_of level (branch_of 0 (lent below)) }
     ensures due { OnErr result (is_removable K.cmp (Q.key_of key) (C.holds condition.now) (entries (branch_of 0 (lent below.entry))) ≡ true) }
@@ -44,13 +48,13 @@ fn remove_below<'a, K: PathKey + Drop, V: Drop, Q: Sought<K>, C: Condition<V>>(
     let child = nth(below.children, at);
     match remove_at(alloc, child, key, path, stamp, level + 1, condition)? {
         Removal::Nothing(found) => Ok(Removal::Nothing(found)),
-        Removal::Gone(value) => {
+        Removal::Gone(pair) => {
             let rest = without_rest(alloc, stamp, below, digit, at, level)?;
-            Ok(Removal::Left(rest, value))
+            Ok(Removal::Left(rest, pair))
         }
-        Removal::Left(child, value) => {
+        Removal::Left(child, pair) => {
             let rest = with_rest(alloc, stamp, below, at, child, level)?;
-            Ok(Removal::Left(rest, value))
+            Ok(Removal::Left(rest, pair))
         }
     }
 }
@@ -58,15 +62,18 @@ fn remove_below<'a, K: PathKey + Drop, V: Drop, Q: Sought<K>, C: Condition<V>>(
 /// The removal of the key from a node that stands at the level. Nodes are copied only where a pair
 /// is removed.
 #[cycle(removal)]
-pub fn remove_at<'a, K: PathKey + Drop, V: Drop, Q: Sought<K>, C: Condition<V>>(
+pub fn remove_at<'a, K: PathKey, V, S: Slots<K, V>, Q: Sought<K>, C: Condition<V>>(
     alloc: Global,
-    node: &'a Node<K, V>,
+    node: &'a Node<K, V, S>,
     key: Q,
     path: Path,
     stamp: Stamp,
     level: u32,
     condition: &C,
-) -> Result<Removal<'a, K, V>, NoMemory>
+) -> Result<Removal<'a, K, V, S>, NoMemory>
+where
+    S::Key: Drop,
+    S::Value: Drop,
     requires path { path.0 ≡ K.path_of (Q.key_of key) }
     requires trie { IsTrie K.cmp K.path_of level (tree node.now) }
     ensures due { OnErr result (is_removable K.cmp (Q.key_of key) (C.holds condition.now) (entries (tree node.now)) ≡ true) }
@@ -80,15 +87,18 @@ pub fn remove_at<'a, K: PathKey + Drop, V: Drop, Q: Sought<K>, C: Condition<V>>(
 
 /// A root without the key, where the key is there and the condition holds of its value.
 /// The old root is unchanged. Where nothing is to be removed, no node is copied.
-pub fn removed_where<'a, K: PathKey + Drop, V: Drop, Q: Sought<K>, C: Condition<V>>(
+pub fn removed_where<'a, K: PathKey, V, S: Slots<K, V>, Q: Sought<K>, C: Condition<V>>(
     alloc: Global,
-    node: &'a Node<K, V>,
+    node: &'a Node<K, V, S>,
     key: Q,
     stamp: Stamp,
     condition: &C,
-) -> Result<Written<'a, K, V>, NoMemory>
+) -> Result<Written<'a, K, V, S>, NoMemory>
+where
+    S::Key: Drop,
+    S::Value: Drop,
     requires root { IsRoot K.cmp K.path_of (tree node.now) }
-    ensures previous { IfOk result (λ w. option_map (λ v. v.now.value) w.previous ≡ value_at K.cmp (map_of K.cmp (tree node.now)) (Q.key_of key)) }
+    ensures previous { IfOk result (λ w. option_map (λ p. p.now.1) w.previous ≡ value_at K.cmp (map_of K.cmp (tree node.now)) (Q.key_of key)) }
     ensures written { IfOk result (λ w. is_some w.root ≡ (is_some (value_at K.cmp (map_of K.cmp (tree node.now)) (Q.key_of key)) && C.holds condition.now (value_at K.cmp (map_of K.cmp (tree node.now)) (Q.key_of key)))) }
     // Memory is requested only where a pair is to be removed.
     ensures due { OnErr result ((is_some (value_at K.cmp (map_of K.cmp (tree node.now)) (Q.key_of key)) && C.holds condition.now (value_at K.cmp (map_of K.cmp (tree node.now)) (Q.key_of key))) ≡ true) }
@@ -100,21 +110,24 @@ pub fn removed_where<'a, K: PathKey + Drop, V: Drop, Q: Sought<K>, C: Condition<
             previous,
         }),
         Removal::Gone(_) => unreachable!(),
-        Removal::Left(root, value) => Ok(Written {
+        Removal::Left(root, pair) => Ok(Written {
             root: Some(root),
-            previous: Some(value),
+            previous: Some(pair),
         }),
     }
 }
 
 /// A root without the key: another handle on the old root where the key is absent.
 /// The old root is unchanged.
-pub fn with_removed<K: PathKey + Drop, V: Drop, Q: Sought<K>>(
+pub fn with_removed<K: PathKey, V, S: Slots<K, V>, Q: Sought<K>>(
     alloc: Global,
-    node: &Node<K, V>,
+    node: &Node<K, V, S>,
     key: Q,
     stamp: Stamp,
-) -> Result<Node<K, V>, NoMemory>
+) -> Result<Node<K, V, S>, NoMemory>
+where
+    S::Key: Drop,
+    S::Value: Drop,
     requires root { IsRoot K.cmp K.path_of (tree node.now) }
     ensures root { IfOk result (λ n. IsRoot K.cmp K.path_of (tree n)) }
     ensures map { IfOk result (λ n. map_of K.cmp (tree n) ≡ without K.cmp (map_of K.cmp (tree node.now)) (Q.key_of key)) }

@@ -1,16 +1,15 @@
 //! What a removal did to a subtree.
 
-use std::alloc::Global;
-use std::sync::Arc;
+use slots::{Pair, Shared, Slots};
 use trie_shape::Node;
 
 /// What a removal did to a subtree.
 #[derive(Drop)]
-pub enum Removal<'a, K, V> {
-    /// Nothing was removed. It has the key's value, if the key is there.
-    Nothing(Option<&'a Arc<V, Global>>),
-    /// The pair was the only one. It had this value.
-    Gone(&'a Arc<V, Global>),
-    /// The node is left, without the pair. It had this value.
-    Left(Node<K, V>, &'a Arc<V, Global>),
+pub enum Removal<'a, K, V, S: Slots<K, V> = Shared> {
+    /// Nothing was removed. It has the key's pair, if the key is there.
+    Nothing(Option<&'a Pair<K, V, S>>),
+    /// The pair was the only one. It is lent.
+    Gone(&'a Pair<K, V, S>),
+    /// The node is left, without the pair, which is lent.
+    Left(Node<K, V, S>, &'a Pair<K, V, S>),
 }

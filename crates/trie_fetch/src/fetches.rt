@@ -1,22 +1,22 @@
-//! What is read of a pair: the count that stands beside the key or the value.
+//! What is read of a pair: of a handle the count that stands beside the key or the value.
 //!
 //! The count lies in one block with what it counts the handles of, so both come from memory by one read. An atomic
-//! load is kept by the compiler, where a plain one with no use is not.
+//! load is kept by the compiler, where a plain one with no use is not. Of what lies in the row nothing is read.
 
-use std::sync::Arc;
+use slots::{Pair, Slots};
 
 /// Which counts of a pair are read.
 pub trait Fetches {
     /// Reads them.
-    fn fetch<K, V>(pair: &(Arc<K>, Arc<V>));
+    fn fetch<K, V, S: Slots<K, V>>(pair: &Pair<K, V, S>);
 }
 
 /// The counts of keys.
 pub struct Keys;
 
 impl Fetches for Keys {
-    fn fetch<K, V>(pair: &(Arc<K>, Arc<V>)) {
-        let _ = Arc::strong_count(&pair.0);
+    fn fetch<K, V, S: Slots<K, V>>(pair: &Pair<K, V, S>) {
+        pair.fetch_key();
     }
 }
 
@@ -24,8 +24,8 @@ impl Fetches for Keys {
 pub struct Values;
 
 impl Fetches for Values {
-    fn fetch<K, V>(pair: &(Arc<K>, Arc<V>)) {
-        let _ = Arc::strong_count(&pair.1);
+    fn fetch<K, V, S: Slots<K, V>>(pair: &Pair<K, V, S>) {
+        pair.fetch_value();
     }
 }
 
@@ -33,14 +33,14 @@ impl Fetches for Values {
 pub struct KeysAndValues;
 
 impl Fetches for KeysAndValues {
-    fn fetch<K, V>(pair: &(Arc<K>, Arc<V>)) {
-        let _ = Arc::strong_count(&pair.0);
-        let _ = Arc::strong_count(&pair.1);
+    fn fetch<K, V, S: Slots<K, V>>(pair: &Pair<K, V, S>) {
+        pair.fetch_key();
+        pair.fetch_value();
     }
 }
 
 /// Reads the counts of the first of some pairs.
-pub(crate) fn fetch_first<F: Fetches, K, V>(pairs: &[(Arc<K>, Arc<V>)]) {
+pub(crate) fn fetch_first<F: Fetches, K, V, S: Slots<K, V>>(pairs: &[Pair<K, V, S>]) {
     if let Some(pair) = pairs.first() {
         F::fetch(pair);
     }

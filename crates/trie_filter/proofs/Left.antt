@@ -10,10 +10,10 @@ use Rattle.std.specs.Cmp.{IsTotalOrder}
 use Rattle.std.specs.FinMap.{find}
 use Rattle.std.specs.Int.RustNames.{count_ones}
 use Rattle.hash_path.specs.Digits.{digit, last_level}
+use Rattle.std.specs.Borrow.{Bor}
 use Rattle.trie_copy.specs.Merges.{StampsPass, pairs_of}
 use Rattle.trie_copy.proofs.StampTests.{pass_listed}
-use Rattle.trie_shape.specs.declared.looks.Look.TheVariants.{Branch, Pairs}
-use Rattle.trie_shape.specs.Looks.{Shows}
+use Rattle.trie_shape.specs.Looks.{ShowsBitmap, ShowsPairs}
 use Rattle.trie_shape.specs.Roots.{map_of, word_of}
 use Rattle.trie_shape.specs.Shape.{nodes}
 use Rattle.trie_shape.specs.Tree.{Tree, branch, bucket, Trees, no_trees, more_trees, trees, digits_of, entries, entries_of_all, HasTwoWords, IsTrie, AreTries}
@@ -99,23 +99,23 @@ module _ {K V : Type 0} (R : K → K → Ordering) (path : K → ℕ) (total : I
       own_stamp,
     )
 
-    pub pairs_left : (ps : _) (t : Tree K V) (o : Option (Tree K V)) → Shows (Pairs ps) t → IsTrie R path level t → PairsLeft gives stamp (map pair_values ps.now) o → IsLeft R path gives level stamp t o
+    pub pairs_left : (ps : Bor (List (K × V))) (t : Tree K V) (o : Option (Tree K V)) → ShowsPairs ps.now t → IsTrie R path level t → PairsLeft gives stamp (map pair_values ps.now) o → IsLeft R path gives level stamp t o
     pairs_left ps (branch s n bitmap ts) o shown trie h = absurd shown
     pairs_left ps (bucket old es) o shown trie h =
         let chosen : AreChosen gives es (pairs_of o) = subst (λ xs. AreChosen gives xs (pairs_of o)) shown h.0 in
         (chosen, subst (λ x. IfSome x (λ u. IsTrie R path level u × (0 < length (entries u)) × StampsPass (is_stamp stamp) u)) (sym h.1) (node_left old es (pairs_of o) trie chosen))
 
   -- where a branch stands, and where no leaf or bucket does
-  pub branch_depth : (level : ℕ) (t : Tree K V) (b : ℕ) → Shows (Branch b) t → IsTrie R path level t → level ≤ last_level
+  pub branch_depth : (level : ℕ) (t : Tree K V) (b : ℕ) → ShowsBitmap b t → IsTrie R path level t → level ≤ last_level
   branch_depth level (branch s n bitmap ts) b shown trie = trie.0
   branch_depth level (bucket s es) b shown trie = absurd shown
 
-  pub pairs_depth : (t : Tree K V) (ps : _) → Shows (Pairs ps) t → IsTrie R path 0 t → ⊥
+  pub pairs_depth : (t : Tree K V) (ps : Bor (List (K × V))) → ShowsPairs ps.now t → IsTrie R path 0 t → ⊥
   pairs_depth (branch s n bitmap ts) ps shown trie = absurd shown
   pairs_depth (bucket s es) ps shown trie = omega (arith, trie.0)
 
   -- 3. A row has a child for each digit of its bitmap.
-  pub row_counted : (gives : K → V → Bool → Type 0) (level stamp : ℕ) (es : List (K × V)) (b size : ℕ) (ns : List (Node K V)) → IsRow R path gives level stamp es b size (map tree ns) → length ns ≡ count_ones b
+  pub row_counted : {S X Y : Type 0} (gives : K → V → Bool → Type 0) (level stamp : ℕ) (es : List (K × V)) (b size : ℕ) (ns : List (Node K V S X Y)) → IsRow R path gives level stamp es b size (map tree ns) → length ns ≡ count_ones b
   row_counted gives level stamp es b size ns h = sym (length-map ns tree) ∙ are_tries_long R path level (digits_of b) (map tree ns) h.tries ∙ length-digits_of b h.small
 
   -- 4. The root.

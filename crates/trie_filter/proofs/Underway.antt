@@ -4,8 +4,7 @@ use Rattle.std.proofs.lemmas.List.{append-nil, drop_more, length-append, take_al
 use Rattle.std.specs.declared.cmp.Ordering.{Ordering}
 use Rattle.hash_path.specs.Digits.{fan_out}
 use Rattle.trie_copy.specs.Merges.{AllStampsPass, StampsPass}
-use Rattle.trie_shape.specs.declared.looks.Look.TheVariants.{Branch}
-use Rattle.trie_shape.specs.Looks.{Shows}
+use Rattle.trie_shape.specs.Looks.{ShowsBitmap}
 use Rattle.trie_shape.specs.Outline.{children, list_of}
 use Rattle.trie_shape.specs.Tree.{Tree, branch, bucket, Trees, no_trees, more_trees, trees, digits_of, entries, entries_of_all, KeysHaveDigit, IsTrie, AreTries}
 use Rattle.trie_shape.proofs.Empty.{no_digits}
@@ -36,7 +35,7 @@ module _ {K V : Type 0} where
       omega (arith, taken_fewer n ts, length-append (entries t) (entries_of_all (trees (take n ts))), length-append (entries t) (entries_of_all (trees ts)))
 
   -- a branch has the pairs of its children
-  entries_children : (t : Tree K V) (b : ℕ) → Shows (Branch b) t → entries_of_all (trees (children t)) ≡ entries t
+  entries_children : (t : Tree K V) (b : ℕ) → ShowsBitmap b t → entries_of_all (trees (children t)) ≡ entries t
   entries_children (branch s n bitmap ts) b shown = ap entries_of_all (trees_list ts)
   entries_children (bucket s es) b shown = absurd shown
 
@@ -82,7 +81,7 @@ module _ {K V : Type 0} (R : K → K → Ordering) (path : K → ℕ) (gives : K
     pub small : b < 2 ^ low
     pub rising : Rising low (digits_of rest)
 
-  pub underway_start : (t : Tree K V) (b : ℕ) → Shows (Branch b) t → IsTrie R path level t → IsUnderway t 0 b 0 0 []
+  pub underway_start : (t : Tree K V) (b : ℕ) → ShowsBitmap b t → IsTrie R path level t → IsUnderway t 0 b 0 0 []
   underway_start (branch s n bitmap ts) b shown trie = record {
     so_far = row_start;
     left = subst (λ x. AreTries R path level (digits_of x) (trees (list_of ts))) (sym shown) (subst (AreTries R path level (digits_of bitmap)) (sym (trees_list ts)) trie.3);
@@ -116,7 +115,7 @@ module _ {K V : Type 0} (R : K → K → Ordering) (path : K → ℕ) (gives : K
         of_digits (d ∷ ds) g = g.1
 
     -- there is room for what is left of it
-    pub room : (b2 : ℕ) → Shows (Branch b2) t → (c : Tree K V) → AreChosen gives (entries u) (entries c) → size + length (entries c) ≤ length (entries t)
+    pub room : (b2 : ℕ) → ShowsBitmap b2 t → (c : Tree K V) → AreChosen gives (entries u) (entries c) → size + length (entries c) ≤ length (entries t)
     room b2 shown c chosen =
         omega (
           arith,
@@ -157,6 +156,6 @@ module _ {K V : Type 0} (R : K → K → Ordering) (path : K → ℕ) (gives : K
           }))
 
   -- all children are done
-  pub underway_done : (t : Tree K V) (n rest b size b2 : ℕ) (row : List (Tree K V)) → Shows (Branch b2) t → length (children t) ≤ n → IsUnderway t n rest b size row → IsRow R path gives level stamp (entries t) b size row
+  pub underway_done : (t : Tree K V) (n rest b size b2 : ℕ) (row : List (Tree K V)) → ShowsBitmap b2 t → length (children t) ≤ n → IsUnderway t n rest b size row → IsRow R path gives level stamp (entries t) b size row
   underway_done t n rest b size b2 row shown most h =
       subst (λ es. IsRow R path gives level stamp es b size row) (ap (λ ts. entries_of_all (trees ts)) (take_all n (children t) most) ∙ entries_children t b2 shown) h.so_far

@@ -9,27 +9,32 @@ ghost use Rattle.trie_shape.specs.Tree.{branch, entries, trees};
 ghost use Rattle.trie_shape.specs.View.{tree};
 
 use crate::few::Few;
+use slots::Slots;
 use std::alloc::Global;
 use trie_node::{Look, NoMemory, Node, Stamp, look, size};
 use trie_shape::make_branch;
 
 /// The children in the order of their digits, how many pairs they have, and the bitmap of their digits.
 #[derive(Drop)]
-pub(crate) struct NewBranch<K, V> {
-    pub(crate) children: Few<Node<K, V>>,
+pub(crate) struct NewBranch<K, V, S: Slots<K, V>> {
+    pub(crate) children: Few<Node<K, V, S>>,
     pub(crate) size: u64,
     pub(crate) bitmap: u32,
 }
 
-impl<K: Drop, V: Drop> NewBranch<K, V> {
+impl<K, V, S: Slots<K, V>> NewBranch<K, V, S>
+where
+    S::Key: Drop,
+    S::Value: Drop,
+{
     /// The children and one more, whose digit is above theirs.
     pub(crate) fn with(
         self,
         alloc: Global,
         room: usize,
         digit: u32,
-        child: Node<K, V>,
-    ) -> Result<NewBranch<K, V>, NoMemory>
+        child: Node<K, V, S>,
+    ) -> Result<NewBranch<K, V, S>, NoMemory>
         requires few { IsFew self.children }
         requires digit { digit < fan_out }
         requires fits { Fits (tree child) }
@@ -50,7 +55,7 @@ impl<K: Drop, V: Drop> NewBranch<K, V> {
     }
 
     /// A branch of the children, which are as many as the bitmap has digits.
-    pub(crate) fn into_branch(self, alloc: Global, stamp: Stamp) -> Result<Node<K, V>, NoMemory>
+    pub(crate) fn into_branch(self, alloc: Global, stamp: Stamp) -> Result<Node<K, V, S>, NoMemory>
         requires { length (items_of self.children) ≡ count_ones self.bitmap }
         ensures { IfOk result (λ n. tree n ≡ branch stamp.0 self.size self.bitmap (trees (map tree (items_of self.children)))) }
     {
@@ -70,7 +75,7 @@ impl<K: Drop, V: Drop> NewBranch<K, V> {
         self,
         alloc: Global,
         stamp: Stamp,
-    ) -> Result<Option<Node<K, V>>, NoMemory>
+    ) -> Result<Option<Node<K, V, S>>, NoMemory>
         requires few { IsFew self.children }
         requires count { length (items_of self.children) ≡ count_ones self.bitmap }
         ensures { IfOk result (λ o. option_map tree o ≡ drawn_up stamp.0 self.size self.bitmap (map tree (items_of self.children))) }

@@ -12,7 +12,7 @@ use Rattle.trie_shape.specs.View.{tree, Below, branch_of}
 use Rattle.trie_shape.specs.declared.node.Node.{Node}
 use Rattle.trie_shape.proofs.Tries.{at_child, one_child}
 
-module _ {K V : Type 0} (R : K → K → Ordering) (path : K → ℕ) (level : ℕ) (b : Below K V) (trie : IsTrie R path level (branch_of 0 b)) {d : ℕ} (small : d < fan_out) (has : (bit_at b.bitmap d == 1) ≡ true) {i : ℕ} (place : i ≡ count_ones (b.bitmap % 2 ^ d)) where
+module _ {K V S X Y : Type 0} (R : K → K → Ordering) (path : K → ℕ) (level : ℕ) (b : Below K V S X Y) (trie : IsTrie R path level (branch_of 0 b)) {d : ℕ} (small : d < fan_out) (has : (bit_at b.bitmap d == 1) ≡ true) {i : ℕ} (place : i ≡ count_ones (b.bitmap % 2 ^ d)) where
   -- its place is one of the children's
   pub child_within : i < length b.children
   child_within =
@@ -20,7 +20,7 @@ module _ {K V : Type 0} (R : K → K → Ordering) (path : K → ℕ) (level : �
       omega (arith, place, c.around.place, c.long, ap length c.whole, length-append c.front (c.child ∷ c.back), length-map b.children tree)
 
   -- it is a trie from the next level on, and finds what the branch finds for the keys of the word
-  pub child_leads : (exact : (x y : K) → R x y ≡ Equal → x ≡ y) {child : Node K V} → child ≡ get_or b.children i child → {word : ℕ} → d ≡ digit word level
+  pub child_leads : (exact : (x y : K) → R x y ≡ Equal → x ≡ y) {child : Node K V S X Y} → child ≡ get_or b.children i child → {word : ℕ} → d ≡ digit word level
       → (level < word_digits) × IsTrie R path (level + 1) (tree child) × ((k : K) → word ≡ path k → find R k (entries (branch_of 0 b)) ≡ find R k (entries (tree child)))
   child_leads exact {child} is {word} digits =
       let ts = map tree b.children in

@@ -8,10 +8,10 @@ use Rattle.trie_shape.specs.View.{tree, pair_values}
 use Rattle.trie_lookups.specs.declared.step.Step.{Step}
 use Rattle.trie_lookups.specs.declared.step.Step.TheVariants.{Child, Pairs, Nothing}
 
-module _ {K V : Type 0} (R : K → K → Ordering) (path : K → ℕ) where
+module _ {K V S X Y : Type 0} (R : K → K → Ordering) (path : K → ℕ) where
   -- a child is a trie from the next level on, and finds what the node finds; the pairs of a leaf or bucket are all that it
   -- has, in order; and where there is nothing, the node has none of these keys
-  abbrev pub Leads : ℕ → ℕ → Tree K V → Step K V → Type 0
+  abbrev pub Leads : ℕ → ℕ → Tree K V → Step K V S X Y → Type 0
   Leads level word t (Child node) = (level < word_digits) × IsTrie R path (level + 1) (tree node.now) × ((k : K) → word ≡ path k → find R k (entries t) ≡ find R k (entries (tree node.now)))
   Leads level word t (Pairs ps) = (entries t ≡ map pair_values ps.now) × T (is_sorted R (map pair_values ps.now))
   Leads level word t Nothing = (k : K) → word ≡ path k → find R k (entries t) ≡ None

@@ -8,8 +8,8 @@ ghost use Rattle.trie_shape.specs.View.{tree};
 use crate::way::Way;
 use arrayvec::ArrayVec;
 use hash_path::{PathKey, Sought, WORD_DIGITS};
+use slots::Slots;
 use std::alloc::Global;
-use std::sync::Arc;
 use trie_shape::{NoMemory, Node};
 
 /// How many keys go down side by side.
@@ -17,10 +17,12 @@ const AT_ONCE: usize = 8;
 
 /// Look-ups that go down side by side. They lie in the call itself, and take no memory. A place holds an option, since
 /// it has to hold something from the start.
-type Ways<'a, 'k, K, V, Q> = ArrayVec<Option<Way<'a, 'k, K, V, Q>>, AT_ONCE>;
+type Ways<'a, 'k, K, V, S, Q> = ArrayVec<Option<Way<'a, 'k, K, V, S, Q>>, AT_ONCE>;
 
 /// Takes each look-up down by one level, and says whether one of them went.
-fn go_down<'a, 'k, K: PathKey, V, Q: Sought<K>>(ways: &mut [Option<Way<'a, 'k, K, V, Q>>]) -> bool
+fn go_down<'a, 'k, K: PathKey, V, S: Slots<K, V>, Q: Sought<K>>(
+    ways: &mut [Option<Way<'a, 'k, K, V, S, Q>>],
+) -> bool
     ensures { ways.new ≡ ways.old }
 {
     let mut went = false;
@@ -35,7 +37,9 @@ fn go_down<'a, 'k, K: PathKey, V, Q: Sought<K>>(ways: &mut [Option<Way<'a, 'k, K
 }
 
 /// Takes look-ups down, level by level, until none goes any further.
-fn go_to_ends<'a, 'k, K: PathKey, V, Q: Sought<K>>(ways: &mut [Option<Way<'a, 'k, K, V, Q>>])
+fn go_to_ends<'a, 'k, K: PathKey, V, S: Slots<K, V>, Q: Sought<K>>(
+    ways: &mut [Option<Way<'a, 'k, K, V, S, Q>>],
+)
     ensures { ways.new ≡ ways.old }
 {
     for _ in 0..WORD_DIGITS {
@@ -46,11 +50,11 @@ fn go_to_ends<'a, 'k, K: PathKey, V, Q: Sought<K>>(ways: &mut [Option<Way<'a, 'k
 }
 
 /// Takes look-ups to their ends, and appends what they find.
-fn end<'a, 'k, K: PathKey, V, Q: Sought<K>>(
-    ways: &mut Ways<'a, 'k, K, V, Q>,
-    answers: &mut Vec<Option<&'a Arc<V>>>,
+fn end<'a, 'k, K: PathKey, V, S: Slots<K, V>, Q: Sought<K>>(
+    ways: &mut Ways<'a, 'k, K, V, S, Q>,
+    answers: &mut Vec<Option<&'a S::Value>>,
 ) -> Result<(), NoMemory>
-    ensures answers { OnOk result (map (option_map (λ value. value.now.value)) answers.new.items ≡ map (option_map (λ value. value.now.value)) answers.old.items ++ flat_map option_to_list ways.old.items) }
+    ensures answers { OnOk result (map (option_map (λ value. S.value_of value.now)) answers.new.items ≡ map (option_map (λ value. S.value_of value.now)) answers.old.items ++ flat_map option_to_list ways.old.items) }
     ensures none { OnOk result (ways.new.items ≡ []) }
 {
     go_to_ends(ways.as_mut_slice());
@@ -67,13 +71,13 @@ fn end<'a, 'k, K: PathKey, V, Q: Sought<K>>(
 ///
 /// Several keys are looked up side by side, so a key takes less time than by `find` where the nodes have to be fetched
 /// from memory. A key may stand twice. No memory is requested but for the list.
-pub fn find_many<'a, K: PathKey, V, Q: Sought<K>>(
+pub fn find_many<'a, K: PathKey, V, S: Slots<K, V>, Q: Sought<K>>(
     alloc: Global,
-    root: &'a Node<K, V>,
+    root: &'a Node<K, V, S>,
     keys: &[Q],
-) -> Result<Vec<Option<&'a Arc<V>>>, NoMemory>
+) -> Result<Vec<Option<&'a S::Value>>, NoMemory>
     requires { IsRoot K.cmp K.path_of (tree root.now) }
-    ensures { IfOk result (λ answers. map (option_map (λ value. value.now.value)) answers.items ≡ map (λ key. value_at K.cmp (map_of K.cmp (tree root.now)) (Q.key_of key)) keys.now) }
+    ensures { IfOk result (λ answers. map (option_map (λ value. S.value_of value.now)) answers.items ≡ map (λ key. value_at K.cmp (map_of K.cmp (tree root.now)) (Q.key_of key)) keys.now) }
 {
     let mut answers = Vec::with_capacity(alloc, keys.len())?;
     let mut ways = ArrayVec::new();

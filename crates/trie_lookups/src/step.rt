@@ -5,26 +5,26 @@ ghost use Rattle.trie_shape.specs.View.{branch_of, tree};
 ghost use Rattle.trie_lookups.specs.Steps.{Leads};
 
 use hash_path::{Path, PathKey};
-use std::sync::Arc;
+use slots::{Pair, Slots};
 use trie_shape::{Branch, Contents, Node, has_digit, nth, open_node, place};
 
 /// Where a path leads from a node.
 #[derive(Drop)]
-pub(crate) enum Step<'a, K, V> {
+pub(crate) enum Step<'a, K, V, S: Slots<K, V>> {
     /// To a child of a branch. The child has not been read yet.
-    Child(&'a Node<K, V>),
+    Child(&'a Node<K, V, S>),
     /// Nowhere: it has come to a leaf or a bucket, which has these pairs.
-    Pairs(&'a [(Arc<K>, Arc<V>)]),
+    Pairs(&'a [Pair<K, V, S>]),
     /// Nowhere: the branch has no child of its digit.
     Nothing,
 }
 
 /// Where a path leads from a node that stands at the level.
-pub(crate) fn step_from<'a, K: PathKey, V>(
-    node: &'a Node<K, V>,
+pub(crate) fn step_from<'a, K: PathKey, V, S: Slots<K, V>>(
+    node: &'a Node<K, V, S>,
     path: Path,
     level: u32,
-) -> Step<'a, K, V>
+) -> Step<'a, K, V, S>
     requires { IsTrie K.cmp K.path_of level (tree node.now) }
     ensures { Leads K.cmp K.path_of level path.0 (tree node.now) result }
 {
@@ -35,7 +35,11 @@ pub(crate) fn step_from<'a, K: PathKey, V>(
 }
 
 /// Where a path leads from a branch that stands at the level.
-fn step_below<'a, K: PathKey, V>(below: Branch<'a, K, V>, path: Path, level: u32) -> Step<'a, K, V>
+fn step_below<'a, K: PathKey, V, S: Slots<K, V>>(
+    below: Branch<'a, K, V, S>,
+    path: Path,
+    level: u32,
+) -> Step<'a, K, V, S>
     requires { IsTrie K.cmp K.path_of level (branch_of 0 (lent below)) }
     ensures { Leads K.cmp K.path_of level path.0 (branch_of 0 (lent below.entry)) result }
 {

@@ -8,21 +8,21 @@ ghost use Rattle.trie_shape.specs.View.{tree};
 
 use crate::step::{Step, step_from};
 use hash_path::{Path, PathKey, Sought};
+use slots::{Pair, Slots};
 use std::marker::Model;
-use std::sync::Arc;
 use trie_shape::{Node, find_pair};
 
 /// The look-up of one key, from the root down to where it has come. Contracts see it as the value that it will find,
 /// or none: so no step changes it.
 #[derive(Drop)]
-pub(crate) struct Way<'a, 'k, K: PathKey, V, Q: Sought<K>> {
-    node: &'a Node<K, V>,
+pub(crate) struct Way<'a, 'k, K: PathKey, V, S: Slots<K, V>, Q: Sought<K>> {
+    node: &'a Node<K, V, S>,
     level: u32,
     path: Path,
     key: &'k Q,
 }
 
-impl<'a, 'k, K: PathKey, V, Q: Sought<K>> Model for Way<'a, 'k, K, V, Q> {
+impl<'a, 'k, K: PathKey, V, S: Slots<K, V>, Q: Sought<K>> Model for Way<'a, 'k, K, V, S, Q> {
     ghost use Rattle.std.specs.Prelude.{◌≡◌, Option};
     ghost use Rattle.std.specs.FinMap.{find};
     ghost use Rattle.trie_shape.specs.Tree.{IsTrie, entries};
@@ -35,9 +35,9 @@ impl<'a, 'k, K: PathKey, V, Q: Sought<K>> Model for Way<'a, 'k, K, V, Q> {
     ghost invariant = { λ a. IsTrie K.cmp K.path_of a.level (tree a.node.now) × (a.path.0 ≡ K.path_of (Q.key_of a.key.now)) };
 }
 
-impl<'a, 'k, K: PathKey, V, Q: Sought<K>> Way<'a, 'k, K, V, Q> {
+impl<'a, 'k, K: PathKey, V, S: Slots<K, V>, Q: Sought<K>> Way<'a, 'k, K, V, S, Q> {
     /// The look-up of a key at its begin. The key is hashed here, and nowhere else.
-    pub(crate) fn from_root(root: &'a Node<K, V>, key: &'k Q) -> Way<'a, 'k, K, V, Q>
+    pub(crate) fn from_root(root: &'a Node<K, V, S>, key: &'k Q) -> Way<'a, 'k, K, V, S, Q>
         requires { IsRoot K.cmp K.path_of (tree root.now) }
         ensures { result ≡ value_at K.cmp (map_of K.cmp (tree root.now)) (Q.key_of key.now) }
     {
@@ -66,27 +66,27 @@ impl<'a, 'k, K: PathKey, V, Q: Sought<K>> Way<'a, 'k, K, V, Q> {
     }
 
     /// The value of the key, or none.
-    pub(crate) fn answer(&self) -> Option<&'a Arc<V>>
-        ensures { option_map (λ value. value.now.value) result ≡ self.now }
+    pub(crate) fn answer(&self) -> Option<&'a S::Value>
+        ensures { option_map (λ value. S.value_of value.now) result ≡ self.now }
     {
         find_from(self.node, *self.key, self.path, self.level)
     }
 }
 
 /// The value of a key below a node that stands at the level, or none.
-fn find_from<'a, K: PathKey, V, Q: Sought<K>>(
-    node: &'a Node<K, V>,
+fn find_from<'a, K: PathKey, V, S: Slots<K, V>, Q: Sought<K>>(
+    node: &'a Node<K, V, S>,
     key: Q,
     path: Path,
     level: u32,
-) -> Option<&'a Arc<V>>
+) -> Option<&'a S::Value>
     requires trie { IsTrie K.cmp K.path_of level (tree node.now) }
     requires path { path.0 ≡ K.path_of (Q.key_of key) }
-    ensures { option_map (λ value. value.now.value) result ≡ first_of K.cmp (Q.key_of key) (entries (tree node.now)) }
+    ensures { option_map (λ value. S.value_of value.now) result ≡ first_of K.cmp (Q.key_of key) (entries (tree node.now)) }
 {
     match step_from(node, path, level) {
         Step::Child(child) => find_from(child, key, path, level + 1),
-        Step::Pairs(pairs) => find_pair(pairs, key),
+        Step::Pairs(pairs) => find_pair(pairs, key).map(Pair::value_slot),
         Step::Nothing => None,
     }
 }

@@ -4,7 +4,7 @@ use Rattle.std.proofs.lemmas.Option.{none-some}
 use Rattle.std.specs.Fn.{Once}
 use Rattle.std.specs.Prelude.{IfErr, IfOk, option_map}
 use Rattle.std.specs.declared.cmp.Ordering.{Ordering}
-use Rattle.stripes.specs.Updates.{MayPass, TriesToSet}
+use Rattle.stripe.specs.Updates.{MayPass, TriesToSet}
 use Rattle.versions.specs.Map.{Map}
 use Rattle.versions.specs.declared.refusal.Refusal.{Refusal}
 use denote.Ref.{Bor}
@@ -14,6 +14,13 @@ pub failed_made : {K V T E : Type 0} (R : K → K → Ordering) (m n : Map K V) 
 failed_made R m n k P (Err e) done tries failed = subst (λ (r : Result (Result _ _) Refusal). IfOk r (λ d. IfErr d P)) (sym tries.0) (failed e refl)
 failed_made R m n k P (Ok new) (Ok t) tries failed = tt
 failed_made R m n k P (Ok new) (Err e) tries failed = absurd (true≢false (sym tries.0))
+
+-- what is done was made of the value before
+pub done_made : {K V T E : Type 0} (R : K → K → Ordering) (m n : Map K V) (k : K) (of : T → Option V) (old : Option V) (P : Option V → Result (Option V) E → Type 0) (made : Result (Option V) E) (done : Result T E) → TriesToSet R m k made (Ok done) n → IfOk done (λ t. of t ≡ old) → P old made → IfOk done (λ t. (x : Option V) × P (of t) (Ok x))
+done_made {K} {V} R m n k of old P (Err e) done tries is may =
+    subst (λ (r : Result (Result _ _) Refusal). IfOk r (λ d. IfOk d (λ t. (x : Option V) × P (of t) (Ok x)))) (sym tries.0) tt
+done_made R m n k of old P (Ok x) (Ok t) tries is may = (x, subst (λ o. P o (Ok x)) (sym is) may)
+done_made R m n k of old P (Ok x) (Err e) tries is may = tt
 
 module _ {F V A : Type 0} (calls : Once F (Bor V × Unit {0}) Bool) (f : F) (of : A → V) where
   -- something is removed exactly where the test passed

@@ -2,8 +2,8 @@ pub use Rattle.trie_shape.specs.Map
 pub use Rattle.bulk_ops.specs.Meanings
 pub use Rattle.bulk_ops.specs.Queries
 pub use Rattle.bulk_work.specs.Summaries
-pub use Rattle.stripes.specs.Rules
-pub use Rattle.stripes.specs.Updates
+pub use Rattle.stripe.specs.Rules
+pub use Rattle.stripe.specs.Updates
 pub use Rattle.map_view.specs.Questions
 pub use Rattle.map_session.specs.Iterables
 pub use Rattle.map_session.specs.Sessions

@@ -3,7 +3,7 @@ ghost use Rattle.std.specs.Prelude.{IfOk, Ok};
 ghost use Rattle.bulk_ops.specs.Meanings.{MayAnswer};
 ghost use Rattle.group_counts.specs.Groups.{IsGroups};
 ghost use Rattle.group_counts.specs.Sums.{IsGroupFold};
-ghost use Rattle.stripes.specs.Rules.{AllKeep};
+ghost use Rattle.stripe.specs.Rules.{AllKeep};
 ghost use Rattle.versions.specs.Map.{Map};
 
 use crate::trie_map::TrieMap;
@@ -15,17 +15,22 @@ use std::sync::Wait;
 use std::thread::Threads;
 use stripes::Keeps;
 use task_pool::Crew;
-use trie_node::NoMemory;
+use trie_node::{NoMemory, Slots};
 use versions::Version;
 use write_history::Naming;
 
 /// Each takes a view, and a crew works it there: nobody waits for the crew.
-impl<K: PathKey + Drop + Send + Sync, V: Drop + Send + Sync, P: Keeps<K, V>, J: Naming> TrieMap<
-    K,
-    V,
-    P,
-    J,
-> {
+impl<
+    K: PathKey + Drop + Send + Sync,
+    V: Drop + Send + Sync,
+    P: Keeps<K, V>,
+    J: Naming,
+    S: Slots<K, V> + Send + Sync,
+> TrieMap<K, V, P, J, S>
+where
+    S::Key: Drop + Send + Sync,
+    S::Value: Drop + Send + Sync,
+{
     /// How many pairs each group has, as `par_group_count`, where the group may need memory:
     /// `|_, user| user.team.clone()`.
     ///
@@ -44,7 +49,10 @@ impl<K: PathKey + Drop + Send + Sync, V: Drop + Send + Sync, P: Keeps<K, V>, J: 
         requires callable { F.IsAlwaysCallable group }
         ensures { IfOk result (λ groups. (m : Map K V) × AllKeep K.cmp P.holds m × IsGroups G.cmp (λ k v g. MayAnswer F.Fn group k v (Ok g)) m groups) }
     {
-        self.view(rt)?.par_try_group_count(rt, group, crew)
+        let view = self.view(rt)?;
+        let answer = view.par_try_group_count(rt, group, crew);
+        drop(view);
+        answer
     }
 
     /// The items of each group combined by the monoid, of the map as it stands at one moment of the call, worked by a
@@ -71,6 +79,9 @@ impl<K: PathKey + Drop + Send + Sync, V: Drop + Send + Sync, P: Keeps<K, V>, J: 
         requires items { I.IsAlwaysCallable item }
         ensures { IfOk result (λ sums. (m : Map K V) × AllKeep K.cmp P.holds m × IsGroupFold (M.combine monoid.now) (M.unit_of monoid.now) G.cmp (λ k v g. MayAnswer F.Fn group k v (Ok g)) (MayAnswer I.Fn item) m sums) }
     {
-        self.view(rt)?.par_group_fold(rt, group, monoid, item, crew)
+        let view = self.view(rt)?;
+        let answer = view.par_group_fold(rt, group, monoid, item, crew);
+        drop(view);
+        answer
     }
 }

@@ -4,7 +4,7 @@ ghost use Rattle.bulk_work.specs.Answers.{items_of, passing};
 ghost use Rattle.bulk_ops.specs.Meanings.{MayAnswer, Means};
 ghost use Rattle.combiner.specs.Monoids.{folded};
 ghost use Rattle.group_counts.specs.Groups.{IsGroups};
-ghost use Rattle.stripes.specs.Rules.{AllKeep};
+ghost use Rattle.stripe.specs.Rules.{AllKeep};
 ghost use Rattle.top_pairs.specs.Ranks.{IsTop};
 ghost use Rattle.versions.specs.Map.{Map};
 
@@ -17,16 +17,21 @@ use std::thread::Threads;
 use stripes::Keeps;
 use task_pool::Crew;
 use top_pairs::Ranked;
-use trie_node::NoMemory;
+use trie_node::{NoMemory, Slots};
 use write_history::Naming;
 
 /// Each question takes a view, and a crew works it there: nobody waits for the crew.
-impl<K: PathKey + Drop + Send + Sync, V: Drop + Send + Sync, P: Keeps<K, V>, J: Naming> TrieMap<
-    K,
-    V,
-    P,
-    J,
-> {
+impl<
+    K: PathKey + Drop + Send + Sync,
+    V: Drop + Send + Sync,
+    P: Keeps<K, V>,
+    J: Naming,
+    S: Slots<K, V> + Send + Sync,
+> TrieMap<K, V, P, J, S>
+where
+    S::Key: Drop + Send + Sync,
+    S::Value: Drop + Send + Sync,
+{
     /// How many pairs pass the test, of the map as it stands at one moment of the call, counted by a crew over a view.
     ///
     /// Cost: O(n), shared out; under all locks for the view alone. Refused: `NoMemory`, if memory runs out.
@@ -37,7 +42,10 @@ impl<K: PathKey + Drop + Send + Sync, V: Drop + Send + Sync, P: Keeps<K, V>, J: 
         requires callable { F.IsAlwaysCallable test }
         ensures { IfOk result (λ count. (m : Map K V) × AllKeep K.cmp P.holds m × ((p : K → V → Bool) → Means (MayAnswer F.Fn test) p → count ≡ length (passing p m)) × (count ≤ length m)) }
     {
-        self.view(rt)?.par_count(rt, test, crew)
+        let view = self.view(rt)?;
+        let answer = view.par_count(rt, test, crew);
+        drop(view);
+        answer
     }
 
     /// The items of all pairs combined by the monoid, of the map as it stands at one moment of the call, worked by a
@@ -59,7 +67,10 @@ impl<K: PathKey + Drop + Send + Sync, V: Drop + Send + Sync, P: Keeps<K, V>, J: 
         requires callable { G.IsAlwaysCallable item }
         ensures { IfOk result (λ all. (m : Map K V) × AllKeep K.cmp P.holds m × ((i : K → V → M.Item) → Means (MayAnswer G.Fn item) i → all ≡ folded (M.combine monoid.now) (M.unit_of monoid.now) (items_of i m))) }
     {
-        self.view(rt)?.par_fold(rt, monoid, item, crew)
+        let view = self.view(rt)?;
+        let answer = view.par_fold(rt, monoid, item, crew);
+        drop(view);
+        answer
     }
 
     /// How many pairs each group has, where the closure names the group of a pair, of the map as it stands at one
@@ -80,7 +91,10 @@ impl<K: PathKey + Drop + Send + Sync, V: Drop + Send + Sync, P: Keeps<K, V>, J: 
         requires callable { F.IsAlwaysCallable group }
         ensures { IfOk result (λ groups. (m : Map K V) × AllKeep K.cmp P.holds m × IsGroups G.cmp (MayAnswer F.Fn group) m groups) }
     {
-        self.view(rt)?.par_group_count(rt, group, crew)
+        let view = self.view(rt)?;
+        let answer = view.par_group_count(rt, group, crew);
+        drop(view);
+        answer
     }
 
     /// The `most` pairs with the highest scores, or all pairs where there are fewer, of the map as it stands at one
@@ -89,20 +103,23 @@ impl<K: PathKey + Drop + Send + Sync, V: Drop + Send + Sync, P: Keeps<K, V>, J: 
     ///
     /// Cost: O(n log m) for m pairs that are listed, and O(m) for each that gets in; under all locks for the view
     /// alone. Refused: `NoMemory`, if memory runs out.
-    pub fn par_top<R, S, F>(
+    pub fn par_top<R, N, F>(
         &self,
         rt: &R,
         most: usize,
         score: F,
         crew: Crew,
-    ) -> Result<Ranked<K, V, S>, NoMemory>
+    ) -> Result<Ranked<K, V, N, S>, NoMemory>
     where
         R: Threads + Wait + Sync,
-        S: Ord + Copy + Send,
-        F: Fn(&K, &V) -> S + Sync,
+        N: Ord + Copy + Send,
+        F: Fn(&K, &V) -> N + Sync,
         requires callable { F.IsAlwaysCallable score }
-        ensures { IfOk result (λ listed. (m : Map K V) × AllKeep K.cmp P.holds m × IsTop S.cmp most (MayAnswer F.Fn score) m listed) }
+        ensures { IfOk result (λ listed. (m : Map K V) × AllKeep K.cmp P.holds m × IsTop N.cmp most (MayAnswer F.Fn score) m listed) }
     {
-        self.view(rt)?.par_top(rt, most, score, crew)
+        let view = self.view(rt)?;
+        let answer = view.par_top(rt, most, score, crew);
+        drop(view);
+        answer
     }
 }

@@ -1,9 +1,7 @@
 //! The map that threads share.
-ghost use Rattle.std.specs.Prelude.{◌≡◌, Err, IfErr, IfOk, IfSome, IsTrue, None, false, length};
-ghost use Rattle.hash_path.specs.Digits.{fan_out};
-ghost use Rattle.stripes.specs.Rules.{AllKeep};
-ghost use Rattle.stripes.specs.Stripes.{digits_of, up_to};
+ghost use Rattle.std.specs.Prelude.{◌≡◌, Err, IfErr, IfOk, IfSome, IsTrue, None, false};
 
+mod all_locked;
 mod asking;
 mod counting;
 mod deciding;
@@ -19,14 +17,10 @@ mod sessions;
 use crate::origin::{Origin, found_or_made, found_or_tried};
 use hash_path::{Path, PathKey, Sought};
 use map_session::PutError;
-use map_view::View;
 use std::alloc::Global;
-use std::sync::{Arc, Wait};
-use stripes::{
-    Anything, Keeps, STRIPES, Stripe, Stripes, clear_all, empties, empty_maps, forks, joined,
-};
-use trie_node::{Always, Condition, IfAbsent, IfEqual, IfPresent, NoMemory};
-use united_roots::RootRow;
+use std::sync::Wait;
+use stripes::{Anything, Keeps, Stripes, empties};
+use trie_node::{Always, Condition, IfAbsent, IfEqual, InPlace, NoMemory, Shared, Slots};
 use versions::{Change, Refusal};
 use write_history::{Author, Naming, Unnamed};
 
@@ -72,16 +66,32 @@ use write_history::{Author, Naming, Unnamed};
 /// calls wait for these. A view or a snapshot keeps the nodes of its moment, so a write copies those of its way, and
 /// memory grows with what is written meanwhile.
 #[derive(Drop)]
-pub struct TrieMap<K: PathKey, V, P: Keeps<K, V> = Anything, J: Naming = Unnamed> {
+pub struct TrieMap<
+    K: PathKey,
+    V,
+    P: Keeps<K, V> = Anything,
+    J: Naming = Unnamed,
+    S: Slots<K, V> = Shared,
+> {
     alloc: Global,
-    row: Stripes<K, V, P, J>,
+    row: Stripes<K, V, P, J, S>,
 }
 
-impl<K: PathKey + Drop, V: Drop, P: Keeps<K, V>> TrieMap<K, V, P> {
+/// A map whose keys and values lie in the rows of its trie, with no block of memory for each. Both are `Inline`: numbers,
+/// short texts, small structs. What a call hands out is the value itself, as `Option<V>` of `get`.
+///
+/// A view or a snapshot shares the rows, and the write that copies a row then makes another of each key and value in it.
+pub type InPlaceMap<K, V, P = Anything> = TrieMap<K, V, P, Unnamed, InPlace>;
+
+impl<K: PathKey + Drop, V: Drop, P: Keeps<K, V>, S: Slots<K, V>> TrieMap<K, V, P, Unnamed, S>
+where
+    S::Key: Drop,
+    S::Value: Drop,
+{
     /// A map with no pairs. It keeps the runtime's allocator for all calls.
     ///
     /// Cost: O(1), no lock. Refused: `NoMemory`, if memory runs out.
-    pub fn new<R: AllocGlobal>(rt: &R) -> Result<TrieMap<K, V, P>, NoMemory> {
+    pub fn new<R: AllocGlobal>(rt: &R) -> Result<TrieMap<K, V, P, Unnamed, S>, NoMemory> {
         let alloc = rt.alloc();
         Ok(TrieMap {
             alloc,
@@ -90,13 +100,17 @@ impl<K: PathKey + Drop, V: Drop, P: Keeps<K, V>> TrieMap<K, V, P> {
     }
 }
 
-impl<K: PathKey + Drop, V: Drop, P: Keeps<K, V>, J: Naming> TrieMap<K, V, P, J> {
+impl<K: PathKey + Drop, V: Drop, P: Keeps<K, V>, J: Naming, S: Slots<K, V>> TrieMap<K, V, P, J, S>
+where
+    S::Key: Drop,
+    S::Value: Drop,
+{
     /// The value of the key, or none.
     ///
-    /// Cost: O(log n), under the lock of the key's stripe, and no request for memory. Refused: `NoMemory`, where the
-    /// handle on the value cannot be cloned.
-    pub fn get<R: Wait, Q: Sought<K>>(&self, rt: &R, key: Q) -> Result<Option<Arc<V>>, NoMemory>
-        ensures kept { IfOk result (λ found. IfSome found (λ value. P.holds (Q.key_of key) value.value)) }
+    /// Cost: O(log n), under the lock of the key's stripe. It makes no request for memory, but for another of a long text
+    /// that lies in place. Refused: `NoMemory`, where that is refused, or the handle on the value cannot be cloned.
+    pub fn get<R: Wait, Q: Sought<K>>(&self, rt: &R, key: Q) -> Result<Option<S::Value>, NoMemory>
+        ensures kept { IfOk result (λ found. IfSome found (λ value. P.holds (Q.key_of key) (S.value_of value))) }
     {
         self.found(rt, key, key.path_sought())
     }
@@ -115,14 +129,12 @@ impl<K: PathKey + Drop, V: Drop, P: Keeps<K, V>, J: Naming> TrieMap<K, V, P, J> 
     ///
     /// Cost: O(log n), under the lock of the key's stripe. Refused: `Full`, where the key is new and its stripe has
     /// 524,288 pairs; `NoMemory`, if memory runs out.
-    pub fn put<R: Wait>(&self, rt: &R, key: K, value: V) -> Result<Option<Arc<V>>, PutError>
+    pub fn put<R: Wait>(&self, rt: &R, key: K, value: V) -> Result<Option<S::Value>, PutError>
         requires { P.holds key value }
-        ensures kept { IfOk result (λ before. IfSome before (λ found. P.holds key found.value)) }
+        ensures kept { IfOk result (λ before. IfSome before (λ found. P.holds key (S.value_of found))) }
     {
-        let path = key.path();
-        let key = Arc::new(self.alloc, key)?;
-        let value = Arc::new(self.alloc, value)?;
-        Ok(self.write(rt, key, path, value, &Always)?.previous)
+        let value = S::new_value(self.alloc, value)?;
+        self.put_shared(rt, key, value)
     }
 
     /// Maps the key to the value where the key is absent, and returns the value that is there, or none.
@@ -133,37 +145,34 @@ impl<K: PathKey + Drop, V: Drop, P: Keeps<K, V>, J: Naming> TrieMap<K, V, P, J> 
         rt: &R,
         key: K,
         value: V,
-    ) -> Result<Option<Arc<V>>, PutError>
+    ) -> Result<Option<S::Value>, PutError>
         requires { P.holds key value }
-        ensures kept { IfOk result (λ before. IfSome before (λ found. P.holds key found.value)) }
+        ensures kept { IfOk result (λ before. IfSome before (λ found. P.holds key (S.value_of found))) }
     {
-        let path = key.path();
-        let key = Arc::new(self.alloc, key)?;
-        let value = Arc::new(self.alloc, value)?;
-        Ok(self.write(rt, key, path, value, &IfAbsent)?.previous)
+        let value = S::new_value(self.alloc, value)?;
+        self.put_shared_if_absent(rt, key, value)
     }
 
     /// Maps the key to the value where the key is present, and returns the value before, or none.
     ///
     /// Cost: O(log n), under the lock of the key's stripe. Refused: `NoMemory`, if memory runs out.
-    pub fn replace<R: Wait>(&self, rt: &R, key: K, value: V) -> Result<Option<Arc<V>>, NoMemory>
+    pub fn replace<R: Wait>(&self, rt: &R, key: K, value: V) -> Result<Option<S::Value>, NoMemory>
         requires { P.holds key value }
-        ensures kept { IfOk result (λ before. IfSome before (λ found. P.holds key found.value)) }
+        ensures kept { IfOk result (λ before. IfSome before (λ found. P.holds key (S.value_of found))) }
     {
-        let path = key.path();
-        let key = Arc::new(self.alloc, key)?;
-        let value = Arc::new(self.alloc, value)?;
-        Ok(
-            self.write_present(rt, key, path, value, &IfPresent)?
-                .previous,
-        )
+        let value = S::new_value(self.alloc, value)?;
+        self.replace_shared(rt, key, value)
     }
 
     /// Removes the key, and returns the value before, or none.
     ///
     /// Cost: O(log n), under the lock of the key's stripe. Refused: `NoMemory`, if memory runs out.
-    pub fn remove<R: Wait, Q: Sought<K>>(&self, rt: &R, key: Q) -> Result<Option<Arc<V>>, NoMemory>
-        ensures kept { IfOk result (λ before. IfSome before (λ found. P.holds (Q.key_of key) found.value)) }
+    pub fn remove<R: Wait, Q: Sought<K>>(
+        &self,
+        rt: &R,
+        key: Q,
+    ) -> Result<Option<S::Value>, NoMemory>
+        ensures kept { IfOk result (λ before. IfSome before (λ found. P.holds (Q.key_of key) (S.value_of found))) }
     {
         Ok(self.removal(rt, key, &Always)?.previous)
     }
@@ -179,19 +188,18 @@ impl<K: PathKey + Drop, V: Drop, P: Keeps<K, V>, J: Naming> TrieMap<K, V, P, J> 
         rt: &R,
         key: K,
         make: F,
-    ) -> Result<Arc<V>, PutError>
+    ) -> Result<S::Value, PutError>
         requires callable { F.pre make }
         requires rule { (value : V) → F.post make value → P.holds key value }
-        ensures kept { IfOk result (λ value. P.holds key value.value) }
+        ensures kept { IfOk result (λ value. P.holds key (S.value_of value)) }
     {
         let path = key.path();
-        let made = match found_or_made(self.found(rt, &key, path)?, make) {
+        let made = match found_or_made::<V, S, F>(self.found(rt, &key, path)?, make) {
             Origin::Found(found) => return Ok(found),
-            Origin::Made(made) => Arc::new(self.alloc, made)?,
+            Origin::Made(made) => S::new_value(self.alloc, made)?,
         };
-        let answer = Arc::try_clone(&made)?;
-        let key = Arc::new(self.alloc, key)?;
-        match self.write(rt, key, path, made, &IfAbsent)?.previous {
+        let answer = S::another_value(&made)?;
+        match self.put_absent(rt, key, path, made)? {
             Some(found) => Ok(found),
             None => Ok(answer),
         }
@@ -206,68 +214,23 @@ impl<K: PathKey + Drop, V: Drop, P: Keeps<K, V>, J: Naming> TrieMap<K, V, P, J> 
         rt: &R,
         key: K,
         make: F,
-    ) -> Result<Result<Arc<V>, E>, PutError>
+    ) -> Result<Result<S::Value, E>, PutError>
         requires callable { F.pre make }
         requires rule { (made : _) → F.post make made → IfOk made (P.holds key) }
-        ensures kept { IfOk result (λ done. IfOk done (λ value. P.holds key value.value)) }
+        ensures kept { IfOk result (λ done. IfOk done (λ value. P.holds key (S.value_of value))) }
         ensures failed { IfOk result (λ done. IfErr done (λ error. F.post make (Err error))) }
     {
         let path = key.path();
-        let made = match found_or_tried(self.found(rt, &key, path)?, make) {
+        let made = match found_or_tried::<V, S, E, F>(self.found(rt, &key, path)?, make) {
             Ok(Origin::Found(found)) => return Ok(Ok(found)),
-            Ok(Origin::Made(made)) => Arc::new(self.alloc, made)?,
+            Ok(Origin::Made(made)) => S::new_value(self.alloc, made)?,
             Err(error) => return Ok(Err(error)),
         };
-        let answer = Arc::try_clone(&made)?;
-        let key = Arc::new(self.alloc, key)?;
-        match self.write(rt, key, path, made, &IfAbsent)?.previous {
+        let answer = S::another_value(&made)?;
+        match self.put_absent(rt, key, path, made)? {
             Some(found) => Ok(Ok(found)),
             None => Ok(Ok(answer)),
         }
-    }
-
-    /// Removes all pairs at one moment of the call. They are dropped once the locks are free.
-    ///
-    /// Cost: O(1), under all locks; then what the drops take. Refused: `NoMemory`, if memory runs out.
-    pub fn clear<R: Wait>(&self, rt: &R) -> Result<(), NoMemory> {
-        let empty_maps = empty_maps(self.alloc)?;
-        let room = Vec::with_capacity(self.alloc, STRIPES as usize)?;
-        let held = self.row.all(rt, self.alloc)?;
-        // The pairs are dropped once the locks are free.
-        let before = forks(room, &held)?;
-        if let Some(stripe) = held.first() {
-            let all = stripe.gathered();
-            clear_all(held, empty_maps, all, &mut Author::nobody());
-        }
-        drop(before);
-        Ok(())
-    }
-
-    /// The map as it stands at one moment of the call. The view keeps the nodes of that moment.
-    ///
-    /// Its clause says that each pair keeps the rule; that it has the pairs of one moment, that of [`Session::view`].
-    /// Here each step of it is proved (`Stripes::all`, `joined`), and tests show it whole.
-    ///
-    /// Cost: O(1), under all locks. Refused: `NoMemory`, if memory runs out.
-    pub fn view<R: Wait>(&self, rt: &R) -> Result<View<K, V, P>, NoMemory>
-        ensures { IfOk result (λ view. AllKeep K.cmp P.holds view) }
-    {
-        let room = RootRow::new(self.alloc)?;
-        let held = self.row.all(rt, self.alloc)?;
-        let map = joined(self.alloc, room, held)?;
-        View::of(self.alloc, map)
-    }
-
-    /// Another map with the pairs of one moment of the call, and locks of its own: the two go separate ways.
-    ///
-    /// That each of its pairs keeps the rule is part of its type. Which pairs it has no clause says: tests do.
-    ///
-    /// Cost: O(1), under all locks. Refused: `NoMemory`, if memory runs out.
-    pub fn snapshot<R: Wait>(&self, rt: &R) -> Result<TrieMap<K, V, P>, NoMemory> {
-        Ok(TrieMap {
-            alloc: self.alloc,
-            row: Stripes::new(self.alloc, self.forks(rt)?)?,
-        })
     }
 
     // The value of the key, or none.
@@ -276,61 +239,60 @@ impl<K: PathKey + Drop, V: Drop, P: Keeps<K, V>, J: Naming> TrieMap<K, V, P, J> 
         rt: &R,
         key: Q,
         path: Path,
-    ) -> Result<Option<Arc<V>>, NoMemory>
+    ) -> Result<Option<S::Value>, NoMemory>
         requires { path.0 ≡ K.path_of (Q.key_of key) }
-        ensures kept { IfOk result (λ found. IfSome found (λ value. P.holds (Q.key_of key) value.value)) }
+        ensures kept { IfOk result (λ found. IfSome found (λ value. P.holds (Q.key_of key) (S.value_of value))) }
     {
         let stripe = self.row.stripe_at(rt, path);
         match stripe.get(key, path) {
-            Some(value) => Ok(Some(Arc::try_clone(value)?)),
+            Some(value) => Ok(Some(S::another_value(value)?)),
             None => Ok(None),
         }
     }
 
-    // A write of a pair that keeps the rule, where the condition holds.
-    fn write<R: Wait, C: Condition<V>>(
+    // Maps the key to the value where it is absent, and returns the value that is there, or none.
+    fn put_absent<R: Wait>(
         &self,
         rt: &R,
-        key: Arc<K>,
+        key: K,
         path: Path,
-        value: Arc<V>,
-        condition: &C,
-    ) -> Result<Change<V>, PutError>
-        requires rule { P.holds key.value value.value }
-        requires path { path.0 ≡ K.path_of key.value }
-        ensures kept { IfOk result (λ change. IfSome change.previous (λ found. P.holds key.value found.value)) }
+        value: S::Value,
+    ) -> Result<Option<S::Value>, PutError>
+        requires rule { P.holds key (S.value_of value) }
+        requires path { path.0 ≡ K.path_of key }
+        ensures kept { IfOk result (λ before. IfSome before (λ found. P.holds key (S.value_of found))) }
     {
+        let key = S::new_key(self.alloc, key)?;
         let mut stripe = self.row.stripe_at(rt, path);
         match stripe.put_where(
             self.alloc,
             key,
             path,
             value,
-            condition,
+            &IfAbsent,
             &mut Author::nobody(),
         ) {
-            Ok(change) => Ok(change),
+            Ok(change) => Ok(change.previous),
             Err(refusal) => Err(PutError::of(refusal)),
         }
     }
 
-    // A write of a pair that keeps the rule, where the condition holds, which it never does of an absent key. So no
-    // stripe is too full for it.
-    fn write_present<R: Wait, C: Condition<V>>(
+    // Maps the key to the value where the condition holds, which it never does of an absent key. So no stripe is too full
+    // for it.
+    fn replace_where<R: Wait, C: Condition<V>>(
         &self,
         rt: &R,
-        key: Arc<K>,
-        path: Path,
-        value: Arc<V>,
+        key: K,
+        value: S::Value,
         condition: &C,
-    ) -> Result<Change<V>, NoMemory>
-        requires rule { P.holds key.value value.value }
-        requires path { path.0 ≡ K.path_of key.value }
+    ) -> Result<Change<V, S>, NoMemory>
+        requires rule { P.holds key (S.value_of value) }
         requires present { C.holds condition.now None ≡ false }
-        ensures kept { IfOk result (λ change. IfSome change.previous (λ found. P.holds key.value found.value)) }
+        ensures kept { IfOk result (λ change. IfSome change.previous (λ found. P.holds key (S.value_of found))) }
     {
+        let path = key.path();
         let mut stripe = self.row.stripe_at(rt, path);
-        match stripe.put_where(
+        match stripe.put_key_where(
             self.alloc,
             key,
             path,
@@ -350,39 +312,34 @@ impl<K: PathKey + Drop, V: Drop, P: Keeps<K, V>, J: Naming> TrieMap<K, V, P, J> 
         rt: &R,
         key: Q,
         condition: &C,
-    ) -> Result<Change<V>, NoMemory>
-        ensures kept { IfOk result (λ change. IfSome change.previous (λ found. P.holds (Q.key_of key) found.value)) }
+    ) -> Result<Change<V, S>, NoMemory>
+        ensures kept { IfOk result (λ change. IfSome change.previous (λ found. P.holds (Q.key_of key) (S.value_of found))) }
     {
         let path = key.path_sought();
         let mut stripe = self.row.stripe_at(rt, path);
         stripe.remove_where(self.alloc, key, path, condition, &mut Author::nobody())
     }
-
-    // A fork of each stripe, all as they stand at one moment when all are held.
-    fn forks<R: Wait>(&self, rt: &R) -> Result<Vec<Stripe<K, V, P>>, NoMemory>
-        ensures digits { IfOk result (λ stripes. digits_of stripes.items ≡ up_to fan_out) }
-        ensures count { IfOk result (λ stripes. length stripes.items ≡ fan_out) }
-    {
-        let room = Vec::with_capacity(self.alloc, STRIPES as usize)?;
-        let held = self.row.all(rt, self.alloc)?;
-        forks(room, &held)
-    }
 }
 
-impl<K: PathKey + Drop, V: Eq + Drop, P: Keeps<K, V>, J: Naming> TrieMap<K, V, P, J> {
+impl<K: PathKey + Drop, V: Eq + Drop, P: Keeps<K, V>, J: Naming, S: Slots<K, V>> TrieMap<
+    K,
+    V,
+    P,
+    J,
+    S,
+>
+where
+    S::Key: Drop,
+    S::Value: Drop,
+{
     /// Maps the key to the value where it is mapped to a value equal to `old`, and returns whether it was.
     ///
     /// Cost: O(log n), under the lock of the key's stripe, where `V::eq` runs. Refused: `NoMemory`, if memory runs out.
     pub fn replace_if<R: Wait>(&self, rt: &R, key: K, old: &V, value: V) -> Result<bool, NoMemory>
         requires { P.holds key value }
     {
-        let path = key.path();
-        let key = Arc::new(self.alloc, key)?;
-        let value = Arc::new(self.alloc, value)?;
-        Ok(
-            self.write_present(rt, key, path, value, &IfEqual(old))?
-                .written,
-        )
+        let value = S::new_value(self.alloc, value)?;
+        Ok(self.replace_where(rt, key, value, &IfEqual(old))?.written)
     }
 
     /// Removes the key where it is mapped to a value equal to `value`, and returns whether it was.

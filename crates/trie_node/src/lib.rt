@@ -7,17 +7,22 @@
 //! function of its pairs; a write puts its stamp on the nodes of its key's path and on no other.
 #![tactic(auto)]
 
+mod exchange;
 mod root_in_place;
 
+pub use exchange::exchange_in_where_along;
 pub use root_in_place::{
     put_in, put_in_where, put_in_where_along, remove_in, remove_in_where, remove_in_where_along,
 };
 
-// What a write did, and what it found.
-pub use trie_puts::Change;
+// What a write or an exchange did, and what it found.
+pub use trie_puts::{Change, Exchange};
 
 // Writes by copies.
 pub use trie_copy::{Written, merged, put_where, removed_where, with_put, with_removed};
+
+// Where keys and values lie.
+pub use slots::{InPlace, Inline, KeySlots, KeysInPlace, Pair, Shared, Slots, ValueSlots};
 
 // What a root is, for the crates above, which write and read by this crate alone.
 pub use trie_shape::{

@@ -1,3 +1,4 @@
 pub mod PutInPlace
 pub mod PutInside
 pub mod Buckets
+pub mod Exchanging

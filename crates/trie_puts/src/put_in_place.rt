@@ -1,56 +1,55 @@
 //! A pair put below a node, where it stands as far as nobody else holds it.
 
-ghost use Rattle.std.specs.Prelude.{◌≡◌, ◌==◌, ◌<◌, ◌≤◌, ◌+◌, ◌^◌, ◌*◌, option_map, length, take, IfOk, OnErr, Some, None, true, false};
-ghost use Rattle.std.specs.Arc.{arc_value};
-ghost use Rattle.std.specs.Int.{bit_at};
-ghost use Rattle.std.specs.Int.RustNames.{count_ones};
+ghost use Rattle.std.specs.Prelude.{◌≡◌, ◌<◌, ◌^◌, option_map, length, IfOk, OnErr, true};
 ghost use Rattle.std.specs.FinMap.{find as first_of};
-ghost use Rattle.hash_path.specs.Digits.{fan_out};
 ghost use Rattle.trie_shape.specs.Tree.{IsTrie, branch, entries};
 ghost use Rattle.trie_shape.specs.View.{tree, branch_of, in_row};
 ghost use Rattle.trie_copy.specs.Writes.{KeysAgree};
 ghost use Rattle.trie_puts.specs.PutInPlace.{PutsIn, is_refusable};
-ghost use Rattle.trie_puts.specs.PutInside.{PutsInside, PutsLeaf, with_leaf};
+ghost use Rattle.trie_puts.specs.PutInside.{PutsInside};
 
-use crate::bucket_puts::{have_path, put_in_pair, put_in_pairs};
-use crate::change::{Change, shared};
+use crate::bucket_puts::{compare_keys, have_path, put_in_pair, put_in_pairs};
+use crate::change::Change;
+use crate::copied_put::put_copied;
+use crate::leaf_puts::put_leaf;
 use hash_path::PathKey;
+use slots::Slots;
 use std::alloc::Global;
 use std::cmp::Ordering;
 use std::sync::Arc;
-use trie_copy::{NewPair, Written, holds_of_absent, put_at};
-use trie_shape::{
-    Condition, NoMemory, Node, Stamp, gain_child, has_digit, make_leaf, outgrow, place,
-    size as count,
-};
+use trie_copy::NewPair;
+use trie_shape::{Condition, NoMemory, Node, Stamp, has_digit, place, size as count};
 
 /// What a put into a node where it stands came to.
 #[derive(Drop)]
-pub(crate) enum PutInside<K, V> {
+pub(crate) enum PutInside<K, V, S: Slots<K, V>> {
     /// The put is done.
-    Done(Change<V>),
+    Done(Change<V, S>),
     /// The pair was put, and this node is to take the branch's place.
-    GivesWay(Node<K, V>),
+    GivesWay(Node<K, V, S>),
     /// The node cannot be written where it stands, and is as it was.
-    Elsewhere(NewPair<K, V>),
+    Elsewhere(NewPair<K, V, S>),
 }
 
 /// A put below a node that stands at the level: where it stands as far as nobody else holds the
 /// nodes of the key's way, and else by copies of them.
 #[cycle(put_in)]
-pub fn put_in_at<K: PathKey + Drop, V: Drop, C: Condition<V>>(
+pub fn put_in_at<K: PathKey, V, S: Slots<K, V>, C: Condition<V>>(
     alloc: Global,
-    node: &mut Node<K, V>,
-    entry: NewPair<K, V>,
+    node: &mut Node<K, V, S>,
+    entry: NewPair<K, V, S>,
     level: u32,
     condition: &C,
-) -> Result<Change<V>, NoMemory>
+) -> Result<Change<V, S>, NoMemory>
+where
+    S::Key: Drop,
+    S::Value: Drop,
     requires trie { IsTrie K.cmp K.path_of level (tree node.old) }
-    requires path { entry.path.0 ≡ K.path_of entry.key.value }
+    requires path { entry.path.0 ≡ K.path_of entry.pair.0 }
     requires agree { KeysAgree K.cmp K.path_of level entry.path.0 (entries (tree node.old)) }
     requires room { length (entries (tree node.old)) < 2 ^ 63 }
-    ensures ok { IfOk result (λ d. PutsIn K.cmp K.path_of level entry.stamp.0 entry.key.value entry.value.value (C.holds condition.now) (tree node.old) (option_map arc_value d.previous) d.written (tree node.new)) }
-    ensures due { OnErr result (is_refusable (C.holds condition.now) (first_of K.cmp entry.key.value (entries (tree node.old))) ≡ true) }
+    ensures ok { IfOk result (λ d. PutsIn K.cmp K.path_of level entry.stamp.0 entry.pair.0 entry.pair.1 (C.holds condition.now) (tree node.old) (option_map S.value_of d.previous) d.written (tree node.new)) }
+    ensures due { OnErr result (is_refusable (C.holds condition.now) (first_of K.cmp entry.pair.0 (entries (tree node.old))) ≡ true) }
     ensures err { OnErr result (tree node.new ≡ tree node.old) }
 {
     match put_in_node(alloc, node, entry, level, condition)? {
@@ -68,25 +67,28 @@ pub fn put_in_at<K: PathKey + Drop, V: Drop, C: Condition<V>>(
 
 /// A put below a node that stands at the level, where nobody else holds the node.
 #[cycle(put_in)]
-fn put_in_node<K: PathKey + Drop, V: Drop, C: Condition<V>>(
+fn put_in_node<K: PathKey, V, S: Slots<K, V>, C: Condition<V>>(
     alloc: Global,
-    node: &mut Node<K, V>,
-    entry: NewPair<K, V>,
+    node: &mut Node<K, V, S>,
+    entry: NewPair<K, V, S>,
     level: u32,
     condition: &C,
-) -> Result<PutInside<K, V>, NoMemory>
+) -> Result<PutInside<K, V, S>, NoMemory>
+where
+    S::Key: Drop,
+    S::Value: Drop,
     requires trie { IsTrie K.cmp K.path_of level (tree node.old) }
-    requires path { entry.path.0 ≡ K.path_of entry.key.value }
+    requires path { entry.path.0 ≡ K.path_of entry.pair.0 }
     requires agree { KeysAgree K.cmp K.path_of level entry.path.0 (entries (tree node.old)) }
     requires room { length (entries (tree node.old)) < 2 ^ 63 }
-    ensures ok { IfOk result (λ r. PutsInside K.cmp K.path_of level entry (C.holds condition.now) (tree node.old) r (tree node.new)) }
-    ensures due { OnErr result (is_refusable (C.holds condition.now) (first_of K.cmp entry.key.value (entries (tree node.old))) ≡ true) }
+    ensures ok { IfOk result (λ r. PutsInside S.value_of K.cmp K.path_of level entry (C.holds condition.now) (tree node.old) r (tree node.new)) }
+    ensures due { OnErr result (is_refusable (C.holds condition.now) (first_of K.cmp entry.pair.0 (entries (tree node.old))) ≡ true) }
     ensures err { OnErr result (tree node.new ≡ tree node.old) }
 {
     match node {
         Node::Vacant => Ok(PutInside::Elsewhere(entry)),
         Node::Leaf { stamp, pair } => {
-            if entry.key.cmp(&pair.0) == Ordering::Equal {
+            if compare_keys(&entry, pair) == Ordering::Equal {
                 return Ok(PutInside::Done(put_in_pair(stamp, pair, entry, condition)?));
             }
             Ok(PutInside::Elsewhere(entry))
@@ -105,19 +107,22 @@ fn put_in_node<K: PathKey + Drop, V: Drop, C: Condition<V>>(
 
 /// A put below a branch, where nobody else holds it. No other node is written.
 #[cycle(put_in)]
-fn put_in_row<K: PathKey + Drop, V: Drop, C: Condition<V>>(
+fn put_in_row<K: PathKey, V, S: Slots<K, V>, C: Condition<V>>(
     alloc: Global,
-    node: &mut Node<K, V>,
-    entry: NewPair<K, V>,
+    node: &mut Node<K, V, S>,
+    entry: NewPair<K, V, S>,
     level: u32,
     condition: &C,
-) -> Result<PutInside<K, V>, NoMemory>
+) -> Result<PutInside<K, V, S>, NoMemory>
+where
+    S::Key: Drop,
+    S::Value: Drop,
     requires trie { IsTrie K.cmp K.path_of level (tree node.old) }
-    requires path { entry.path.0 ≡ K.path_of entry.key.value }
+    requires path { entry.path.0 ≡ K.path_of entry.pair.0 }
     requires agree { KeysAgree K.cmp K.path_of level entry.path.0 (entries (tree node.old)) }
     requires room { length (entries (tree node.old)) < 2 ^ 63 }
-    ensures ok { IfOk result (λ r. PutsInside K.cmp K.path_of level entry (C.holds condition.now) (tree node.old) r (tree node.new)) }
-    ensures due { OnErr result (is_refusable (C.holds condition.now) (first_of K.cmp entry.key.value (entries (tree node.old))) ≡ true) }
+    ensures ok { IfOk result (λ r. PutsInside S.value_of K.cmp K.path_of level entry (C.holds condition.now) (tree node.old) r (tree node.new)) }
+    ensures due { OnErr result (is_refusable (C.holds condition.now) (first_of K.cmp entry.pair.0 (entries (tree node.old))) ≡ true) }
     ensures err { OnErr result (tree node.new ≡ tree node.old) }
 {
     match node {
@@ -148,6 +153,31 @@ fn put_in_row<K: PathKey + Drop, V: Drop, C: Condition<V>>(
             Some(row) => put_in_eight(alloc, bitmap, stamp, size, row, entry, level, condition),
             None => Ok(PutInside::Elsewhere(entry)),
         },
+        _ => put_in_long_row(alloc, node, entry, level, condition),
+    }
+}
+
+/// A put below a branch whose row has 16 or 32 places, where nobody else holds it.
+#[cycle(put_in)]
+fn put_in_long_row<K: PathKey, V, S: Slots<K, V>, C: Condition<V>>(
+    alloc: Global,
+    node: &mut Node<K, V, S>,
+    entry: NewPair<K, V, S>,
+    level: u32,
+    condition: &C,
+) -> Result<PutInside<K, V, S>, NoMemory>
+where
+    S::Key: Drop,
+    S::Value: Drop,
+    requires trie { IsTrie K.cmp K.path_of level (tree node.old) }
+    requires path { entry.path.0 ≡ K.path_of entry.pair.0 }
+    requires agree { KeysAgree K.cmp K.path_of level entry.path.0 (entries (tree node.old)) }
+    requires room { length (entries (tree node.old)) < 2 ^ 63 }
+    ensures ok { IfOk result (λ r. PutsInside S.value_of K.cmp K.path_of level entry (C.holds condition.now) (tree node.old) r (tree node.new)) }
+    ensures due { OnErr result (is_refusable (C.holds condition.now) (first_of K.cmp entry.pair.0 (entries (tree node.old))) ≡ true) }
+    ensures err { OnErr result (tree node.new ≡ tree node.old) }
+{
+    match node {
         Node::Sixteen {
             bitmap,
             stamp,
@@ -170,57 +200,27 @@ fn put_in_row<K: PathKey + Drop, V: Drop, C: Condition<V>>(
     }
 }
 
-/// A put by copies of the nodes of the key's way.
-fn put_copied<K: PathKey + Drop, V: Drop, C: Condition<V>>(
-    alloc: Global,
-    node: &mut Node<K, V>,
-    entry: NewPair<K, V>,
-    level: u32,
-    condition: &C,
-) -> Result<Change<V>, NoMemory>
-    requires trie { IsTrie K.cmp K.path_of level (tree node.old) }
-    requires path { entry.path.0 ≡ K.path_of entry.key.value }
-    requires agree { KeysAgree K.cmp K.path_of level entry.path.0 (entries (tree node.old)) }
-    requires room { length (entries (tree node.old)) < 2 ^ 63 }
-    ensures ok { IfOk result (λ d. PutsIn K.cmp K.path_of level entry.stamp.0 entry.key.value entry.value.value (C.holds condition.now) (tree node.old) (option_map arc_value d.previous) d.written (tree node.new)) }
-    ensures due { OnErr result (is_refusable (C.holds condition.now) (first_of K.cmp entry.key.value (entries (tree node.old))) ≡ true) }
-    ensures err { OnErr result (tree node.new ≡ tree node.old) }
-{
-    let Written { root, previous } = put_at(alloc, node, entry, level, condition)?;
-    let previous = shared(previous)?;
-    match root {
-        Some(root) => {
-            *node = root;
-            Ok(Change {
-                previous,
-                written: true,
-            })
-        }
-        None => Ok(Change {
-            previous,
-            written: false,
-        }),
-    }
-}
-
 /// A put below a branch in a row of 2 places, which nobody else holds.
 #[cycle(put_in)]
-fn put_in_two<K: PathKey + Drop, V: Drop, C: Condition<V>>(
+fn put_in_two<K: PathKey, V, S: Slots<K, V>, C: Condition<V>>(
     alloc: Global,
     bitmap: &mut u32,
     stamp: &mut Stamp,
     size: &mut u64,
-    row: &mut [Node<K, V>; 2],
-    entry: NewPair<K, V>,
+    row: &mut [Node<K, V, S>; 2],
+    entry: NewPair<K, V, S>,
     level: u32,
     condition: &C,
-) -> Result<PutInside<K, V>, NoMemory>
+) -> Result<PutInside<K, V, S>, NoMemory>
+where
+    S::Key: Drop,
+    S::Value: Drop,
     requires trie { IsTrie K.cmp K.path_of level (branch_of stamp.old.0 (in_row size.old bitmap.old row.old)) }
-    requires path { entry.path.0 ≡ K.path_of entry.key.value }
+    requires path { entry.path.0 ≡ K.path_of entry.pair.0 }
     requires agree { KeysAgree K.cmp K.path_of level entry.path.0 (entries (branch_of stamp.old.0 (in_row size.old bitmap.old row.old))) }
     requires room { length (entries (branch_of stamp.old.0 (in_row size.old bitmap.old row.old))) < 2 ^ 63 }
-    ensures ok { IfOk result (λ r. PutsInside K.cmp K.path_of level entry (C.holds condition.now) (branch_of stamp.old.0 (in_row size.old bitmap.old row.old)) r (branch_of stamp.new.0 (in_row size.new bitmap.new row.new))) }
-    ensures due { OnErr result (is_refusable (C.holds condition.now) (first_of K.cmp entry.key.value (entries (branch_of stamp.old.0 (in_row size.old bitmap.old row.old)))) ≡ true) }
+    ensures ok { IfOk result (λ r. PutsInside S.value_of K.cmp K.path_of level entry (C.holds condition.now) (branch_of stamp.old.0 (in_row size.old bitmap.old row.old)) r (branch_of stamp.new.0 (in_row size.new bitmap.new row.new))) }
+    ensures due { OnErr result (is_refusable (C.holds condition.now) (first_of K.cmp entry.pair.0 (entries (branch_of stamp.old.0 (in_row size.old bitmap.old row.old)))) ≡ true) }
     ensures err { OnErr result (branch_of stamp.new.0 (in_row size.new bitmap.new row.new) ≡ branch_of stamp.old.0 (in_row size.old bitmap.old row.old)) }
 {
     put_in_branch(alloc, bitmap, stamp, size, row, entry, level, condition)
@@ -228,22 +228,25 @@ fn put_in_two<K: PathKey + Drop, V: Drop, C: Condition<V>>(
 
 /// A put below a branch in a row of 4 places, which nobody else holds.
 #[cycle(put_in)]
-fn put_in_four<K: PathKey + Drop, V: Drop, C: Condition<V>>(
+fn put_in_four<K: PathKey, V, S: Slots<K, V>, C: Condition<V>>(
     alloc: Global,
     bitmap: &mut u32,
     stamp: &mut Stamp,
     size: &mut u64,
-    row: &mut [Node<K, V>; 4],
-    entry: NewPair<K, V>,
+    row: &mut [Node<K, V, S>; 4],
+    entry: NewPair<K, V, S>,
     level: u32,
     condition: &C,
-) -> Result<PutInside<K, V>, NoMemory>
+) -> Result<PutInside<K, V, S>, NoMemory>
+where
+    S::Key: Drop,
+    S::Value: Drop,
     requires trie { IsTrie K.cmp K.path_of level (branch_of stamp.old.0 (in_row size.old bitmap.old row.old)) }
-    requires path { entry.path.0 ≡ K.path_of entry.key.value }
+    requires path { entry.path.0 ≡ K.path_of entry.pair.0 }
     requires agree { KeysAgree K.cmp K.path_of level entry.path.0 (entries (branch_of stamp.old.0 (in_row size.old bitmap.old row.old))) }
     requires room { length (entries (branch_of stamp.old.0 (in_row size.old bitmap.old row.old))) < 2 ^ 63 }
-    ensures ok { IfOk result (λ r. PutsInside K.cmp K.path_of level entry (C.holds condition.now) (branch_of stamp.old.0 (in_row size.old bitmap.old row.old)) r (branch_of stamp.new.0 (in_row size.new bitmap.new row.new))) }
-    ensures due { OnErr result (is_refusable (C.holds condition.now) (first_of K.cmp entry.key.value (entries (branch_of stamp.old.0 (in_row size.old bitmap.old row.old)))) ≡ true) }
+    ensures ok { IfOk result (λ r. PutsInside S.value_of K.cmp K.path_of level entry (C.holds condition.now) (branch_of stamp.old.0 (in_row size.old bitmap.old row.old)) r (branch_of stamp.new.0 (in_row size.new bitmap.new row.new))) }
+    ensures due { OnErr result (is_refusable (C.holds condition.now) (first_of K.cmp entry.pair.0 (entries (branch_of stamp.old.0 (in_row size.old bitmap.old row.old)))) ≡ true) }
     ensures err { OnErr result (branch_of stamp.new.0 (in_row size.new bitmap.new row.new) ≡ branch_of stamp.old.0 (in_row size.old bitmap.old row.old)) }
 {
     put_in_branch(alloc, bitmap, stamp, size, row, entry, level, condition)
@@ -251,22 +254,25 @@ fn put_in_four<K: PathKey + Drop, V: Drop, C: Condition<V>>(
 
 /// A put below a branch in a row of 8 places, which nobody else holds.
 #[cycle(put_in)]
-fn put_in_eight<K: PathKey + Drop, V: Drop, C: Condition<V>>(
+fn put_in_eight<K: PathKey, V, S: Slots<K, V>, C: Condition<V>>(
     alloc: Global,
     bitmap: &mut u32,
     stamp: &mut Stamp,
     size: &mut u64,
-    row: &mut [Node<K, V>; 8],
-    entry: NewPair<K, V>,
+    row: &mut [Node<K, V, S>; 8],
+    entry: NewPair<K, V, S>,
     level: u32,
     condition: &C,
-) -> Result<PutInside<K, V>, NoMemory>
+) -> Result<PutInside<K, V, S>, NoMemory>
+where
+    S::Key: Drop,
+    S::Value: Drop,
     requires trie { IsTrie K.cmp K.path_of level (branch_of stamp.old.0 (in_row size.old bitmap.old row.old)) }
-    requires path { entry.path.0 ≡ K.path_of entry.key.value }
+    requires path { entry.path.0 ≡ K.path_of entry.pair.0 }
     requires agree { KeysAgree K.cmp K.path_of level entry.path.0 (entries (branch_of stamp.old.0 (in_row size.old bitmap.old row.old))) }
     requires room { length (entries (branch_of stamp.old.0 (in_row size.old bitmap.old row.old))) < 2 ^ 63 }
-    ensures ok { IfOk result (λ r. PutsInside K.cmp K.path_of level entry (C.holds condition.now) (branch_of stamp.old.0 (in_row size.old bitmap.old row.old)) r (branch_of stamp.new.0 (in_row size.new bitmap.new row.new))) }
-    ensures due { OnErr result (is_refusable (C.holds condition.now) (first_of K.cmp entry.key.value (entries (branch_of stamp.old.0 (in_row size.old bitmap.old row.old)))) ≡ true) }
+    ensures ok { IfOk result (λ r. PutsInside S.value_of K.cmp K.path_of level entry (C.holds condition.now) (branch_of stamp.old.0 (in_row size.old bitmap.old row.old)) r (branch_of stamp.new.0 (in_row size.new bitmap.new row.new))) }
+    ensures due { OnErr result (is_refusable (C.holds condition.now) (first_of K.cmp entry.pair.0 (entries (branch_of stamp.old.0 (in_row size.old bitmap.old row.old)))) ≡ true) }
     ensures err { OnErr result (branch_of stamp.new.0 (in_row size.new bitmap.new row.new) ≡ branch_of stamp.old.0 (in_row size.old bitmap.old row.old)) }
 {
     put_in_branch(alloc, bitmap, stamp, size, row, entry, level, condition)
@@ -274,22 +280,25 @@ fn put_in_eight<K: PathKey + Drop, V: Drop, C: Condition<V>>(
 
 /// A put below a branch in a row of 16 places, which nobody else holds.
 #[cycle(put_in)]
-fn put_in_sixteen<K: PathKey + Drop, V: Drop, C: Condition<V>>(
+fn put_in_sixteen<K: PathKey, V, S: Slots<K, V>, C: Condition<V>>(
     alloc: Global,
     bitmap: &mut u32,
     stamp: &mut Stamp,
     size: &mut u64,
-    row: &mut [Node<K, V>; 16],
-    entry: NewPair<K, V>,
+    row: &mut [Node<K, V, S>; 16],
+    entry: NewPair<K, V, S>,
     level: u32,
     condition: &C,
-) -> Result<PutInside<K, V>, NoMemory>
+) -> Result<PutInside<K, V, S>, NoMemory>
+where
+    S::Key: Drop,
+    S::Value: Drop,
     requires trie { IsTrie K.cmp K.path_of level (branch_of stamp.old.0 (in_row size.old bitmap.old row.old)) }
-    requires path { entry.path.0 ≡ K.path_of entry.key.value }
+    requires path { entry.path.0 ≡ K.path_of entry.pair.0 }
     requires agree { KeysAgree K.cmp K.path_of level entry.path.0 (entries (branch_of stamp.old.0 (in_row size.old bitmap.old row.old))) }
     requires room { length (entries (branch_of stamp.old.0 (in_row size.old bitmap.old row.old))) < 2 ^ 63 }
-    ensures ok { IfOk result (λ r. PutsInside K.cmp K.path_of level entry (C.holds condition.now) (branch_of stamp.old.0 (in_row size.old bitmap.old row.old)) r (branch_of stamp.new.0 (in_row size.new bitmap.new row.new))) }
-    ensures due { OnErr result (is_refusable (C.holds condition.now) (first_of K.cmp entry.key.value (entries (branch_of stamp.old.0 (in_row size.old bitmap.old row.old)))) ≡ true) }
+    ensures ok { IfOk result (λ r. PutsInside S.value_of K.cmp K.path_of level entry (C.holds condition.now) (branch_of stamp.old.0 (in_row size.old bitmap.old row.old)) r (branch_of stamp.new.0 (in_row size.new bitmap.new row.new))) }
+    ensures due { OnErr result (is_refusable (C.holds condition.now) (first_of K.cmp entry.pair.0 (entries (branch_of stamp.old.0 (in_row size.old bitmap.old row.old)))) ≡ true) }
     ensures err { OnErr result (branch_of stamp.new.0 (in_row size.new bitmap.new row.new) ≡ branch_of stamp.old.0 (in_row size.old bitmap.old row.old)) }
 {
     put_in_branch(alloc, bitmap, stamp, size, row, entry, level, condition)
@@ -297,91 +306,51 @@ fn put_in_sixteen<K: PathKey + Drop, V: Drop, C: Condition<V>>(
 
 /// A put below a branch in a row of 32 places, which nobody else holds.
 #[cycle(put_in)]
-fn put_in_all<K: PathKey + Drop, V: Drop, C: Condition<V>>(
+fn put_in_all<K: PathKey, V, S: Slots<K, V>, C: Condition<V>>(
     alloc: Global,
     bitmap: &mut u32,
     stamp: &mut Stamp,
     size: &mut u64,
-    row: &mut [Node<K, V>; 32],
-    entry: NewPair<K, V>,
+    row: &mut [Node<K, V, S>; 32],
+    entry: NewPair<K, V, S>,
     level: u32,
     condition: &C,
-) -> Result<PutInside<K, V>, NoMemory>
+) -> Result<PutInside<K, V, S>, NoMemory>
+where
+    S::Key: Drop,
+    S::Value: Drop,
     requires trie { IsTrie K.cmp K.path_of level (branch_of stamp.old.0 (in_row size.old bitmap.old row.old)) }
-    requires path { entry.path.0 ≡ K.path_of entry.key.value }
+    requires path { entry.path.0 ≡ K.path_of entry.pair.0 }
     requires agree { KeysAgree K.cmp K.path_of level entry.path.0 (entries (branch_of stamp.old.0 (in_row size.old bitmap.old row.old))) }
     requires room { length (entries (branch_of stamp.old.0 (in_row size.old bitmap.old row.old))) < 2 ^ 63 }
-    ensures ok { IfOk result (λ r. PutsInside K.cmp K.path_of level entry (C.holds condition.now) (branch_of stamp.old.0 (in_row size.old bitmap.old row.old)) r (branch_of stamp.new.0 (in_row size.new bitmap.new row.new))) }
-    ensures due { OnErr result (is_refusable (C.holds condition.now) (first_of K.cmp entry.key.value (entries (branch_of stamp.old.0 (in_row size.old bitmap.old row.old)))) ≡ true) }
+    ensures ok { IfOk result (λ r. PutsInside S.value_of K.cmp K.path_of level entry (C.holds condition.now) (branch_of stamp.old.0 (in_row size.old bitmap.old row.old)) r (branch_of stamp.new.0 (in_row size.new bitmap.new row.new))) }
+    ensures due { OnErr result (is_refusable (C.holds condition.now) (first_of K.cmp entry.pair.0 (entries (branch_of stamp.old.0 (in_row size.old bitmap.old row.old)))) ≡ true) }
     ensures err { OnErr result (branch_of stamp.new.0 (in_row size.new bitmap.new row.new) ≡ branch_of stamp.old.0 (in_row size.old bitmap.old row.old)) }
 {
     put_in_branch(alloc, bitmap, stamp, size, row, entry, level, condition)
 }
 
-/// A put of a key whose digit no child of a branch has, where nobody else holds the branch's row: a
-/// leaf among its children, in a row of the next size if this one is full.
-fn put_leaf<K: PathKey + Drop, V: Drop, C: Condition<V>>(
-    alloc: Global,
-    bitmap: &mut u32,
-    stamp: &mut Stamp,
-    size: &mut u64,
-    row: &mut [Node<K, V>],
-    digit: u32,
-    at: usize,
-    entry: NewPair<K, V>,
-    condition: &C,
-) -> Result<PutInside<K, V>, NoMemory>
-    requires digit { digit < fan_out }
-    requires lacks { (bit_at bitmap.old digit == 1) ≡ false }
-    requires at { at ≤ count_ones bitmap.old }
-    requires row { count_ones bitmap.old ≤ length row.old }
-    requires size { size.old + 1 < 2 ^ 64 }
-    ensures ok { IfOk result (λ r. PutsLeaf entry (C.holds condition.now None) (with_leaf entry size.old bitmap.old digit at (take (count_ones bitmap.old) row.old)) (branch_of stamp.old.0 (in_row size.old bitmap.old row.old)) r (branch_of stamp.new.0 (in_row size.new bitmap.new row.new))) }
-    ensures due { OnErr result (C.holds condition.now None ≡ true) }
-    ensures err { OnErr result (branch_of stamp.new.0 (in_row size.new bitmap.new row.new) ≡ branch_of stamp.old.0 (in_row size.old bitmap.old row.old)) }
-{
-    if !holds_of_absent(condition) {
-        return Ok(PutInside::Done(Change {
-            previous: None,
-            written: false,
-        }));
-    }
-    let NewPair {
-        key,
-        value,
-        stamp: new_stamp,
-        ..
-    } = entry;
-    let leaf = make_leaf(new_stamp, key, value);
-    if bitmap.count_ones() as usize == row.len() {
-        let grown = outgrow(alloc, *bitmap, *size, row, digit, at, leaf, new_stamp)?;
-        return Ok(PutInside::GivesWay(grown));
-    }
-    gain_child(bitmap, stamp, size, row, digit, at, leaf, new_stamp);
-    Ok(PutInside::Done(Change {
-        previous: None,
-        written: true,
-    }))
-}
-
 /// A put below a branch whose row nobody else holds.
 #[cycle(put_in)]
-fn put_in_branch<K: PathKey + Drop, V: Drop, C: Condition<V>>(
+fn put_in_branch<K: PathKey, V, S: Slots<K, V>, C: Condition<V>>(
     alloc: Global,
     bitmap: &mut u32,
     stamp: &mut Stamp,
     size: &mut u64,
-    row: &mut [Node<K, V>],
-    entry: NewPair<K, V>,
+    row: &mut [Node<K, V, S>],
+    entry: NewPair<K, V, S>,
     level: u32,
     condition: &C,
-) -> Result<PutInside<K, V>, NoMemory>
+) -> Result<PutInside<K, V, S>, NoMemory>
+where
+    S::Key: Drop,
+    S::Value: Drop,
     requires trie { IsTrie K.cmp K.path_of level (branch_of stamp.old.0 (in_row size.old bitmap.old row.old)) }
-    requires path { entry.path.0 ≡ K.path_of entry.key.value }
+    requires path { entry.path.0 ≡ K.path_of entry.pair.0 }
     requires agree { KeysAgree K.cmp K.path_of level entry.path.0 (entries (branch_of stamp.old.0 (in_row size.old bitmap.old row.old))) }
     requires room { length (entries (branch_of stamp.old.0 (in_row size.old bitmap.old row.old))) < 2 ^ 63 }
-    ensures ok { IfOk result (λ r. PutsInside K.cmp K.path_of level entry (C.holds condition.now) (branch_of stamp.old.0 (in_row size.old bitmap.old row.old)) r (branch_of stamp.new.0 (in_row size.new bitmap.new row.new))) }
-    ensures due { OnErr result (is_refusable (C.holds condition.now) (first_of K.cmp entry.key.value (entries (branch_of stamp.old.0 (in_row size.old bitmap.old row.old)))) ≡ true) }
+    ensures ok { IfOk result (λ r. PutsInside S.value_of K.cmp K.path_of level entry (C.holds condition.now) (branch_of stamp.old.0 (in_row size.old bitmap.old row.old)) r (branch_of stamp.new.0 (in_row size.new bitmap.new row.new))) }
+    ensures due { OnErr result (is_refusable (C.holds condition.now) (first_of K.cmp entry.pair.0 (entries (branch_of stamp.old.0 (in_row size.old bitmap.old row.old)))) ≡ true) }
     ensures err { OnErr result (branch_of stamp.new.0 (in_row size.new bitmap.new row.new) ≡ branch_of stamp.old.0 (in_row size.old bitmap.old row.old)) }
 {
     let digit = entry.path.digit(level);

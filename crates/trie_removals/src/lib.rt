@@ -5,6 +5,7 @@
 #![tactic(auto)]
 
 mod bucket_removals;
+mod copied_removal;
 mod removal_in_place;
 
 pub use removal_in_place::{RemovedIn, remove_in_at};

@@ -9,32 +9,33 @@ ghost use Rattle.trie_shape.specs.View.{tree, branch_of, in_row};
 ghost use Rattle.trie_removals.specs.RemovalInPlace.{TakesOut, TakesInside};
 
 use crate::bucket_removals::remove_from_pairs;
+use crate::copied_removal::remove_copied;
 use hash_path::{Path, PathKey, Sought};
+use slots::{Shared, Slots, ValueSlots};
 use std::alloc::Global;
 use std::sync::Arc;
-use trie_copy::{Removal, remove_at};
 use trie_shape::{
     Always, Condition, NoMemory, Node, Stamp, count_out, has_digit, lose_child, place,
 };
 
 /// What a removal did to a node.
 #[derive(Drop)]
-pub enum RemovedIn<V> {
+pub enum RemovedIn<V, S: ValueSlots<V> = Shared> {
     /// Nothing was removed. It has the key's value, if the key is there.
-    Nothing(Option<Arc<V, Global>>),
+    Nothing(Option<S::Value>),
     /// The pair is the only one, and the node is left to its holder. It has this value.
-    Gone(Arc<V, Global>),
+    Gone(S::Value),
     /// The node is now without the pair, which had this value.
-    Left(Arc<V, Global>),
+    Left(S::Value),
 }
 
 /// What a removal from a node where it stands came to.
 #[derive(Drop)]
-pub(crate) enum TakenInside<K, V> {
+pub(crate) enum TakenInside<K, V, S: Slots<K, V>> {
     /// The removal is done.
-    Done(RemovedIn<V>),
+    Done(RemovedIn<V, S>),
     /// This node is to take the branch's place.
-    GivesWay(Node<K, V>, Arc<V, Global>),
+    GivesWay(Node<K, V, S>, S::Value),
     /// The node cannot be written where it stands, and is as it was.
     Elsewhere,
 }
@@ -42,18 +43,21 @@ pub(crate) enum TakenInside<K, V> {
 /// The removal of the key from a node that stands at the level: where it stands as far as nobody
 /// else holds the nodes of the key's way, and else by copies of them.
 #[cycle(remove_in)]
-pub fn remove_in_at<K: PathKey + Drop, V: Drop, Q: Sought<K>, C: Condition<V>>(
+pub fn remove_in_at<K: PathKey, V, S: Slots<K, V>, Q: Sought<K>, C: Condition<V>>(
     alloc: Global,
-    node: &mut Node<K, V>,
+    node: &mut Node<K, V, S>,
     key: Q,
     path: Path,
     stamp: Stamp,
     level: u32,
     condition: &C,
-) -> Result<RemovedIn<V>, NoMemory>
+) -> Result<RemovedIn<V, S>, NoMemory>
+where
+    S::Key: Drop,
+    S::Value: Drop,
     requires path { path.0 ≡ K.path_of (Q.key_of key) }
     requires trie { IsTrie K.cmp K.path_of level (tree node.old) }
-    ensures ok { IfOk result (λ r. TakesOut K.cmp K.path_of level stamp.0 (Q.key_of key) (C.holds condition.now) (tree node.old) r (tree node.new)) }
+    ensures ok { IfOk result (λ r. TakesOut S.value_of K.cmp K.path_of level stamp.0 (Q.key_of key) (C.holds condition.now) (tree node.old) r (tree node.new)) }
     ensures due { OnErr result (is_some (first_of K.cmp (Q.key_of key) (entries (tree node.old))) ≡ true) }
     ensures err { OnErr result (tree node.new ≡ tree node.old) }
 {
@@ -69,18 +73,21 @@ pub fn remove_in_at<K: PathKey + Drop, V: Drop, Q: Sought<K>, C: Condition<V>>(
 
 /// The removal of the key from a node that stands at the level, where nobody else holds the node.
 #[cycle(remove_in)]
-fn remove_in_node<K: PathKey + Drop, V: Drop, Q: Sought<K>, C: Condition<V>>(
+fn remove_in_node<K: PathKey, V, S: Slots<K, V>, Q: Sought<K>, C: Condition<V>>(
     alloc: Global,
-    node: &mut Node<K, V>,
+    node: &mut Node<K, V, S>,
     key: Q,
     path: Path,
     stamp: Stamp,
     level: u32,
     condition: &C,
-) -> Result<TakenInside<K, V>, NoMemory>
+) -> Result<TakenInside<K, V, S>, NoMemory>
+where
+    S::Key: Drop,
+    S::Value: Drop,
     requires path { path.0 ≡ K.path_of (Q.key_of key) }
     requires trie { IsTrie K.cmp K.path_of level (tree node.old) }
-    ensures ok { IfOk result (λ r. TakesInside K.cmp K.path_of level stamp.0 (Q.key_of key) (C.holds condition.now) (tree node.old) r (tree node.new)) }
+    ensures ok { IfOk result (λ r. TakesInside S.value_of K.cmp K.path_of level stamp.0 (Q.key_of key) (C.holds condition.now) (tree node.old) r (tree node.new)) }
     ensures due { OnErr result (is_some (first_of K.cmp (Q.key_of key) (entries (tree node.old))) ≡ true) }
     ensures err { OnErr result (tree node.new ≡ tree node.old) }
 {
@@ -104,18 +111,21 @@ fn remove_in_node<K: PathKey + Drop, V: Drop, Q: Sought<K>, C: Condition<V>>(
 
 /// A removal below a branch, where nobody else holds it. No other node is written.
 #[cycle(remove_in)]
-fn remove_in_row<K: PathKey + Drop, V: Drop, Q: Sought<K>, C: Condition<V>>(
+fn remove_in_row<K: PathKey, V, S: Slots<K, V>, Q: Sought<K>, C: Condition<V>>(
     alloc: Global,
-    node: &mut Node<K, V>,
+    node: &mut Node<K, V, S>,
     key: Q,
     path: Path,
     stamp: Stamp,
     level: u32,
     condition: &C,
-) -> Result<TakenInside<K, V>, NoMemory>
+) -> Result<TakenInside<K, V, S>, NoMemory>
+where
+    S::Key: Drop,
+    S::Value: Drop,
     requires path { path.0 ≡ K.path_of (Q.key_of key) }
     requires trie { IsTrie K.cmp K.path_of level (tree node.old) }
-    ensures ok { IfOk result (λ r. TakesInside K.cmp K.path_of level stamp.0 (Q.key_of key) (C.holds condition.now) (tree node.old) r (tree node.new)) }
+    ensures ok { IfOk result (λ r. TakesInside S.value_of K.cmp K.path_of level stamp.0 (Q.key_of key) (C.holds condition.now) (tree node.old) r (tree node.new)) }
     ensures due { OnErr result (is_some (first_of K.cmp (Q.key_of key) (entries (tree node.old))) ≡ true) }
     ensures err { OnErr result (tree node.new ≡ tree node.old) }
 {
@@ -153,6 +163,31 @@ fn remove_in_row<K: PathKey + Drop, V: Drop, Q: Sought<K>, C: Condition<V>>(
             ),
             None => Ok(TakenInside::Elsewhere),
         },
+        _ => remove_in_long_row(alloc, node, key, path, stamp, level, condition),
+    }
+}
+
+/// A removal below a branch whose row has 16 or 32 places, where nobody else holds it.
+#[cycle(remove_in)]
+fn remove_in_long_row<K: PathKey, V, S: Slots<K, V>, Q: Sought<K>, C: Condition<V>>(
+    alloc: Global,
+    node: &mut Node<K, V, S>,
+    key: Q,
+    path: Path,
+    stamp: Stamp,
+    level: u32,
+    condition: &C,
+) -> Result<TakenInside<K, V, S>, NoMemory>
+where
+    S::Key: Drop,
+    S::Value: Drop,
+    requires path { path.0 ≡ K.path_of (Q.key_of key) }
+    requires trie { IsTrie K.cmp K.path_of level (tree node.old) }
+    ensures ok { IfOk result (λ r. TakesInside S.value_of K.cmp K.path_of level stamp.0 (Q.key_of key) (C.holds condition.now) (tree node.old) r (tree node.new)) }
+    ensures due { OnErr result (is_some (first_of K.cmp (Q.key_of key) (entries (tree node.old))) ≡ true) }
+    ensures err { OnErr result (tree node.new ≡ tree node.old) }
+{
+    match node {
         Node::Sixteen {
             bitmap,
             stamp: old,
@@ -179,51 +214,26 @@ fn remove_in_row<K: PathKey + Drop, V: Drop, Q: Sought<K>, C: Condition<V>>(
     }
 }
 
-/// A removal by copies of the nodes of the key's way.
-fn remove_copied<K: PathKey + Drop, V: Drop, Q: Sought<K>, C: Condition<V>>(
-    alloc: Global,
-    node: &mut Node<K, V>,
-    key: Q,
-    path: Path,
-    stamp: Stamp,
-    level: u32,
-    condition: &C,
-) -> Result<RemovedIn<V>, NoMemory>
-    requires path { path.0 ≡ K.path_of (Q.key_of key) }
-    requires trie { IsTrie K.cmp K.path_of level (tree node.old) }
-    ensures ok { IfOk result (λ r. TakesOut K.cmp K.path_of level stamp.0 (Q.key_of key) (C.holds condition.now) (tree node.old) r (tree node.new)) }
-    ensures due { OnErr result (is_some (first_of K.cmp (Q.key_of key) (entries (tree node.old))) ≡ true) }
-    ensures err { OnErr result (tree node.new ≡ tree node.old) }
-{
-    match remove_at(alloc, node, key, path, stamp, level, condition)? {
-        Removal::Nothing(None) => Ok(RemovedIn::Nothing(None)),
-        Removal::Nothing(Some(value)) => Ok(RemovedIn::Nothing(Some(Arc::try_clone(value)?))),
-        Removal::Gone(value) => Ok(RemovedIn::Gone(Arc::try_clone(value)?)),
-        Removal::Left(rest, value) => {
-            let value = Arc::try_clone(value)?;
-            *node = rest;
-            Ok(RemovedIn::Left(value))
-        }
-    }
-}
-
 /// The removal of the key from a branch in a row of 2 places, which nobody else holds.
 #[cycle(remove_in)]
-fn remove_in_two<K: PathKey + Drop, V: Drop, Q: Sought<K>, C: Condition<V>>(
+fn remove_in_two<K: PathKey, V, S: Slots<K, V>, Q: Sought<K>, C: Condition<V>>(
     alloc: Global,
     bitmap: &mut u32,
     stamp: &mut Stamp,
     size: &mut u64,
-    row: &mut [Node<K, V>; 2],
+    row: &mut [Node<K, V, S>; 2],
     key: Q,
     path: Path,
     new_stamp: Stamp,
     level: u32,
     condition: &C,
-) -> Result<TakenInside<K, V>, NoMemory>
+) -> Result<TakenInside<K, V, S>, NoMemory>
+where
+    S::Key: Drop,
+    S::Value: Drop,
     requires path { path.0 ≡ K.path_of (Q.key_of key) }
     requires trie { IsTrie K.cmp K.path_of level (branch_of stamp.old.0 (in_row size.old bitmap.old row.old)) }
-    ensures ok { IfOk result (λ r. TakesInside K.cmp K.path_of level new_stamp.0 (Q.key_of key) (C.holds condition.now) (branch_of stamp.old.0 (in_row size.old bitmap.old row.old)) r (branch_of stamp.new.0 (in_row size.new bitmap.new row.new))) }
+    ensures ok { IfOk result (λ r. TakesInside S.value_of K.cmp K.path_of level new_stamp.0 (Q.key_of key) (C.holds condition.now) (branch_of stamp.old.0 (in_row size.old bitmap.old row.old)) r (branch_of stamp.new.0 (in_row size.new bitmap.new row.new))) }
     ensures due { OnErr result (is_some (first_of K.cmp (Q.key_of key) (entries (branch_of stamp.old.0 (in_row size.old bitmap.old row.old)))) ≡ true) }
     ensures err { OnErr result (branch_of stamp.new.0 (in_row size.new bitmap.new row.new) ≡ branch_of stamp.old.0 (in_row size.old bitmap.old row.old)) }
 {
@@ -234,21 +244,24 @@ fn remove_in_two<K: PathKey + Drop, V: Drop, Q: Sought<K>, C: Condition<V>>(
 
 /// The removal of the key from a branch in a row of 4 places, which nobody else holds.
 #[cycle(remove_in)]
-fn remove_in_four<K: PathKey + Drop, V: Drop, Q: Sought<K>, C: Condition<V>>(
+fn remove_in_four<K: PathKey, V, S: Slots<K, V>, Q: Sought<K>, C: Condition<V>>(
     alloc: Global,
     bitmap: &mut u32,
     stamp: &mut Stamp,
     size: &mut u64,
-    row: &mut [Node<K, V>; 4],
+    row: &mut [Node<K, V, S>; 4],
     key: Q,
     path: Path,
     new_stamp: Stamp,
     level: u32,
     condition: &C,
-) -> Result<TakenInside<K, V>, NoMemory>
+) -> Result<TakenInside<K, V, S>, NoMemory>
+where
+    S::Key: Drop,
+    S::Value: Drop,
     requires path { path.0 ≡ K.path_of (Q.key_of key) }
     requires trie { IsTrie K.cmp K.path_of level (branch_of stamp.old.0 (in_row size.old bitmap.old row.old)) }
-    ensures ok { IfOk result (λ r. TakesInside K.cmp K.path_of level new_stamp.0 (Q.key_of key) (C.holds condition.now) (branch_of stamp.old.0 (in_row size.old bitmap.old row.old)) r (branch_of stamp.new.0 (in_row size.new bitmap.new row.new))) }
+    ensures ok { IfOk result (λ r. TakesInside S.value_of K.cmp K.path_of level new_stamp.0 (Q.key_of key) (C.holds condition.now) (branch_of stamp.old.0 (in_row size.old bitmap.old row.old)) r (branch_of stamp.new.0 (in_row size.new bitmap.new row.new))) }
     ensures due { OnErr result (is_some (first_of K.cmp (Q.key_of key) (entries (branch_of stamp.old.0 (in_row size.old bitmap.old row.old)))) ≡ true) }
     ensures err { OnErr result (branch_of stamp.new.0 (in_row size.new bitmap.new row.new) ≡ branch_of stamp.old.0 (in_row size.old bitmap.old row.old)) }
 {
@@ -259,21 +272,24 @@ fn remove_in_four<K: PathKey + Drop, V: Drop, Q: Sought<K>, C: Condition<V>>(
 
 /// The removal of the key from a branch in a row of 8 places, which nobody else holds.
 #[cycle(remove_in)]
-fn remove_in_eight<K: PathKey + Drop, V: Drop, Q: Sought<K>, C: Condition<V>>(
+fn remove_in_eight<K: PathKey, V, S: Slots<K, V>, Q: Sought<K>, C: Condition<V>>(
     alloc: Global,
     bitmap: &mut u32,
     stamp: &mut Stamp,
     size: &mut u64,
-    row: &mut [Node<K, V>; 8],
+    row: &mut [Node<K, V, S>; 8],
     key: Q,
     path: Path,
     new_stamp: Stamp,
     level: u32,
     condition: &C,
-) -> Result<TakenInside<K, V>, NoMemory>
+) -> Result<TakenInside<K, V, S>, NoMemory>
+where
+    S::Key: Drop,
+    S::Value: Drop,
     requires path { path.0 ≡ K.path_of (Q.key_of key) }
     requires trie { IsTrie K.cmp K.path_of level (branch_of stamp.old.0 (in_row size.old bitmap.old row.old)) }
-    ensures ok { IfOk result (λ r. TakesInside K.cmp K.path_of level new_stamp.0 (Q.key_of key) (C.holds condition.now) (branch_of stamp.old.0 (in_row size.old bitmap.old row.old)) r (branch_of stamp.new.0 (in_row size.new bitmap.new row.new))) }
+    ensures ok { IfOk result (λ r. TakesInside S.value_of K.cmp K.path_of level new_stamp.0 (Q.key_of key) (C.holds condition.now) (branch_of stamp.old.0 (in_row size.old bitmap.old row.old)) r (branch_of stamp.new.0 (in_row size.new bitmap.new row.new))) }
     ensures due { OnErr result (is_some (first_of K.cmp (Q.key_of key) (entries (branch_of stamp.old.0 (in_row size.old bitmap.old row.old)))) ≡ true) }
     ensures err { OnErr result (branch_of stamp.new.0 (in_row size.new bitmap.new row.new) ≡ branch_of stamp.old.0 (in_row size.old bitmap.old row.old)) }
 {
@@ -284,21 +300,24 @@ fn remove_in_eight<K: PathKey + Drop, V: Drop, Q: Sought<K>, C: Condition<V>>(
 
 /// The removal of the key from a branch in a row of 16 places, which nobody else holds.
 #[cycle(remove_in)]
-fn remove_in_sixteen<K: PathKey + Drop, V: Drop, Q: Sought<K>, C: Condition<V>>(
+fn remove_in_sixteen<K: PathKey, V, S: Slots<K, V>, Q: Sought<K>, C: Condition<V>>(
     alloc: Global,
     bitmap: &mut u32,
     stamp: &mut Stamp,
     size: &mut u64,
-    row: &mut [Node<K, V>; 16],
+    row: &mut [Node<K, V, S>; 16],
     key: Q,
     path: Path,
     new_stamp: Stamp,
     level: u32,
     condition: &C,
-) -> Result<TakenInside<K, V>, NoMemory>
+) -> Result<TakenInside<K, V, S>, NoMemory>
+where
+    S::Key: Drop,
+    S::Value: Drop,
     requires path { path.0 ≡ K.path_of (Q.key_of key) }
     requires trie { IsTrie K.cmp K.path_of level (branch_of stamp.old.0 (in_row size.old bitmap.old row.old)) }
-    ensures ok { IfOk result (λ r. TakesInside K.cmp K.path_of level new_stamp.0 (Q.key_of key) (C.holds condition.now) (branch_of stamp.old.0 (in_row size.old bitmap.old row.old)) r (branch_of stamp.new.0 (in_row size.new bitmap.new row.new))) }
+    ensures ok { IfOk result (λ r. TakesInside S.value_of K.cmp K.path_of level new_stamp.0 (Q.key_of key) (C.holds condition.now) (branch_of stamp.old.0 (in_row size.old bitmap.old row.old)) r (branch_of stamp.new.0 (in_row size.new bitmap.new row.new))) }
     ensures due { OnErr result (is_some (first_of K.cmp (Q.key_of key) (entries (branch_of stamp.old.0 (in_row size.old bitmap.old row.old)))) ≡ true) }
     ensures err { OnErr result (branch_of stamp.new.0 (in_row size.new bitmap.new row.new) ≡ branch_of stamp.old.0 (in_row size.old bitmap.old row.old)) }
 {
@@ -309,21 +328,24 @@ fn remove_in_sixteen<K: PathKey + Drop, V: Drop, Q: Sought<K>, C: Condition<V>>(
 
 /// The removal of the key from a branch in a row of 32 places, which nobody else holds.
 #[cycle(remove_in)]
-fn remove_in_all<K: PathKey + Drop, V: Drop, Q: Sought<K>, C: Condition<V>>(
+fn remove_in_all<K: PathKey, V, S: Slots<K, V>, Q: Sought<K>, C: Condition<V>>(
     alloc: Global,
     bitmap: &mut u32,
     stamp: &mut Stamp,
     size: &mut u64,
-    row: &mut [Node<K, V>; 32],
+    row: &mut [Node<K, V, S>; 32],
     key: Q,
     path: Path,
     new_stamp: Stamp,
     level: u32,
     condition: &C,
-) -> Result<TakenInside<K, V>, NoMemory>
+) -> Result<TakenInside<K, V, S>, NoMemory>
+where
+    S::Key: Drop,
+    S::Value: Drop,
     requires path { path.0 ≡ K.path_of (Q.key_of key) }
     requires trie { IsTrie K.cmp K.path_of level (branch_of stamp.old.0 (in_row size.old bitmap.old row.old)) }
-    ensures ok { IfOk result (λ r. TakesInside K.cmp K.path_of level new_stamp.0 (Q.key_of key) (C.holds condition.now) (branch_of stamp.old.0 (in_row size.old bitmap.old row.old)) r (branch_of stamp.new.0 (in_row size.new bitmap.new row.new))) }
+    ensures ok { IfOk result (λ r. TakesInside S.value_of K.cmp K.path_of level new_stamp.0 (Q.key_of key) (C.holds condition.now) (branch_of stamp.old.0 (in_row size.old bitmap.old row.old)) r (branch_of stamp.new.0 (in_row size.new bitmap.new row.new))) }
     ensures due { OnErr result (is_some (first_of K.cmp (Q.key_of key) (entries (branch_of stamp.old.0 (in_row size.old bitmap.old row.old)))) ≡ true) }
     ensures err { OnErr result (branch_of stamp.new.0 (in_row size.new bitmap.new row.new) ≡ branch_of stamp.old.0 (in_row size.old bitmap.old row.old)) }
 {
@@ -334,21 +356,24 @@ fn remove_in_all<K: PathKey + Drop, V: Drop, Q: Sought<K>, C: Condition<V>>(
 
 /// The removal of the key from a branch whose row nobody else holds.
 #[cycle(remove_in)]
-fn remove_in_branch<K: PathKey + Drop, V: Drop, Q: Sought<K>, C: Condition<V>>(
+fn remove_in_branch<K: PathKey, V, S: Slots<K, V>, Q: Sought<K>, C: Condition<V>>(
     alloc: Global,
     bitmap: &mut u32,
     stamp: &mut Stamp,
     size: &mut u64,
-    row: &mut [Node<K, V>],
+    row: &mut [Node<K, V, S>],
     key: Q,
     path: Path,
     new_stamp: Stamp,
     level: u32,
     condition: &C,
-) -> Result<TakenInside<K, V>, NoMemory>
+) -> Result<TakenInside<K, V, S>, NoMemory>
+where
+    S::Key: Drop,
+    S::Value: Drop,
     requires path { path.0 ≡ K.path_of (Q.key_of key) }
     requires trie { IsTrie K.cmp K.path_of level (branch_of stamp.old.0 (in_row size.old bitmap.old row.old)) }
-    ensures ok { IfOk result (λ r. TakesInside K.cmp K.path_of level new_stamp.0 (Q.key_of key) (C.holds condition.now) (branch_of stamp.old.0 (in_row size.old bitmap.old row.old)) r (branch_of stamp.new.0 (in_row size.new bitmap.new row.new))) }
+    ensures ok { IfOk result (λ r. TakesInside S.value_of K.cmp K.path_of level new_stamp.0 (Q.key_of key) (C.holds condition.now) (branch_of stamp.old.0 (in_row size.old bitmap.old row.old)) r (branch_of stamp.new.0 (in_row size.new bitmap.new row.new))) }
     ensures due { OnErr result (is_some (first_of K.cmp (Q.key_of key) (entries (branch_of stamp.old.0 (in_row size.old bitmap.old row.old)))) ≡ true) }
     ensures err { OnErr result (branch_of stamp.new.0 (in_row size.new bitmap.new row.new) ≡ branch_of stamp.old.0 (in_row size.old bitmap.old row.old)) }
 {

@@ -13,6 +13,7 @@ ghost use Rattle.trie_shape.specs.Drawn.{drawn_up};
 use crate::contraction::is_pairs;
 use crate::node::Node;
 use crate::stamps::Stamp;
+use slots::Slots;
 use std::mem;
 
 /// A bitmap with a digit that it lacks.
@@ -36,12 +37,15 @@ fn without_digit(bitmap: u32, digit: u32) -> u32
 }
 
 /// Puts a node among the first `used` of a row. What stood in the place behind them is dropped.
-pub(crate) fn open_up<K: Drop, V: Drop>(
-    row: &mut [Node<K, V>],
+pub(crate) fn open_up<K, V, S: Slots<K, V>>(
+    row: &mut [Node<K, V, S>],
     at: usize,
     used: usize,
-    node: Node<K, V>,
+    node: Node<K, V, S>,
 )
+where
+    S::Key: Drop,
+    S::Value: Drop,
     requires at { at ≤ used }
     requires used { used < length row.old }
     ensures len { length row.new ≡ length row.old }
@@ -53,16 +57,19 @@ pub(crate) fn open_up<K: Drop, V: Drop>(
 
 /// Gives a branch whose row has room one child more, of a digit that no child has, at its place. For
 /// the crates that write whole roots.
-pub fn gain_child<K: Drop, V: Drop>(
+pub fn gain_child<K, V, S: Slots<K, V>>(
     bitmap: &mut u32,
     stamp: &mut Stamp,
     size: &mut u64,
-    row: &mut [Node<K, V>],
+    row: &mut [Node<K, V, S>],
     digit: u32,
     at: usize,
-    child: Node<K, V>,
+    child: Node<K, V, S>,
     new_stamp: Stamp,
 )
+where
+    S::Key: Drop,
+    S::Value: Drop,
     requires digit { digit < fan_out }
     requires lacks { (bit_at bitmap.old digit == 1) ≡ false }
     requires at { at ≤ count_ones bitmap.old }
@@ -79,12 +86,15 @@ pub fn gain_child<K: Drop, V: Drop>(
 
 /// Takes the node at a place out of the first `used` of a row. The nodes behind it move up, and the
 /// last of the places is vacant then.
-fn close_up<K: Drop, V: Drop>(row: &mut [Node<K, V>], at: usize, used: usize)
+fn close_up<K, V, S: Slots<K, V>>(row: &mut [Node<K, V, S>], at: usize, used: usize)
+where
+    S::Key: Drop,
+    S::Value: Drop,
     requires at { at < used }
     requires used { used ≤ length row.old }
     ensures len { length row.new ≡ length row.old }
     ensures row { take (used - 1) row.new ≡ remove (take used row.old) at }
-    ensures vacant { (other : Node K V) → slice_index_or row.new (used - 1) other ≡ Node.Vacant }
+    ensures vacant { (other : Node K V S S.Key S.Value) → slice_index_or row.new (used - 1) other ≡ Node.Vacant }
 {
     row[at..used].rotate_left(1);
     row[used - 1] = Node::Vacant;
@@ -93,16 +103,19 @@ fn close_up<K: Drop, V: Drop>(row: &mut [Node<K, V>], at: usize, used: usize)
 /// Takes the child at a place, which has the digit, out of a branch. Below the root, an only child
 /// that is left and is a leaf or bucket is handed out, to take the branch's place. For
 /// the crates that write whole roots.
-pub fn lose_child<K: Drop, V: Drop>(
+pub fn lose_child<K, V, S: Slots<K, V>>(
     bitmap: &mut u32,
     stamp: &mut Stamp,
     size: &mut u64,
-    row: &mut [Node<K, V>],
+    row: &mut [Node<K, V, S>],
     digit: u32,
     at: usize,
     new_stamp: Stamp,
     level: u32,
-) -> Option<Node<K, V>>
+) -> Option<Node<K, V, S>>
+where
+    S::Key: Drop,
+    S::Value: Drop,
     requires digit { digit < fan_out }
     requires has { (bit_at bitmap.old digit == 1) ≡ true }
     requires at { at < count_ones bitmap.old }
@@ -126,14 +139,17 @@ pub fn lose_child<K: Drop, V: Drop>(
 
 /// Counts a pair out of a branch whose child has lost it. Below the root, an only child that is a
 /// leaf or bucket is handed out, to take the branch's place. For the crates that write whole roots.
-pub fn count_out<K: Drop, V: Drop>(
+pub fn count_out<K, V, S: Slots<K, V>>(
     bitmap: u32,
     stamp: &mut Stamp,
     size: &mut u64,
-    row: &mut [Node<K, V>],
+    row: &mut [Node<K, V, S>],
     new_stamp: Stamp,
     level: u32,
-) -> Option<Node<K, V>>
+) -> Option<Node<K, V, S>>
+where
+    S::Key: Drop,
+    S::Value: Drop,
     requires row { count_ones bitmap ≤ length row.old }
     requires size { 0 < size.old }
     ensures gives { IfSome result (λ n. tree n ≡ drawn_up level (branch new_stamp.0 (size.old - 1) bitmap (trees (map tree (take (count_ones bitmap) row.old))))) }

@@ -6,31 +6,30 @@ ghost use Rattle.trie_shape.specs.Inside.{Holds, lent};
 
 use crate::node::Node;
 use crate::stamps::Stamp;
-use std::alloc::Global;
+use slots::{Pair, Shared, Slots};
 use std::slice;
-use std::sync::Arc;
 
 /// A branch that is lent: its head, and its children in the order of their digits. For the crates that
 /// write whole roots.
 #[derive(Drop)]
-pub struct Branch<'a, K, V> {
+pub struct Branch<'a, K, V, S: Slots<K, V> = Shared> {
     pub stamp: Stamp,
     pub size: u64,
     pub bitmap: u32,
-    pub children: &'a [Node<K, V>],
+    pub children: &'a [Node<K, V, S>],
 }
 
 /// What a node holds. For the crates that write whole roots.
 #[derive(Drop)]
-pub enum Contents<'a, K, V> {
+pub enum Contents<'a, K, V, S: Slots<K, V> = Shared> {
     /// A branch.
-    Branch(Branch<'a, K, V>),
+    Branch(Branch<'a, K, V, S>),
     /// One pair of a leaf, two or more of a bucket, in the order of their keys.
-    Pairs(&'a [(Arc<K, Global>, Arc<V, Global>)]),
+    Pairs(&'a [Pair<K, V, S>]),
 }
 
 /// An item of a slice. For the crates that write whole roots.
-pub fn nth<K, V>(nodes: &[Node<K, V>], n: usize) -> &Node<K, V>
+pub fn nth<K, V, S: Slots<K, V>>(nodes: &[Node<K, V, S>], n: usize) -> &Node<K, V, S>
     requires { n < length nodes.now }
     ensures { result.now ≡ get_or nodes.now n result.now }
 {
@@ -38,7 +37,12 @@ pub fn nth<K, V>(nodes: &[Node<K, V>], n: usize) -> &Node<K, V>
 }
 
 /// A branch from its head and its row.
-fn lend<'a, K, V>(stamp: Stamp, size: u64, bitmap: u32, row: &'a [Node<K, V>]) -> Branch<'a, K, V>
+fn lend<'a, K, V, S: Slots<K, V>>(
+    stamp: Stamp,
+    size: u64,
+    bitmap: u32,
+    row: &'a [Node<K, V, S>],
+) -> Branch<'a, K, V, S>
     ensures stamp { result.stamp ≡ stamp }
     ensures branch { lent result ≡ in_row size bitmap row.now }
 {
@@ -52,7 +56,7 @@ fn lend<'a, K, V>(stamp: Stamp, size: u64, bitmap: u32, row: &'a [Node<K, V>]) -
 }
 
 /// What the node holds. For the crates that write whole roots, and for those that read a row of children as a slice.
-pub fn open_node<K, V>(node: &Node<K, V>) -> Contents<'_, K, V>
+pub fn open_node<K, V, S: Slots<K, V>>(node: &Node<K, V, S>) -> Contents<'_, K, V, S>
     ensures { Holds result (tree node.now) }
 {
     match node {

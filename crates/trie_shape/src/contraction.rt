@@ -15,10 +15,11 @@ use crate::no_memory::NoMemory;
 use crate::node::Node;
 use crate::rows::branch_of_parts;
 use crate::stamps::Stamp;
+use slots::Slots;
 use std::alloc::Global;
 
 /// Whether a node is a leaf or a bucket.
-pub(crate) fn is_pairs<K, V>(node: &Node<K, V>) -> bool
+pub(crate) fn is_pairs<K, V, S: Slots<K, V>>(node: &Node<K, V, S>) -> bool
     ensures { result ≡ is_bucket (tree node.now) }
 {
     match node {
@@ -29,14 +30,17 @@ pub(crate) fn is_pairs<K, V>(node: &Node<K, V>) -> bool
 
 /// A branch with one child replaced by what is left of it. Below the root, an only child that is a
 /// leaf or bucket takes the branch's place. For the crates that write whole roots.
-pub fn with_rest<K: Drop, V: Drop>(
+pub fn with_rest<K, V, S: Slots<K, V>>(
     alloc: Global,
     stamp: Stamp,
-    old: Branch<'_, K, V>,
+    old: Branch<'_, K, V, S>,
     at: usize,
-    child: Node<K, V>,
+    child: Node<K, V, S>,
     level: u32,
-) -> Result<Node<K, V>, NoMemory>
+) -> Result<Node<K, V, S>, NoMemory>
+where
+    S::Key: Drop,
+    S::Value: Drop,
     requires at { at < length old.children.now }
     requires size { 0 < old.size }
     requires count { length old.children.now ≡ count_ones old.bitmap }
@@ -50,13 +54,16 @@ pub fn with_rest<K: Drop, V: Drop>(
 }
 
 /// A branch without its child of a digit, which stands at a place.
-fn without_child<K: Drop, V: Drop>(
+fn without_child<K, V, S: Slots<K, V>>(
     alloc: Global,
     stamp: Stamp,
-    old: Branch<'_, K, V>,
+    old: Branch<'_, K, V, S>,
     digit: u32,
     at: usize,
-) -> Result<Node<K, V>, NoMemory>
+) -> Result<Node<K, V, S>, NoMemory>
+where
+    S::Key: Drop,
+    S::Value: Drop,
     requires digit { digit < fan_out }
     requires has { (bit_at old.bitmap digit == 1) ≡ true }
     requires at { at < length old.children.now }
@@ -75,14 +82,17 @@ fn without_child<K: Drop, V: Drop>(
 /// A branch without its child of a digit, which stands at a place. Below the root, an only child
 /// that is left and is a leaf or bucket takes the branch's place: the same node, with the stamp
 /// that it has. For the crates that write whole roots.
-pub fn without_rest<K: Drop, V: Drop>(
+pub fn without_rest<K, V, S: Slots<K, V>>(
     alloc: Global,
     stamp: Stamp,
-    old: Branch<'_, K, V>,
+    old: Branch<'_, K, V, S>,
     digit: u32,
     at: usize,
     level: u32,
-) -> Result<Node<K, V>, NoMemory>
+) -> Result<Node<K, V, S>, NoMemory>
+where
+    S::Key: Drop,
+    S::Value: Drop,
     requires digit { digit < fan_out }
     requires has { (bit_at old.bitmap digit == 1) ≡ true }
     requires at { at < length old.children.now }

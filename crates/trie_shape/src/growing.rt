@@ -12,17 +12,22 @@ use crate::branch_in_place::{open_up, with_digit};
 use crate::no_memory::NoMemory;
 use crate::node::Node;
 use crate::stamps::Stamp;
+use crate::vacant::{vacant_all, vacant_eight, vacant_four, vacant_sixteen};
+use slots::Slots;
 use std::alloc::Global;
 use std::sync::Arc;
 
 /// Moves the first `used` nodes of a row to the first places of a longer one, and a node among them.
-fn move_among<K: Drop, V: Drop>(
-    row: &mut [Node<K, V>],
-    places: &mut [Node<K, V>],
+fn move_among<K, V, S: Slots<K, V>>(
+    row: &mut [Node<K, V, S>],
+    places: &mut [Node<K, V, S>],
     at: usize,
     used: usize,
-    node: Node<K, V>,
+    node: Node<K, V, S>,
 )
+where
+    S::Key: Drop,
+    S::Value: Drop,
     requires at { at ≤ used }
     requires used { used ≤ length row.old }
     requires room { used < length places.old }
@@ -33,13 +38,16 @@ fn move_among<K: Drop, V: Drop>(
 }
 
 /// The same, to the places of an array.
-fn move_to_array<K: Drop, V: Drop, const N: usize>(
-    row: &mut [Node<K, V>],
-    places: &mut [Node<K, V>; N],
+fn move_to_array<K, V, S: Slots<K, V>, const N: usize>(
+    row: &mut [Node<K, V, S>],
+    places: &mut [Node<K, V, S>; N],
     at: usize,
     used: usize,
-    node: Node<K, V>,
+    node: Node<K, V, S>,
 )
+where
+    S::Key: Drop,
+    S::Value: Drop,
     requires at { at ≤ used }
     requires used { used ≤ length row.old }
     requires room { used < N }
@@ -49,13 +57,16 @@ fn move_to_array<K: Drop, V: Drop, const N: usize>(
 }
 
 /// The same, to the array behind a handle. Where another handle is on it, nothing is moved.
-fn move_behind<K: Drop, V: Drop, const N: usize>(
-    row: &mut [Node<K, V>],
-    places: &mut Arc<[Node<K, V>; N], Global>,
+fn move_behind<K, V, S: Slots<K, V>, const N: usize>(
+    row: &mut [Node<K, V, S>],
+    places: &mut Arc<[Node<K, V, S>; N], Global>,
     at: usize,
     used: usize,
-    node: Node<K, V>,
+    node: Node<K, V, S>,
 ) -> Result<(), NoMemory>
+where
+    S::Key: Drop,
+    S::Value: Drop,
     requires at { at ≤ used }
     requires used { used ≤ length row.old }
     requires room { used < N }
@@ -73,14 +84,17 @@ fn move_behind<K: Drop, V: Drop, const N: usize>(
 
 /// A row of vacant places that the first `used` nodes of a shorter one are moved to, and a node among
 /// them. The memory is requested first, so that nothing is moved where there is none.
-fn moved<K: Drop, V: Drop, const N: usize>(
+fn moved<K, V, S: Slots<K, V>, const N: usize>(
     alloc: Global,
-    vacant: [Node<K, V>; N],
-    row: &mut [Node<K, V>],
+    vacant: [Node<K, V, S>; N],
+    row: &mut [Node<K, V, S>],
     at: usize,
     used: usize,
-    node: Node<K, V>,
-) -> Result<Arc<[Node<K, V>; N], Global>, NoMemory>
+    node: Node<K, V, S>,
+) -> Result<Arc<[Node<K, V, S>; N], Global>, NoMemory>
+where
+    S::Key: Drop,
+    S::Value: Drop,
     requires at { at ≤ used }
     requires used { used ≤ length row.old }
     requires room { used < N }
@@ -95,16 +109,19 @@ fn moved<K: Drop, V: Drop, const N: usize>(
 /// The branch that `gain_child` would make of a branch whose row is full: its children are moved into
 /// a row of the next size, and the new child among them. If memory runs out, nothing is changed.
 /// For the crates that write whole roots.
-pub fn outgrow<K: Drop, V: Drop>(
+pub fn outgrow<K, V, S: Slots<K, V>>(
     alloc: Global,
     bitmap: u32,
     size: u64,
-    row: &mut [Node<K, V>],
+    row: &mut [Node<K, V, S>],
     digit: u32,
     at: usize,
-    child: Node<K, V>,
+    child: Node<K, V, S>,
     new_stamp: Stamp,
-) -> Result<Node<K, V>, NoMemory>
+) -> Result<Node<K, V, S>, NoMemory>
+where
+    S::Key: Drop,
+    S::Value: Drop,
     requires digit { digit < fan_out }
     requires lacks { (bit_at bitmap digit == 1) ≡ false }
     requires at { at ≤ count_ones bitmap }
@@ -122,7 +139,7 @@ pub fn outgrow<K: Drop, V: Drop>(
             bitmap,
             stamp,
             size,
-            row: moved(alloc, [const { Node::Vacant }; 4], row, at, used, child)?,
+            row: moved(alloc, vacant_four(), row, at, used, child)?,
         });
     }
     if used < 8 {
@@ -130,7 +147,7 @@ pub fn outgrow<K: Drop, V: Drop>(
             bitmap,
             stamp,
             size,
-            row: moved(alloc, [const { Node::Vacant }; 8], row, at, used, child)?,
+            row: moved(alloc, vacant_eight(), row, at, used, child)?,
         });
     }
     if used < 16 {
@@ -138,13 +155,13 @@ pub fn outgrow<K: Drop, V: Drop>(
             bitmap,
             stamp,
             size,
-            row: moved(alloc, [const { Node::Vacant }; 16], row, at, used, child)?,
+            row: moved(alloc, vacant_sixteen(), row, at, used, child)?,
         });
     }
     Ok(Node::All {
         bitmap,
         stamp,
         size,
-        row: moved(alloc, [const { Node::Vacant }; 32], row, at, used, child)?,
+        row: moved(alloc, vacant_all(), row, at, used, child)?,
     })
 }

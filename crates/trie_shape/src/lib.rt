@@ -22,6 +22,7 @@ mod rows;
 mod search;
 mod stamps;
 mod union_laws;
+mod vacant;
 mod walk_laws;
 
 pub use condition::{Always, Condition, IfAbsent, IfEqual, IfPresent};

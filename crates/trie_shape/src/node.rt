@@ -6,6 +6,7 @@ ghost use Rattle.trie_shape.specs.View.{tree, pair_values};
 
 use crate::no_memory::NoMemory;
 use crate::stamps::Stamp;
+use slots::{Pair, Shared, Slots};
 use std::alloc::Global;
 use std::sync::Arc;
 
@@ -17,18 +18,18 @@ use std::sync::Arc;
 /// fields are open to the crates that write whole roots, and to no crate above them.
 #[cycle(node)]
 #[derive(Drop)]
-pub enum Node<K, V> {
+pub enum Node<K, V, S: Slots<K, V> = Shared> {
     /// No node: a place of a row behind the last child.
     Vacant,
     /// One pair.
     Leaf {
         stamp: Stamp,
-        pair: (Arc<K, Global>, Arc<V, Global>),
+        pair: Pair<K, V, S>,
     },
     /// Several pairs whose keys have one path word, in the order of the keys.
     Bucket {
         stamp: Stamp,
-        pairs: Arc<Vec<(Arc<K, Global>, Arc<V, Global>)>, Global>,
+        pairs: Arc<Vec<Pair<K, V, S>>, Global>,
     },
     /// A branch in a row of two places: the digits that it has children of, the stamp of the last write
     /// through it, the number of pairs below it, and the row.
@@ -36,48 +37,50 @@ pub enum Node<K, V> {
         bitmap: u32,
         stamp: Stamp,
         size: u64,
-        row: Arc<[Node<K, V>; 2], Global>,
+        row: Arc<[Node<K, V, S>; 2], Global>,
     },
     /// A branch in a row of four places.
     Four {
         bitmap: u32,
         stamp: Stamp,
         size: u64,
-        row: Arc<[Node<K, V>; 4], Global>,
+        row: Arc<[Node<K, V, S>; 4], Global>,
     },
     /// A branch in a row of eight places.
     Eight {
         bitmap: u32,
         stamp: Stamp,
         size: u64,
-        row: Arc<[Node<K, V>; 8], Global>,
+        row: Arc<[Node<K, V, S>; 8], Global>,
     },
     /// A branch in a row of sixteen places.
     Sixteen {
         bitmap: u32,
         stamp: Stamp,
         size: u64,
-        row: Arc<[Node<K, V>; 16], Global>,
+        row: Arc<[Node<K, V, S>; 16], Global>,
     },
     /// A branch in a row of a place for each digit.
     All {
         bitmap: u32,
         stamp: Stamp,
         size: u64,
-        row: Arc<[Node<K, V>; 32], Global>,
+        row: Arc<[Node<K, V, S>; 32], Global>,
     },
 }
 
-impl<K: Drop, V: Drop> Node<K, V> {
+impl<K, V, S: Slots<K, V>> Node<K, V, S> {
     /// Another handle on the same node. No memory is requested, but the clone may be refused.
-    pub fn try_clone(&self) -> Result<Node<K, V>, NoMemory>
+    pub fn try_clone(&self) -> Result<Node<K, V, S>, NoMemory>
+    where
+        S::Key: Drop,
         ensures { IfOk result (λ n. tree n ≡ tree self.now) }
     {
         match self {
             Node::Vacant => Ok(Node::Vacant),
             Node::Leaf { stamp, pair } => Ok(Node::Leaf {
                 stamp: *stamp,
-                pair: (Arc::try_clone(&pair.0)?, Arc::try_clone(&pair.1)?),
+                pair: pair.another()?,
             }),
             Node::Bucket { stamp, pairs } => Ok(Node::Bucket {
                 stamp: *stamp,
@@ -143,21 +146,21 @@ impl<K: Drop, V: Drop> Node<K, V> {
 }
 
 /// A leaf of one pair. For the crates that write whole roots.
-pub fn make_leaf<K, V>(stamp: Stamp, key: Arc<K, Global>, value: Arc<V, Global>) -> Node<K, V>
-    ensures { tree result ≡ bucket stamp.0 ((key.value, value.value) ∷ []) }
+pub fn make_leaf<K, V, S: Slots<K, V>>(stamp: Stamp, pair: Pair<K, V, S>) -> Node<K, V, S>
+    ensures { tree result ≡ bucket stamp.0 (pair ∷ []) }
 {
-    Node::Leaf {
-        stamp,
-        pair: (key, value),
-    }
+    Node::Leaf { stamp, pair }
 }
 
 /// A bucket of pairs of one word. For the crates that write whole roots.
-pub fn make_bucket<K: Drop, V: Drop>(
+pub fn make_bucket<K, V, S: Slots<K, V>>(
     alloc: Global,
     stamp: Stamp,
-    pairs: Vec<(Arc<K, Global>, Arc<V, Global>)>,
-) -> Result<Node<K, V>, NoMemory>
+    pairs: Vec<Pair<K, V, S>>,
+) -> Result<Node<K, V, S>, NoMemory>
+where
+    S::Key: Drop,
+    S::Value: Drop,
     ensures { IfOk result (λ n. tree n ≡ bucket stamp.0 (map pair_values pairs.items)) }
 {
     Ok(Node::Bucket {

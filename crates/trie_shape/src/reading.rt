@@ -11,9 +11,10 @@ use crate::contents::{Contents, nth, open_node};
 use crate::looks::Look;
 use crate::node::Node;
 use crate::stamps::Stamp;
+use slots::Slots;
 
 /// The number of pairs below a node. It takes no walk: each branch keeps its number.
-pub fn size<K, V>(node: &Node<K, V>) -> u64
+pub fn size<K, V, S: Slots<K, V>>(node: &Node<K, V, S>) -> u64
     ensures { Fits (tree node.now) → result ≡ length (entries (tree node.now)) }
 {
     match open_node(node) {
@@ -23,7 +24,7 @@ pub fn size<K, V>(node: &Node<K, V>) -> u64
 }
 
 /// The stamp of a node.
-pub fn stamp<K, V>(node: &Node<K, V>) -> Stamp
+pub fn stamp<K, V, S: Slots<K, V>>(node: &Node<K, V, S>) -> Stamp
     ensures { result.0 ≡ stamp_of (tree node.now) }
 {
     match node {
@@ -39,7 +40,7 @@ pub fn stamp<K, V>(node: &Node<K, V>) -> Stamp
 }
 
 /// The bitmap of a branch, or the pairs of a leaf or bucket.
-pub fn look<K, V>(node: &Node<K, V>) -> Look<'_, K, V>
+pub fn look<K, V, S: Slots<K, V>>(node: &Node<K, V, S>) -> Look<'_, K, V, S>
     ensures { Shows result (tree node.now) }
 {
     match open_node(node) {
@@ -49,7 +50,7 @@ pub fn look<K, V>(node: &Node<K, V>) -> Look<'_, K, V>
 }
 
 /// The child of a branch by its number, counted from 0 in order of the digits.
-pub fn child<K, V>(node: &Node<K, V>, n: u32) -> &Node<K, V>
+pub fn child<K, V, S: Slots<K, V>>(node: &Node<K, V, S>, n: u32) -> &Node<K, V, S>
     requires { n < length (children (tree node.now)) }
     ensures { tree result.now ≡ get_or (children (tree node.now)) n (tree result.now) }
 {

@@ -10,16 +10,21 @@ ghost use Rattle.trie_shape.specs.Roots.{IsRoot, map_of, word_of};
 use crate::no_memory::NoMemory;
 use crate::node::Node;
 use crate::stamps::Stamp;
+use crate::vacant::{vacant_all, vacant_eight, vacant_four, vacant_sixteen, vacant_two};
 use hash_path::PathKey;
+use slots::Slots;
 use std::alloc::Global;
 use std::sync::Arc;
 
 /// Puts handles on the same nodes in the places of a row from one on.
-fn copy_to<K: Drop, V: Drop>(
-    row: &mut [Node<K, V>],
+fn copy_to<K, V, S: Slots<K, V>>(
+    row: &mut [Node<K, V, S>],
     from: usize,
-    nodes: &[Node<K, V>],
+    nodes: &[Node<K, V, S>],
 ) -> Result<(), NoMemory>
+where
+    S::Key: Drop,
+    S::Value: Drop,
     requires room { from + length nodes.now ≤ length row.old }
     ensures len { OnOk result (length row.new ≡ length row.old) }
     ensures row { OnOk result (map tree (take (from + length nodes.now) row.new) ≡ map tree (take from row.old) ++ map tree nodes.now) }
@@ -31,7 +36,14 @@ fn copy_to<K: Drop, V: Drop>(
 }
 
 /// Moves nodes to the places of a row from one on. What stood there stands in the buffer then.
-fn move_to<K: Drop, V: Drop>(row: &mut [Node<K, V>], from: usize, nodes: &mut [Node<K, V>])
+fn move_to<K, V, S: Slots<K, V>>(
+    row: &mut [Node<K, V, S>],
+    from: usize,
+    nodes: &mut [Node<K, V, S>],
+)
+where
+    S::Key: Drop,
+    S::Value: Drop,
     requires room { from + length nodes.old ≤ length row.old }
     ensures len { length row.new ≡ length row.old }
     ensures row { take (from + length nodes.old) row.new ≡ take from row.old ++ nodes.old }
@@ -41,12 +53,15 @@ fn move_to<K: Drop, V: Drop>(row: &mut [Node<K, V>], from: usize, nodes: &mut [N
 
 /// Fills the first places of a row: with handles on the nodes in front, with the nodes in the middle,
 /// which are moved out of the buffer they stand in, and with handles on the nodes behind.
-fn place_parts<K: Drop, V: Drop>(
-    row: &mut [Node<K, V>],
-    front: &[Node<K, V>],
-    middle: &mut [Node<K, V>],
-    back: &[Node<K, V>],
+fn place_parts<K, V, S: Slots<K, V>>(
+    row: &mut [Node<K, V, S>],
+    front: &[Node<K, V, S>],
+    middle: &mut [Node<K, V, S>],
+    back: &[Node<K, V, S>],
 ) -> Result<(), NoMemory>
+where
+    S::Key: Drop,
+    S::Value: Drop,
     requires room { length front.now + length middle.old + length back.now ≤ length row.old }
     ensures { OnOk result (map tree (take (length front.now + length middle.old + length back.now) row.new) ≡ map tree front.now ++ map tree middle.old ++ map tree back.now) }
 {
@@ -57,13 +72,16 @@ fn place_parts<K: Drop, V: Drop>(
 }
 
 /// A row with these children in its first places. The memory is requested last and at once.
-fn row_of_parts<K: Drop, V: Drop, const N: usize>(
+fn row_of_parts<K, V, S: Slots<K, V>, const N: usize>(
     alloc: Global,
-    vacant: [Node<K, V>; N],
-    front: &[Node<K, V>],
-    middle: &mut [Node<K, V>],
-    back: &[Node<K, V>],
-) -> Result<Arc<[Node<K, V>; N], Global>, NoMemory>
+    vacant: [Node<K, V, S>; N],
+    front: &[Node<K, V, S>],
+    middle: &mut [Node<K, V, S>],
+    back: &[Node<K, V, S>],
+) -> Result<Arc<[Node<K, V, S>; N], Global>, NoMemory>
+where
+    S::Key: Drop,
+    S::Value: Drop,
     requires room { length front.now + length middle.old + length back.now ≤ N }
     ensures { IfOk result (λ row. map tree (take (length front.now + length middle.old + length back.now) row.value) ≡ map tree front.now ++ map tree middle.old ++ map tree back.now) }
 {
@@ -74,15 +92,18 @@ fn row_of_parts<K: Drop, V: Drop, const N: usize>(
 
 /// A branch of these children, with one request for memory: handles on the nodes in front, the nodes in
 /// the middle, which are moved out of the buffer they stand in, and handles on the nodes behind.
-pub(crate) fn branch_of_parts<K: Drop, V: Drop>(
+pub(crate) fn branch_of_parts<K, V, S: Slots<K, V>>(
     alloc: Global,
     stamp: Stamp,
     size: u64,
     bitmap: u32,
-    front: &[Node<K, V>],
-    middle: &mut [Node<K, V>],
-    back: &[Node<K, V>],
-) -> Result<Node<K, V>, NoMemory>
+    front: &[Node<K, V, S>],
+    middle: &mut [Node<K, V, S>],
+    back: &[Node<K, V, S>],
+) -> Result<Node<K, V, S>, NoMemory>
+where
+    S::Key: Drop,
+    S::Value: Drop,
     requires count { length front.now + length middle.old + length back.now ≡ count_ones bitmap }
     ensures { IfOk result (λ n. tree n ≡ branch stamp.0 size bitmap (trees (map tree front.now ++ map tree middle.old ++ map tree back.now))) }
 {
@@ -92,7 +113,7 @@ pub(crate) fn branch_of_parts<K: Drop, V: Drop>(
             bitmap,
             stamp,
             size,
-            row: row_of_parts(alloc, [const { Node::Vacant }; 2], front, middle, back)?,
+            row: row_of_parts(alloc, vacant_two(), front, middle, back)?,
         });
     }
     if used <= 4 {
@@ -100,7 +121,7 @@ pub(crate) fn branch_of_parts<K: Drop, V: Drop>(
             bitmap,
             stamp,
             size,
-            row: row_of_parts(alloc, [const { Node::Vacant }; 4], front, middle, back)?,
+            row: row_of_parts(alloc, vacant_four(), front, middle, back)?,
         });
     }
     if used <= 8 {
@@ -108,7 +129,7 @@ pub(crate) fn branch_of_parts<K: Drop, V: Drop>(
             bitmap,
             stamp,
             size,
-            row: row_of_parts(alloc, [const { Node::Vacant }; 8], front, middle, back)?,
+            row: row_of_parts(alloc, vacant_eight(), front, middle, back)?,
         });
     }
     if used <= 16 {
@@ -116,26 +137,29 @@ pub(crate) fn branch_of_parts<K: Drop, V: Drop>(
             bitmap,
             stamp,
             size,
-            row: row_of_parts(alloc, [const { Node::Vacant }; 16], front, middle, back)?,
+            row: row_of_parts(alloc, vacant_sixteen(), front, middle, back)?,
         });
     }
     Ok(Node::All {
         bitmap,
         stamp,
         size,
-        row: row_of_parts(alloc, [const { Node::Vacant }; 32], front, middle, back)?,
+        row: row_of_parts(alloc, vacant_all(), front, middle, back)?,
     })
 }
 
 /// A branch of these children, which are moved out of the buffer they stand in. If memory runs out,
 /// they are gone. For the crates that write whole roots.
-pub fn make_branch<K: Drop, V: Drop>(
+pub fn make_branch<K, V, S: Slots<K, V>>(
     alloc: Global,
     stamp: Stamp,
     size: u64,
     bitmap: u32,
-    children: &mut [Node<K, V>],
-) -> Result<Node<K, V>, NoMemory>
+    children: &mut [Node<K, V, S>],
+) -> Result<Node<K, V, S>, NoMemory>
+where
+    S::Key: Drop,
+    S::Value: Drop,
     requires { length children.old ≡ count_ones bitmap }
     ensures { IfOk result (λ n. tree n ≡ branch stamp.0 size bitmap (trees (map tree children.old))) }
 {
@@ -144,10 +168,13 @@ pub fn make_branch<K: Drop, V: Drop>(
 }
 
 /// The root of the empty map.
-pub fn empty_root<K: PathKey + Drop, V: Drop>(
+pub fn empty_root<K: PathKey, V, S: Slots<K, V>>(
     alloc: Global,
     stamp: Stamp,
-) -> Result<Node<K, V>, NoMemory>
+) -> Result<Node<K, V, S>, NoMemory>
+where
+    S::Key: Drop,
+    S::Value: Drop,
     ensures root { IfOk result (λ n. IsRoot K.cmp K.path_of (tree n)) }
     ensures map { IfOk result (λ n. map_of K.cmp (tree n) ≡ []) }
     ensures nodes { IfOk result (λ n. nodes (word_of K.path_of) (tree n) ≡ ([], stamp.0) ∷ []) }

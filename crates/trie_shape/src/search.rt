@@ -13,28 +13,27 @@ use crate::contents::{Branch, Contents, nth, open_node};
 use crate::node::Node;
 use crate::pairs::find_pair;
 use hash_path::{Path, PathKey, Sought};
-use std::alloc::Global;
-use std::sync::Arc;
+use slots::{Pair, Slots};
 
-/// Begins to fetch the first value from memory, by a read of its count for which nothing waits: it is on
+/// Begins to fetch the first value from memory, for which nothing waits: it is on
 /// its way while the key is compared.
-fn fetch_first<K, V>(pairs: &[(Arc<K, Global>, Arc<V, Global>)]) {
+fn fetch_first<K, V, S: Slots<K, V>>(pairs: &[Pair<K, V, S>]) {
     if let Some(pair) = pairs.first() {
-        let _ = Arc::strong_count(&pair.1);
+        pair.fetch_value();
     }
 }
 
 /// The value of the key below a branch that stands at the level.
 #[cycle(find)]
-fn find_below<'a, K: PathKey, V, Q: Sought<K>>(
-    below: Branch<'a, K, V>,
+fn find_below<'a, K: PathKey, V, S: Slots<K, V>, Q: Sought<K>>(
+    below: Branch<'a, K, V, S>,
     key: Q,
     path: Path,
     level: u32,
-) -> Option<&'a Arc<V, Global>>
+) -> Option<&'a S::Value>
     requires path { path.0 ≡ K.path_of (Q.key_of key) }
     requires trie { IsTrie K.cmp K.path_of level (branch_of 0 (lent below)) }
-    ensures { option_map (λ v. v.now.value) result ≡ first_of K.cmp (Q.key_of key) (entries (branch_of 0 (lent below.entry))) }
+    ensures { option_map (λ v. S.value_of v.now) result ≡ first_of K.cmp (Q.key_of key) (entries (branch_of 0 (lent below.entry))) }
 {
     let digit = path.digit(level);
     if !has_digit(below.bitmap, digit) {
@@ -46,46 +45,46 @@ fn find_below<'a, K: PathKey, V, Q: Sought<K>>(
 
 /// The value of the key below a node that stands at the level.
 #[cycle(find)]
-fn find_at<'a, K: PathKey, V, Q: Sought<K>>(
-    node: &'a Node<K, V>,
+fn find_at<'a, K: PathKey, V, S: Slots<K, V>, Q: Sought<K>>(
+    node: &'a Node<K, V, S>,
     key: Q,
     path: Path,
     level: u32,
-) -> Option<&'a Arc<V, Global>>
+) -> Option<&'a S::Value>
     requires path { path.0 ≡ K.path_of (Q.key_of key) }
     requires trie { IsTrie K.cmp K.path_of level (tree node.now) }
-    ensures { option_map (λ v. v.now.value) result ≡ first_of K.cmp (Q.key_of key) (entries (tree node.now)) }
+    ensures { option_map (λ v. S.value_of v.now) result ≡ first_of K.cmp (Q.key_of key) (entries (tree node.now)) }
 {
     match open_node(node) {
         Contents::Branch(below) => find_below(below, key, path, level),
         Contents::Pairs(pairs) => {
             fetch_first(pairs);
-            find_pair(pairs, key)
+            find_pair(pairs, key).map(Pair::value_slot)
         }
     }
 }
 
 /// The value of the key, or none. It requests no memory, and compares keys only in the leaf or
 /// bucket at the end of the key's way.
-pub fn find<'a, K: PathKey, V, Q: Sought<K>>(
-    node: &'a Node<K, V>,
+pub fn find<'a, K: PathKey, V, S: Slots<K, V>, Q: Sought<K>>(
+    node: &'a Node<K, V, S>,
     key: Q,
-) -> Option<&'a Arc<V, Global>>
+) -> Option<&'a S::Value>
     requires root { IsRoot K.cmp K.path_of (tree node.now) }
-    ensures { option_map (λ v. v.now.value) result ≡ value_at K.cmp (map_of K.cmp (tree node.now)) (Q.key_of key) }
+    ensures { option_map (λ v. S.value_of v.now) result ≡ value_at K.cmp (map_of K.cmp (tree node.now)) (Q.key_of key) }
 {
     find_along(node, key, key.path_sought())
 }
 
 /// `find`, where the caller has the key's path word already: the key is not hashed again.
-pub fn find_along<'a, K: PathKey, V, Q: Sought<K>>(
-    node: &'a Node<K, V>,
+pub fn find_along<'a, K: PathKey, V, S: Slots<K, V>, Q: Sought<K>>(
+    node: &'a Node<K, V, S>,
     key: Q,
     path: Path,
-) -> Option<&'a Arc<V, Global>>
+) -> Option<&'a S::Value>
     requires root { IsRoot K.cmp K.path_of (tree node.now) }
     requires path { path.0 ≡ K.path_of (Q.key_of key) }
-    ensures { option_map (λ v. v.now.value) result ≡ value_at K.cmp (map_of K.cmp (tree node.now)) (Q.key_of key) }
+    ensures { option_map (λ v. S.value_of v.now) result ≡ value_at K.cmp (map_of K.cmp (tree node.now)) (Q.key_of key) }
 {
     find_at(node, key, path, 0)
 }

@@ -7,8 +7,8 @@ ghost use Rattle.trie_shape.specs.View.{pair_values, tree};
 ghost use Rattle.trie_values.specs.Values.{AreGiven, IsGiven, IsMade, MayAnswer, Means, with_values};
 
 use hash_path::PathKey;
+use slots::{Pair, Slots, ValueSlots};
 use std::alloc::Global;
-use std::sync::Arc;
 use trie_fetch::{Keys, fetch_leaves};
 use trie_node::{
     Look, NoMemory, Node, Stamp, bitmap_counts_children, branch_is_its_children, child, look, size,
@@ -27,12 +27,15 @@ const MOST_AT_ONCE: u64 = 256;
 /// # Errors
 ///
 /// `NoMemory` where a request for memory, or the clone of a handle on a key, is refused.
-pub fn with_new_values<K: PathKey + Drop, V, W: Drop, F: Fn(&K, &V) -> W>(
+pub fn with_new_values<K: PathKey, V, W: Drop, S: Slots<K, V> + Slots<K, W>, F: Fn(&K, &V) -> W>(
     alloc: Global,
-    root: &Node<K, V>,
+    root: &Node<K, V, S>,
     stamp: Stamp,
     change: &F,
-) -> Result<Node<K, W>, NoMemory>
+) -> Result<Node<K, W, S>, NoMemory>
+where
+    S::Key: Drop,
+    <S as ValueSlots<W>>::Value: Drop,
     requires root { IsRoot K.cmp K.path_of (tree root.now) }
     requires callable { F.IsAlwaysCallable change.now }
     ensures root { IfOk result (λ n. IsRoot K.cmp K.path_of (tree n)) }
@@ -48,13 +51,16 @@ pub fn with_new_values<K: PathKey + Drop, V, W: Drop, F: Fn(&K, &V) -> W>(
 }
 
 /// The subtrie of the same shape with new values, whose nodes all have the stamp. Its keys may have been fetched.
-fn map_subtrie<K: Drop, V, W: Drop, F: Fn(&K, &V) -> W>(
+fn map_subtrie<K, V, W: Drop, S: Slots<K, V> + Slots<K, W>, F: Fn(&K, &V) -> W>(
     alloc: Global,
-    node: &Node<K, V>,
+    node: &Node<K, V, S>,
     stamp: Stamp,
     change: &F,
     fetched: bool,
-) -> Result<Node<K, W>, NoMemory>
+) -> Result<Node<K, W, S>, NoMemory>
+where
+    S::Key: Drop,
+    <S as ValueSlots<W>>::Value: Drop,
     requires fits { Fits (tree node.now) }
     requires callable { F.IsAlwaysCallable change.now }
     ensures { IfOk result (λ n. IsMade (MayAnswer F.Fn change.now) stamp.0 (tree node.now) (tree n)) }
@@ -66,7 +72,7 @@ fn map_subtrie<K: Drop, V, W: Drop, F: Fn(&K, &V) -> W>(
             branch_is_its_children::<K, V>();
             let few = size(node) <= MOST_AT_ONCE;
             if few && !fetched {
-                fetch_leaves::<Keys, K, V>(node);
+                fetch_leaves::<Keys, K, V, S>(node);
             }
             let mut children = Vec::with_capacity(alloc, bitmap.count_ones() as usize)?;
             for n in 0..bitmap.count_ones() {
@@ -78,44 +84,50 @@ fn map_subtrie<K: Drop, V, W: Drop, F: Fn(&K, &V) -> W>(
 }
 
 /// A leaf or bucket of the pairs with new values.
-fn map_pairs<K: Drop, V, W: Drop, F: Fn(&K, &V) -> W>(
+fn map_pairs<K, V, W: Drop, S: Slots<K, V> + Slots<K, W>, F: Fn(&K, &V) -> W>(
     alloc: Global,
-    pairs: &[(Arc<K>, Arc<V>)],
+    pairs: &[Pair<K, V, S>],
     stamp: Stamp,
     change: &F,
-) -> Result<Node<K, W>, NoMemory>
+) -> Result<Node<K, W, S>, NoMemory>
+where
+    S::Key: Drop,
+    <S as ValueSlots<W>>::Value: Drop,
     requires callable { F.IsAlwaysCallable change.now }
     ensures { IfOk result (λ n. IsMade (MayAnswer F.Fn change.now) stamp.0 (bucket stamp.0 (map pair_values pairs.now)) (tree n)) }
 {
-    if let [(key, value)] = pairs {
-        let (key, value) = map_pair(alloc, key, value, change)?;
-        return Ok(make_leaf(stamp, key, value));
+    if let [pair] = pairs {
+        let pair = map_pair(alloc, pair, change)?;
+        return Ok(make_leaf(stamp, pair));
     }
     let mut all = Vec::with_capacity(alloc, pairs.len())?;
-    for (key, value) in pairs {
-        all.push(map_pair(alloc, key, value, change)?)?;
+    for pair in pairs {
+        all.push(map_pair(alloc, pair, change)?)?;
     }
     make_bucket(alloc, stamp, all)
 }
 
 /// Another handle on the key, and what the closure makes of the pair.
-fn map_pair<K: Drop, V, W: Drop, F: Fn(&K, &V) -> W>(
+fn map_pair<K, V, W: Drop, S: Slots<K, V> + Slots<K, W>, F: Fn(&K, &V) -> W>(
     alloc: Global,
-    key: &Arc<K>,
-    value: &Arc<V>,
+    pair: &Pair<K, V, S>,
     change: &F,
-) -> Result<(Arc<K>, Arc<W>), NoMemory>
+) -> Result<Pair<K, W, S>, NoMemory>
+where
+    S::Key: Drop,
+    <S as ValueSlots<W>>::Value: Drop,
     requires callable { F.IsAlwaysCallable change.now }
-    ensures { IfOk result (λ pair. IsGiven (MayAnswer F.Fn change.now) (key.now.value, value.now.value) (pair_values pair)) }
+    ensures { IfOk result (λ made. IsGiven (MayAnswer F.Fn change.now) pair.now made) }
 {
-    let made = Arc::new(alloc, answer_at(change, key, value))?;
-    Ok((Arc::try_clone(key)?, made))
+    let made = <S as ValueSlots<W>>::new_value(alloc, answer_at(change, pair.key(), pair.value()))?;
+    let mapped: Pair<K, W, S> = Pair::new(S::another_key(pair.key_slot())?, made);
+    Ok(mapped)
 }
 
 /// What the closure returns at a pair.
-fn answer_at<K, V, W, F: Fn(&K, &V) -> W>(change: &F, key: &Arc<K>, value: &Arc<V>) -> W
+fn answer_at<K, V, W, F: Fn(&K, &V) -> W>(change: &F, key: &K, value: &V) -> W
     requires { F.IsAlwaysCallable change.now }
-    ensures { MayAnswer F.Fn change.now key.now.value value.now.value result }
+    ensures { MayAnswer F.Fn change.now key.now value.now result }
 {
     change(key, value)
 }

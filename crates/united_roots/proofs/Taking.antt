@@ -34,7 +34,7 @@ count_of-trees [] = refl
 count_of-trees (t ∷ ts) = ap suc (count_of-trees ts)
 
 -- a row has a child for each digit of its bitmap
-pub row_counted : {K V : Type 0} (stamp size bitmap : ℕ) (ns : List (Node K V)) → Fits (branch stamp size bitmap (trees (map tree ns))) → length ns ≡ count_ones bitmap
+pub row_counted : {K V S X Y : Type 0} (stamp size bitmap : ℕ) (ns : List (Node K V S X Y)) → Fits (branch stamp size bitmap (trees (map tree ns))) → length ns ≡ count_ones bitmap
 row_counted stamp size bitmap ns fits = sym (length-map ns tree) ∙ sym (count_of-trees (map tree ns)) ∙ fits.1 ∙ length-digits_of bitmap fits.0
 
 -- the new root has the pairs of a root too, and no node with a greater stamp

@@ -8,6 +8,7 @@ ghost use Rattle.trie_shape.specs.View.{tree};
 
 use crate::root_row::child_of;
 use hash_path::{FAN_OUT, PathKey};
+use slots::Slots;
 use std::alloc::Global;
 use trie_shape::{NoMemory, Node, Stamp, empty_root, make_branch, size};
 
@@ -16,12 +17,15 @@ use trie_shape::{NoMemory, Node, Stamp, empty_root, make_branch, size};
 ///
 /// No node of the root has a greater stamp than `newest`, which the new node has. The only error is `NoMemory`, if memory
 /// runs out.
-pub fn part_of_root<K: PathKey + Drop, V: Drop>(
+pub fn part_of_root<K: PathKey, V, S: Slots<K, V>>(
     alloc: Global,
-    root: &Node<K, V>,
+    root: &Node<K, V, S>,
     digit: u32,
     newest: Stamp,
-) -> Result<Node<K, V>, NoMemory>
+) -> Result<Node<K, V, S>, NoMemory>
+where
+    S::Key: Drop,
+    S::Value: Drop,
     requires root { IsRoot K.cmp K.path_of (tree root.now) }
     requires newest { NoneAbove newest.0 (nodes (word_of K.path_of) (tree root.now)) }
     ensures root { IfOk result (λ part. IsRoot K.cmp K.path_of (tree part)) }

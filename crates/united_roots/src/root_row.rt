@@ -9,6 +9,7 @@ ghost use Rattle.trie_shape.specs.View.{tree};
 ghost use Rattle.united_roots.specs.Rows.{EachHasDigit, NoneHasDigit};
 
 use hash_path::{FAN_OUT, PathKey};
+use slots::{Shared, Slots};
 use std::alloc::Global;
 use std::marker::Model;
 use trie_shape::{
@@ -20,14 +21,14 @@ use trie_shape::{
 ///
 /// Contracts see the map of all pairs so far.
 #[derive(Drop)]
-pub struct RootRow<K: PathKey, V> {
-    children: Vec<Node<K, V>>,
+pub struct RootRow<K: PathKey, V, S: Slots<K, V> = Shared> {
+    children: Vec<Node<K, V, S>>,
     pairs: u64,
     bitmap: u32,
     newest: Stamp,
 }
 
-impl<K: PathKey, V> Model for RootRow<K, V> {
+impl<K: PathKey, V, S: Slots<K, V>> Model for RootRow<K, V, S> {
     ghost use Rattle.std.specs.Prelude.{map};
     ghost use Rattle.trie_shape.specs.Roots.{IsRoot, map_of, word_of};
     ghost use Rattle.trie_shape.specs.Shape.{NoneAbove, nodes};
@@ -43,10 +44,10 @@ impl<K: PathKey, V> Model for RootRow<K, V> {
 }
 
 /// The child of a root that has the digit, or none.
-pub(crate) fn child_of<K: PathKey + Drop, V: Drop>(
-    root: &Node<K, V>,
+pub(crate) fn child_of<K: PathKey, V, S: Slots<K, V>>(
+    root: &Node<K, V, S>,
     digit: u32,
-) -> Option<&Node<K, V>>
+) -> Option<&Node<K, V, S>>
     requires { IsRoot K.cmp K.path_of (tree root.now) }
     ensures child { option_map (λ n. tree n.now) result ≡ child_at (tree root.now) digit }
     ensures digit { IfSome result (λ _. digit < fan_out) }
@@ -70,9 +71,13 @@ fn newer(a: Stamp, b: Stamp) -> Stamp
     if a.0 < b.0 { b } else { a }
 }
 
-impl<K: PathKey + Drop, V: Drop> RootRow<K, V> {
+impl<K: PathKey, V, S: Slots<K, V>> RootRow<K, V, S>
+where
+    S::Key: Drop,
+    S::Value: Drop,
+{
     /// No children, and room for one of each digit.
-    pub fn new(alloc: Global) -> Result<RootRow<K, V>, NoMemory>
+    pub fn new(alloc: Global) -> Result<RootRow<K, V, S>, NoMemory>
         ensures entries { IfOk result (λ row. row.entries ≡ []) }
         ensures newest { IfOk result (λ row. row.newest ≡ Stamp.LOOSE.0) }
     {
@@ -88,7 +93,7 @@ impl<K: PathKey + Drop, V: Drop> RootRow<K, V> {
     /// greater stamp than `newest`. The root is unchanged: its child is shared.
     ///
     /// It makes no request for memory, but the clone of a handle may be refused. The row is then as before.
-    pub fn take(&mut self, root: &Node<K, V>, digit: u32, newest: Stamp) -> Result<(), NoMemory>
+    pub fn take(&mut self, root: &Node<K, V, S>, digit: u32, newest: Stamp) -> Result<(), NoMemory>
         requires root { IsRoot K.cmp K.path_of (tree root.now) }
         requires each { EachHasDigit K.cmp K.path_of digit (map_of K.cmp (tree root.now)) }
         requires none { NoneHasDigit K.cmp K.path_of digit self.old.entries }
@@ -113,7 +118,7 @@ impl<K: PathKey + Drop, V: Drop> RootRow<K, V> {
     }
 
     /// The root of all pairs. No node has a greater stamp than the row's newest, which the root itself has.
-    pub fn into_root(self, alloc: Global) -> Result<Node<K, V>, NoMemory>
+    pub fn into_root(self, alloc: Global) -> Result<Node<K, V, S>, NoMemory>
         ensures root { IfOk result (λ root. IsRoot K.cmp K.path_of (tree root)) }
         ensures entries { IfOk result (λ root. map_of K.cmp (tree root) ≡ self.entries) }
         ensures newest { IfOk result (λ root. NoneAbove self.newest (nodes (word_of K.path_of) (tree root))) }

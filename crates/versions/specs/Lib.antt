@@ -3,4 +3,5 @@ pub mod Commands
 pub mod Contents
 pub mod Puts
 pub mod Changes
+pub mod Exchanges
 pub mod TreeCode

@@ -7,7 +7,7 @@ ghost use Rattle.versions.specs.Map.{IsAntisymmetric, IsMap, Map, value_at, with
 
 use crate::version::Version;
 use hash_path::PathKey;
-use trie_node::map_names_nodes;
+use trie_node::{Slots, map_names_nodes};
 
 /// After a put the value at the key is the new one, and at every other key it is the one before.
 pub fn law_of_put<K: Ord, V>()
@@ -27,7 +27,10 @@ pub fn law_of_equal_maps<K: Ord, V>()
 {}
 
 /// The nodes of a version have the names that the trie of its map has, and no others.
-pub fn law_of_names<K: PathKey + Drop, V: Drop>(version: &Version<K, V>)
+pub fn law_of_names<K: PathKey, V, S: Slots<K, V>>(version: &Version<K, V, S>)
+where
+    S::Key: Drop,
+    S::Value: Drop,
     ensures { (name : List ℕ) → Contains (map (λ node. node.0) version.now.nodes) name ↔ (is_name (word_of K.path_of) version.now.entries name ≡ true) }
 {
     map_names_nodes::<K, V>();

@@ -2,7 +2,6 @@
 
 ghost use Rattle.std.specs.Prelude.{◌&&◌, ◌||◌, not, Option, is_some};
 
-use std::sync::Arc;
 use trie_node::Condition;
 
 /// The condition holds, and there is room: the map is not full, or the key is there.
@@ -17,7 +16,7 @@ pub struct WithinRoom<'c, C> {
 impl<'c, V, C: Condition<V>> Condition<V> for WithinRoom<'c, C> {
     ghost holds = { λ c found. C.holds c.condition.now found && (not c.full || is_some found) };
 
-    fn holds(&self, found: Option<&Arc<V>>) -> bool {
+    fn holds(&self, found: Option<&V>) -> bool {
         (!self.full || found.is_some()) && self.condition.holds(found)
     }
 }

@@ -1,6 +1,5 @@
 //! A finite map with a limit on its pairs.
 ghost use Rattle.std.specs.Prelude.{◌≡◌, ◌↔◌, ◌≤◌, ◌<◌, ◌+◌, ◌^◌, ◌&&◌, ◌∷◌, length, [], is_some, if◌then◌else◌, None, option_map, IfOk, IsTrue, OnOk, OnErr};
-ghost use Rattle.std.specs.Arc.{arc_value};
 ghost use Rattle.trie_shape.specs.Roots.{IsRoot, map_of, word_of};
 ghost use Rattle.trie_shape.specs.Shape.{NoneAbove, Restamps, nodes, own_count};
 ghost use Rattle.trie_shape.specs.View.{tree};
@@ -10,6 +9,7 @@ ghost use Rattle.versions.specs.Map.{IsMap, value_at, with_pair, without};
 ghost use Rattle.versions.specs.Puts.{FullExactly};
 
 mod along;
+mod exchanging;
 
 use crate::refusal::Refusal;
 use crate::root::Root;
@@ -18,9 +18,9 @@ use generation::Source;
 use hash_path::{PathKey, Sought};
 use std::alloc::Global;
 use std::marker::Model;
-use std::sync::Arc;
 use trie_node::{
-    Always, Change, Condition, NoMemory, Node, Stamp, root_has_few_nodes, root_is_map,
+    Always, Change, Condition, NoMemory, Node, Shared, Slots, Stamp, root_has_few_nodes,
+    root_is_map,
 };
 
 /// The most pairs that a map may be limited to.
@@ -45,13 +45,13 @@ pub const MOST_PAIRS: u64 = 16_777_216;
 /// have the key's whole path word; a write moves or copies these one by one. A call that is refused leaves the map as
 /// it was.
 #[derive(Drop)]
-pub struct Version<K: PathKey, V> {
-    root: Root<K, V>,
+pub struct Version<K: PathKey, V, S: Slots<K, V> = Shared> {
+    root: Root<K, V, S, S::Key, S::Value>,
     limit: u64,
     stamp: Stamp,
 }
 
-impl<K: PathKey, V> Model for Version<K, V> {
+impl<K: PathKey, V, S: Slots<K, V>> Model for Version<K, V, S> {
     ghost use Rattle.std.specs.Prelude.{◌≤◌, length};
     ghost use Rattle.trie_shape.specs.Roots.{IsRoot, map_of, word_of};
     ghost use Rattle.trie_shape.specs.Shape.{NoneAbove, nodes};
@@ -83,12 +83,18 @@ impl<K: PathKey + Drop, V: Drop> Version<K, V> {
             stamp,
         })
     }
+}
 
+impl<K: PathKey, V, S: Slots<K, V>> Version<K, V, S>
+where
+    S::Key: Drop,
+    S::Value: Drop,
+{
     /// The map of a root, which may hold up to `limit` pairs. No node of the root has a greater stamp than `stamp`,
     /// which later writes put on nodes.
     ///
     /// Cost: O(1), no lock. Refused: never.
-    pub fn from_root(root: Node<K, V>, limit: u64, stamp: Stamp) -> Version<K, V>
+    pub fn from_root(root: Node<K, V, S>, limit: u64, stamp: Stamp) -> Version<K, V, S>
         requires root { IsRoot K.cmp K.path_of (tree root) }
         requires fits { length (map_of K.cmp (tree root)) ≤ limit }
         requires least { 1 ≤ limit }
@@ -109,8 +115,8 @@ impl<K: PathKey + Drop, V: Drop> Version<K, V> {
     /// The value of the key, or none.
     ///
     /// Cost: O(log n), no lock. Refused: never.
-    pub fn get<Q: Sought<K>>(&self, key: Q) -> Option<&Arc<V>>
-        ensures { option_map (λ value. value.now.value) result ≡ value_at K.cmp self.now.entries (Q.key_of key) }
+    pub fn get<Q: Sought<K>>(&self, key: Q) -> Option<&S::Value>
+        ensures { option_map (λ value. S.value_of value.now) result ≡ value_at K.cmp self.now.entries (Q.key_of key) }
     {
         self.get_along(key, key.path_sought())
     }
@@ -169,7 +175,7 @@ impl<K: PathKey + Drop, V: Drop> Version<K, V> {
     /// The root of the version's trie.
     ///
     /// Cost: O(1), no lock. Refused: never.
-    pub fn root(&self) -> &Node<K, V>
+    pub fn root(&self) -> &Node<K, V, S>
         ensures root { IsRoot K.cmp K.path_of (tree result.now) }
         ensures entries { map_of K.cmp (tree result.now) ≡ self.now.entries }
         ensures nodes { nodes (word_of K.path_of) (tree result.now) ≡ self.now.nodes }
@@ -194,15 +200,15 @@ impl<K: PathKey + Drop, V: Drop> Version<K, V> {
     pub fn put(
         &mut self,
         alloc: Global,
-        key: Arc<K>,
-        value: Arc<V>,
-    ) -> Result<Option<Arc<V>>, Refusal>
-        ensures before { IfOk result (λ before. option_map arc_value before ≡ value_at K.cmp self.old.entries key.value) }
-        ensures entries { OnOk result (self.new.entries ≡ with_pair K.cmp self.old.entries key.value value.value) }
+        key: S::Key,
+        value: S::Value,
+    ) -> Result<Option<S::Value>, Refusal>
+        ensures before { IfOk result (λ before. option_map S.value_of before ≡ value_at K.cmp self.old.entries (S.key_of key)) }
+        ensures entries { OnOk result (self.new.entries ≡ with_pair K.cmp self.old.entries (S.key_of key) (S.value_of value)) }
         ensures limit { self.new.limit ≡ self.old.limit }
         ensures stamp { self.new.stamp ≡ self.old.stamp }
-        ensures nodes { OnOk result (Restamps self.old.stamp (word_of K.path_of key.value) self.old.nodes self.new.nodes) }
-        ensures full { FullExactly result (is_full_for K.cmp self.old.limit self.old.entries key.value) }
+        ensures nodes { OnOk result (Restamps self.old.stamp (word_of K.path_of (S.key_of key)) self.old.nodes self.new.nodes) }
+        ensures full { FullExactly result (is_full_for K.cmp self.old.limit self.old.entries (S.key_of key)) }
         ensures err { OnErr result (self.new ≡ self.old) }
     {
         Ok(self.put_where(alloc, key, value, &Always)?.previous)
@@ -211,25 +217,26 @@ impl<K: PathKey + Drop, V: Drop> Version<K, V> {
     /// Maps the key to the value where the condition holds of the value that the key has, and returns that value and
     /// whether the map was written. Where the map is not written no node is copied.
     ///
-    /// Cost: O(log n), by one walk down the trie, no lock. Refused: `Full`, where the condition holds, the key is new
-    /// and there are as many pairs as there may be; `NoMemory`, if memory runs out.
+    /// Cost: O(log n), no lock: one walk down the trie where the value of a key that is there is exchanged, and else two.
+    /// Refused: `Full`, where the condition holds, the key is new and there are as many pairs as there may be;
+    /// `NoMemory`, if memory runs out.
     pub fn put_where<C: Condition<V>>(
         &mut self,
         alloc: Global,
-        key: Arc<K>,
-        value: Arc<V>,
+        key: S::Key,
+        value: S::Value,
         condition: &C,
-    ) -> Result<Change<V>, Refusal>
-        ensures before { IfOk result (λ change. option_map arc_value change.previous ≡ value_at K.cmp self.old.entries key.value) }
-        ensures written { IfOk result (λ change. change.written ≡ C.holds condition.now (value_at K.cmp self.old.entries key.value)) }
-        ensures entries { IfOk result (λ change. self.new.entries ≡ (if change.written then with_pair K.cmp self.old.entries key.value value.value else self.old.entries)) }
+    ) -> Result<Change<V, S>, Refusal>
+        ensures before { IfOk result (λ change. option_map S.value_of change.previous ≡ value_at K.cmp self.old.entries (S.key_of key)) }
+        ensures written { IfOk result (λ change. change.written ≡ C.holds condition.now (value_at K.cmp self.old.entries (S.key_of key))) }
+        ensures entries { IfOk result (λ change. self.new.entries ≡ (if change.written then with_pair K.cmp self.old.entries (S.key_of key) (S.value_of value) else self.old.entries)) }
         ensures limit { self.new.limit ≡ self.old.limit }
         ensures stamp { self.new.stamp ≡ self.old.stamp }
-        ensures nodes { IfOk result (λ change. RestampsIf change.written self.old.stamp (word_of K.path_of key.value) self.old.nodes self.new.nodes) }
-        ensures full { FullExactly result (C.holds condition.now None && is_full_for K.cmp self.old.limit self.old.entries key.value) }
+        ensures nodes { IfOk result (λ change. RestampsIf change.written self.old.stamp (word_of K.path_of (S.key_of key)) self.old.nodes self.new.nodes) }
+        ensures full { FullExactly result (C.holds condition.now None && is_full_for K.cmp self.old.limit self.old.entries (S.key_of key)) }
         ensures err { OnErr result (self.new ≡ self.old) }
     {
-        let path = key.path();
+        let path = S::lend_key(&key).path();
         self.put_where_along(alloc, key, path, value, condition)
     }
 
@@ -240,8 +247,8 @@ impl<K: PathKey + Drop, V: Drop> Version<K, V> {
         &mut self,
         alloc: Global,
         key: Q,
-    ) -> Result<Option<Arc<V>>, NoMemory>
-        ensures before { IfOk result (λ before. option_map arc_value before ≡ value_at K.cmp self.old.entries (Q.key_of key)) }
+    ) -> Result<Option<S::Value>, NoMemory>
+        ensures before { IfOk result (λ before. option_map S.value_of before ≡ value_at K.cmp self.old.entries (Q.key_of key)) }
         ensures entries { OnOk result (self.new.entries ≡ without K.cmp self.old.entries (Q.key_of key)) }
         ensures limit { self.new.limit ≡ self.old.limit }
         ensures stamp { self.new.stamp ≡ self.old.stamp }
@@ -260,8 +267,8 @@ impl<K: PathKey + Drop, V: Drop> Version<K, V> {
         alloc: Global,
         key: Q,
         condition: &C,
-    ) -> Result<Change<V>, NoMemory>
-        ensures before { IfOk result (λ change. option_map arc_value change.previous ≡ value_at K.cmp self.old.entries (Q.key_of key)) }
+    ) -> Result<Change<V, S>, NoMemory>
+        ensures before { IfOk result (λ change. option_map S.value_of change.previous ≡ value_at K.cmp self.old.entries (Q.key_of key)) }
         ensures written { IfOk result (λ change. change.written ≡ (is_some (value_at K.cmp self.old.entries (Q.key_of key)) && C.holds condition.now (value_at K.cmp self.old.entries (Q.key_of key)))) }
         ensures entries { IfOk result (λ change. self.new.entries ≡ (if change.written then without K.cmp self.old.entries (Q.key_of key) else self.old.entries)) }
         ensures limit { self.new.limit ≡ self.old.limit }
@@ -291,7 +298,7 @@ impl<K: PathKey + Drop, V: Drop> Version<K, V> {
     ///
     /// Cost: O(1), no lock and no request for memory. Refused: `NoMemory`, where the handle on the root cannot be
     /// cloned; the map and the source are then as before.
-    pub fn fork(&mut self, source: &mut Source) -> Result<Version<K, V>, NoMemory>
+    pub fn fork(&mut self, source: &mut Source) -> Result<Version<K, V, S>, NoMemory>
         requires issued { self.old.stamp ≤ source.old }
         requires room { source.old + 2 ≤ 2 ^ 63 }
         ensures entries { IfOk result (λ fork. fork.entries ≡ self.old.entries) }
@@ -319,7 +326,7 @@ impl<K: PathKey + Drop, V: Drop> Version<K, V> {
     ///
     /// Cost: O(1), no lock and no request for memory. Refused: `NoMemory`, where the handle on the root cannot be
     /// cloned.
-    pub fn view(&self) -> Result<View<K, V>, NoMemory>
+    pub fn view(&self) -> Result<View<K, V, S>, NoMemory>
         ensures { IfOk result (λ view. view ≡ self.now.entries) }
     {
         Ok(View {

@@ -8,8 +8,7 @@ ghost use Rattle.versions.specs.declared.version.TheConstants.{MOST_PAIRS};
 use crate::root::Root;
 use hash_path::{PathKey, Sought};
 use std::marker::Model;
-use std::sync::Arc;
-use trie_node::{NoMemory, Node, root_is_map};
+use trie_node::{NoMemory, Node, Shared, Slots, root_is_map};
 
 /// A map that never changes, as it stood when the view was taken. Any number of threads may read it, with no lock.
 ///
@@ -19,11 +18,11 @@ use trie_node::{NoMemory, Node, root_is_map};
 /// lease(alloc, &mut registry, "alpha", 900)?;
 /// ```
 #[derive(Drop)]
-pub struct View<K: PathKey, V> {
-    pub(crate) root: Root<K, V>,
+pub struct View<K: PathKey, V, S: Slots<K, V> = Shared> {
+    pub(crate) root: Root<K, V, S, S::Key, S::Value>,
 }
 
-impl<K: PathKey, V> Model for View<K, V> {
+impl<K: PathKey, V, S: Slots<K, V>> Model for View<K, V, S> {
     ghost use Rattle.std.specs.Prelude.{◌≤◌, length};
     ghost use Rattle.trie_shape.specs.Roots.{IsRoot, map_of};
     ghost use Rattle.versions.specs.Map.{Map};
@@ -36,12 +35,12 @@ impl<K: PathKey, V> Model for View<K, V> {
     ghost invariant = { λ a. IsRoot K.cmp K.path_of a.root × (length (map_of K.cmp a.root) ≤ MOST_PAIRS) };
 }
 
-impl<K: PathKey, V> View<K, V> {
+impl<K: PathKey, V, S: Slots<K, V>> View<K, V, S> {
     /// The value of the key, or none.
     ///
     /// Cost: O(log n), no lock. Refused: never.
-    pub fn get<Q: Sought<K>>(&self, key: Q) -> Option<&Arc<V>>
-        ensures { option_map (λ value. value.now.value) result ≡ value_at K.cmp self.now (Q.key_of key) }
+    pub fn get<Q: Sought<K>>(&self, key: Q) -> Option<&S::Value>
+        ensures { option_map (λ value. S.value_of value.now) result ≡ value_at K.cmp self.now (Q.key_of key) }
     {
         trie_node::find(self.root.node(), key)
     }
@@ -79,7 +78,7 @@ impl<K: PathKey, V> View<K, V> {
     /// The root of the view's trie.
     ///
     /// Cost: O(1), no lock. Refused: never.
-    pub fn root(&self) -> &Node<K, V>
+    pub fn root(&self) -> &Node<K, V, S>
         ensures root { IsRoot K.cmp K.path_of (tree result.now) }
         ensures entries { map_of K.cmp (tree result.now) ≡ self.now }
     {
@@ -87,11 +86,15 @@ impl<K: PathKey, V> View<K, V> {
     }
 }
 
-impl<K: PathKey + Drop, V: Drop> View<K, V> {
+impl<K: PathKey, V, S: Slots<K, V>> View<K, V, S>
+where
+    S::Key: Drop,
+    S::Value: Drop,
+{
     /// Another handle on the same view.
     ///
     /// Cost: O(1), no lock and no request for memory. Refused: `NoMemory`, where the handle cannot be cloned.
-    pub fn try_clone(&self) -> Result<View<K, V>, NoMemory>
+    pub fn try_clone(&self) -> Result<View<K, V, S>, NoMemory>
         ensures { IfOk result (λ view. view ≡ self.now) }
     {
         Ok(View {

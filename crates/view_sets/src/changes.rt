@@ -8,25 +8,25 @@ ghost use Rattle.view_sets.specs.Sets.{altered, apart};
 use crate::sets::{difference, passed};
 use hash_path::PathKey;
 use std::alloc::Global;
-use trie_node::NoMemory;
+use trie_node::{NoMemory, Shared, Slots};
 use versions::{Version, View};
 
 /// What changed from an older view to a newer one. Each of the three is a map of its own, which shares keys and values
 /// with the view that it has them of.
 ///
-/// <!-- quoted from crates/view_sets/src/tests.rt -->
+/// <!-- quoted from crates/tests_map_ops/src/tests/sets.rt -->
 /// ```rust
-/// let changed = changes_between(alloc, &new, &old)?;
-/// assert!(rt; has(&changed.put, &[(4, 40)]));
+/// let changed = changes_between(alloc, new, old)?;
+/// assert!(rt; has(&changed.put, want.apart));
 /// ```
 #[derive(Drop)]
-pub struct Changes<K: PathKey, V> {
+pub struct Changes<K: PathKey, V, S: Slots<K, V> = Shared> {
     /// The pairs of the newer view whose keys the older one has not.
-    pub put: Version<K, V>,
+    pub put: Version<K, V, S>,
     /// The pairs of the newer view whose keys the older one has with an unequal value.
-    pub altered: Version<K, V>,
+    pub altered: Version<K, V, S>,
     /// The pairs of the older view whose keys the newer one has not.
-    pub removed: Version<K, V>,
+    pub removed: Version<K, V, S>,
 }
 
 /// What changed from the older view to the newer one. A backup that has the older view needs no more: the pairs of
@@ -34,11 +34,14 @@ pub struct Changes<K: PathKey, V> {
 ///
 /// Cost: O(n log m + m log n) for views of n and m pairs, no lock: three look-ups at most for each key. Refused:
 /// `NoMemory`, if memory runs out.
-pub fn changes_between<K: PathKey + Drop, V: PartialEq + Drop>(
+pub fn changes_between<K: PathKey, V: PartialEq, S: Slots<K, V>>(
     alloc: Global,
-    newer: &View<K, V>,
-    older: &View<K, V>,
-) -> Result<Changes<K, V>, NoMemory>
+    newer: &View<K, V, S>,
+    older: &View<K, V, S>,
+) -> Result<Changes<K, V, S>, NoMemory>
+where
+    S::Key: Drop,
+    S::Value: Drop,
     ensures put { IfOk result (λ changes. changes.put.entries ≡ apart K.cmp newer.now older.now) }
     ensures altered { IfOk result (λ changes. changes.altered.entries ≡ altered K.cmp V.eq newer.now older.now) }
     ensures removed { IfOk result (λ changes. changes.removed.entries ≡ apart K.cmp older.now newer.now) }
@@ -54,11 +57,14 @@ pub fn changes_between<K: PathKey + Drop, V: PartialEq + Drop>(
 }
 
 /// The pairs of the newer view whose keys the older one has with an unequal value.
-fn altered_pairs<K: PathKey + Drop, V: PartialEq + Drop>(
+fn altered_pairs<K: PathKey, V: PartialEq, S: Slots<K, V>>(
     alloc: Global,
-    newer: &View<K, V>,
-    older: &View<K, V>,
-) -> Result<Version<K, V>, NoMemory>
+    newer: &View<K, V, S>,
+    older: &View<K, V, S>,
+) -> Result<Version<K, V, S>, NoMemory>
+where
+    S::Key: Drop,
+    S::Value: Drop,
     ensures { IfOk result (λ made. made.entries ≡ altered K.cmp V.eq newer.now older.now) }
 {
     let differs = |key: &K, value: &V| -> bool
@@ -69,15 +75,18 @@ fn altered_pairs<K: PathKey + Drop, V: PartialEq + Drop>(
 }
 
 /// Whether the view has the key with an unequal value.
-fn is_altered<K: PathKey + Drop, V: PartialEq + Drop>(
-    older: &View<K, V>,
+fn is_altered<K: PathKey, V: PartialEq, S: Slots<K, V>>(
+    older: &View<K, V, S>,
     key: &K,
     value: &V,
 ) -> bool
+where
+    S::Key: Drop,
+    S::Value: Drop,
     ensures { result ≡ option_map_or (λ before. not (V.eq before value.now)) (value_at K.cmp older.now key.now) false }
 {
     match older.get(key) {
-        Some(before) => **before != *value,
+        Some(before) => *S::lend_value(before) != *value,
         None => false,
     }
 }

@@ -3,8 +3,6 @@
 
 mod changes;
 mod sets;
-#[cfg(test)]
-mod tests;
 
 pub use changes::{Changes, changes_between};
 pub use sets::{difference, intersection, union};

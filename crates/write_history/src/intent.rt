@@ -7,7 +7,6 @@ use ghost_log::Turns;
 use hash_path::{PathKey, Sought};
 use logbook::{Offer, Plain};
 use std::marker::Model;
-use std::sync::Arc;
 
 /// A write that is to be added to a history, from before its key and its value are moved. A clause sees the entry.
 #[derive(Drop)]
@@ -30,11 +29,11 @@ impl<K: PathKey, V> Turns<Intent<K, V>, Entry<K, V>> for Nothing {
     ghost adds = { λ intent. intent ∷ [] };
 }
 
-/// A key and its value.
+/// What a key is looked up by, and the value that it gets.
 #[derive(Drop)]
-pub struct Pair<K, V> {
-    pub key: Arc<K>,
-    pub value: Arc<V>,
+pub struct Pair<'a, Q, V> {
+    pub key: Q,
+    pub value: &'a V,
 }
 
 /// Who signs, and what is written.
@@ -47,11 +46,15 @@ pub struct Signed<'a, T, J: Naming> {
 /// The put of a pair.
 pub struct Putting;
 
-impl<'a, K, V, J: Naming> Plain<Signed<'a, Pair<K, V>, J>, Entry<K, V>, u64> for Putting {
+impl<'a, 'b, K: PathKey, V, Q: Sought<K>, J: Naming> Plain<
+    Signed<'a, Pair<'b, Q, V>, J>,
+    Entry<K, V>,
+    u64,
+> for Putting {
     ghost use Rattle.std.specs.Prelude.{None};
     ghost use Rattle.write_history.specs.declared.entry.Write.TheVariants.{Put};
 
-    ghost ask = { λ s. record { by = s.author.now.by; write = Put s.about.now.key.value s.about.now.value.value } };
+    ghost ask = { λ s. record { by = s.author.now.by; write = Put (Q.key_of s.about.now.key) s.about.now.value.now } };
 
     ghost state = { λ _. None };
 }

@@ -20,5 +20,5 @@ pub use book::{Law, Naming, Opened, Unnamed};
 pub use clearing::{Cleared, Gathered};
 pub use entry::{Entry, Write};
 pub use front::Front;
-pub use intent::{Intent, Pair};
+pub use intent::Intent;
 pub use part::{Part, Parts};

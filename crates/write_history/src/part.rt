@@ -90,18 +90,19 @@ impl<K: PathKey, V, J: Naming> Part<K, V, J> {
         let _ = &self.seen;
     }
 
-    /// The put of a pair, which is to be added.
-    pub fn putting(&self, author: &Author<J>, pair: &Pair<K, V>) -> Intent<K, V>
-        ensures { result ≡ record { by = author.now.by; write = Put pair.now.key.value pair.now.value.value } }
+    /// The put of a value at a key, which is to be added.
+    pub fn putting<Q: Sought<K>>(&self, author: &Author<J>, key: Q, value: &V) -> Intent<K, V>
+        ensures { result ≡ record { by = author.now.by; write = Put (Q.key_of key) value.now } }
     {
+        let pair = Pair { key, value };
         let signed = Signed {
             author,
-            about: pair,
+            about: &pair,
         };
         Intent {
             offer: self
                 .seen
-                .plain::<Nothing, Signed<'_, Pair<K, V>, J>, Putting>(&signed),
+                .plain::<Nothing, Signed<'_, Pair<'_, Q, V>, J>, Putting>(&signed),
         }
     }
 

@@ -1,23 +1,27 @@
 //! Writes that a closure decides on, and the puts that are such writes.
 ghost use Rattle.std.specs.Prelude.{◌≡◌, Err, IfErr, IfOk, IfSome, None, Option, Some, option_map};
-ghost use Rattle.std.specs.Arc.{arc_value};
-ghost use Rattle.stripes.specs.Updates.{MayMake};
+ghost use Rattle.stripe.specs.Updates.{MayMake};
 
 use super::BoundedMap;
 use crate::places::Step;
 use hash_path::PathKey;
-use std::sync::{Arc, Wait};
+use std::sync::Wait;
 use trie_map::{Keeps, PutError};
+use trie_node::Slots;
 
-impl<K: PathKey + Drop, V: Drop, P: Keeps<K, V>> BoundedMap<K, V, P> {
+impl<K: PathKey + Drop, V: Drop, P: Keeps<K, V>, S: Slots<K, V>> BoundedMap<K, V, P, S>
+where
+    S::Key: Drop,
+    S::Value: Drop,
+{
     /// Maps the key to the value, and returns the value before, or none. It is one step, in which a new key takes a
     /// place under the lock of its stripe.
     ///
     /// Cost: O(log n), under the lock of the key's stripe. Refused: `Full`, where the key is new and no place is free, or
     /// its stripe is full; `NoMemory`, if memory runs out.
-    pub fn put<R: Wait>(&self, rt: &R, key: K, value: V) -> Result<Option<Arc<V>>, PutError>
+    pub fn put<R: Wait>(&self, rt: &R, key: K, value: V) -> Result<Option<S::Value>, PutError>
         requires { P.holds key value }
-        ensures kept { IfOk result (λ before. IfSome before (λ found. P.holds key found.value)) }
+        ensures kept { IfOk result (λ before. IfSome before (λ found. P.holds key (S.value_of found))) }
     {
         self.update(rt, key, move |_| Some(value))
     }
@@ -34,12 +38,12 @@ impl<K: PathKey + Drop, V: Drop, P: Keeps<K, V>> BoundedMap<K, V, P> {
         rt: &R,
         key: K,
         change: F,
-    ) -> Result<Option<Arc<V>>, PutError>
+    ) -> Result<Option<S::Value>, PutError>
         requires callable { (old : _) → IfSome old (λ value. P.holds key value.now) → F.pre change old }
         requires rule { (old : _) (made : _) → IfSome old (λ value. P.holds key value.now) → F.post change old made → IfSome made (P.holds key) }
-        ensures made { IfOk result (λ before. (made : Option V) × MayMake F.FnOnce change (option_map arc_value before) made) }
+        ensures made { IfOk result (λ before. (made : Option V) × MayMake F.FnOnce change (option_map S.value_of before) made) }
         ensures full { result ≡ Err PutError.Full → (value : V) × MayMake F.FnOnce change None (Some value) }
-        ensures kept { IfOk result (λ before. IfSome before (λ found. P.holds key found.value)) }
+        ensures kept { IfOk result (λ before. IfSome before (λ found. P.holds key (S.value_of found))) }
     {
         let mut step = Step::Same;
         let decide = |old: Option<&V>| -> Result<Option<V>, V>

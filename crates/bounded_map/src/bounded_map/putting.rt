@@ -3,10 +3,15 @@ ghost use Rattle.std.specs.Prelude.{◌≡◌, IfOk, IfSome};
 
 use super::BoundedMap;
 use hash_path::PathKey;
-use std::sync::{Arc, Wait};
+use std::sync::Wait;
 use trie_map::{Keeps, NoMemory, PutError};
+use trie_node::Slots;
 
-impl<K: PathKey + Drop, V: Drop, P: Keeps<K, V>> BoundedMap<K, V, P> {
+impl<K: PathKey + Drop, V: Drop, P: Keeps<K, V>, S: Slots<K, V>> BoundedMap<K, V, P, S>
+where
+    S::Key: Drop,
+    S::Value: Drop,
+{
     /// Maps the key to a value that is shared already, and returns the value before, or none. It holds a place for as
     /// long as it runs, also where the key is present; where none is free, it replaces a value that is there.
     ///
@@ -15,10 +20,10 @@ impl<K: PathKey + Drop, V: Drop, P: Keeps<K, V>> BoundedMap<K, V, P> {
         &self,
         rt: &R,
         key: K,
-        value: Arc<V>,
-    ) -> Result<Option<Arc<V>>, PutError>
-        requires { P.holds key value.value }
-        ensures kept { IfOk result (λ before. IfSome before (λ found. P.holds key found.value)) }
+        value: S::Value,
+    ) -> Result<Option<S::Value>, PutError>
+        requires { P.holds key (S.value_of value) }
+        ensures kept { IfOk result (λ before. IfSome before (λ found. P.holds key (S.value_of found))) }
     {
         let Some(place) = self.places.take() else {
             return match self.map.replace_shared(rt, key, value)? {
@@ -42,9 +47,9 @@ impl<K: PathKey + Drop, V: Drop, P: Keeps<K, V>> BoundedMap<K, V, P> {
         rt: &R,
         key: K,
         value: V,
-    ) -> Result<Option<Arc<V>>, PutError>
+    ) -> Result<Option<S::Value>, PutError>
         requires { P.holds key value }
-        ensures kept { IfOk result (λ before. IfSome before (λ found. P.holds key found.value)) }
+        ensures kept { IfOk result (λ before. IfSome before (λ found. P.holds key (S.value_of found))) }
     {
         if let Some(found) = self.map.get(rt, &key)? {
             return Ok(Some(found));
@@ -72,10 +77,10 @@ impl<K: PathKey + Drop, V: Drop, P: Keeps<K, V>> BoundedMap<K, V, P> {
         rt: &R,
         key: K,
         make: F,
-    ) -> Result<Arc<V>, PutError>
+    ) -> Result<S::Value, PutError>
         requires callable { F.pre make }
         requires rule { (value : V) → F.post make value → P.holds key value }
-        ensures kept { IfOk result (λ value. P.holds key value.value) }
+        ensures kept { IfOk result (λ value. P.holds key (S.value_of value)) }
     {
         if let Some(found) = self.map.get(rt, &key)? {
             return Ok(found);
@@ -83,8 +88,8 @@ impl<K: PathKey + Drop, V: Drop, P: Keeps<K, V>> BoundedMap<K, V, P> {
         let Some(place) = self.places.take() else {
             return Err(PutError::Full);
         };
-        let made = Arc::new(self.alloc, make())?;
-        let answer = Arc::try_clone(&made)?;
+        let made = S::new_value(self.alloc, make())?;
+        let answer = S::another_value(&made)?;
         match self.map.put_shared_if_absent(rt, key, made)? {
             Some(found) => Ok(found),
             None => {
@@ -97,15 +102,19 @@ impl<K: PathKey + Drop, V: Drop, P: Keeps<K, V>> BoundedMap<K, V, P> {
     /// Maps the key to the value where the key is present, and returns the value before, or none.
     ///
     /// Cost: O(log n), under the lock of the key's stripe. Refused: `NoMemory`, if memory runs out.
-    pub fn replace<R: Wait>(&self, rt: &R, key: K, value: V) -> Result<Option<Arc<V>>, NoMemory>
+    pub fn replace<R: Wait>(&self, rt: &R, key: K, value: V) -> Result<Option<S::Value>, NoMemory>
         requires { P.holds key value }
-        ensures kept { IfOk result (λ before. IfSome before (λ found. P.holds key found.value)) }
+        ensures kept { IfOk result (λ before. IfSome before (λ found. P.holds key (S.value_of found))) }
     {
         self.map.replace(rt, key, value)
     }
 }
 
-impl<K: PathKey + Drop, V: Eq + Drop, P: Keeps<K, V>> BoundedMap<K, V, P> {
+impl<K: PathKey + Drop, V: Eq + Drop, P: Keeps<K, V>, S: Slots<K, V>> BoundedMap<K, V, P, S>
+where
+    S::Key: Drop,
+    S::Value: Drop,
+{
     /// Maps the key to the value where it is mapped to a value equal to `old`, and returns whether it was.
     ///
     /// Cost: O(log n), under the lock of the key's stripe, where `V::eq` runs. Refused: `NoMemory`, if memory runs out.

@@ -1,21 +1,30 @@
 //! Removals. A place is free again once its pair is gone.
 ghost use Rattle.std.specs.Prelude.{◌≡◌, ◌≤◌, IfOk, IfSome, Option, Some, is_some, length, true};
-ghost use Rattle.stripes.specs.Rules.{AllKeep};
-ghost use Rattle.stripes.specs.Updates.{MayPass};
+ghost use Rattle.stripe.specs.Rules.{AllKeep};
+ghost use Rattle.stripe.specs.Updates.{MayPass};
 ghost use Rattle.versions.specs.Map.{Map};
 
 use super::BoundedMap;
 use hash_path::{PathKey, Sought};
 use map_view::View;
-use std::sync::{Arc, Wait};
+use std::sync::Wait;
 use trie_map::{Keeps, NoMemory};
+use trie_node::Slots;
 
-impl<K: PathKey + Drop, V: Drop, P: Keeps<K, V>> BoundedMap<K, V, P> {
+impl<K: PathKey + Drop, V: Drop, P: Keeps<K, V>, S: Slots<K, V>> BoundedMap<K, V, P, S>
+where
+    S::Key: Drop,
+    S::Value: Drop,
+{
     /// Removes the key, and returns the value before, or none.
     ///
     /// Cost: O(log n), under the lock of the key's stripe. Refused: `NoMemory`, if memory runs out.
-    pub fn remove<R: Wait, Q: Sought<K>>(&self, rt: &R, key: Q) -> Result<Option<Arc<V>>, NoMemory>
-        ensures kept { IfOk result (λ before. IfSome before (λ found. P.holds (Q.key_of key) found.value)) }
+    pub fn remove<R: Wait, Q: Sought<K>>(
+        &self,
+        rt: &R,
+        key: Q,
+    ) -> Result<Option<S::Value>, NoMemory>
+        ensures kept { IfOk result (λ before. IfSome before (λ found. P.holds (Q.key_of key) (S.value_of found))) }
     {
         let before = self.map.remove(rt, key)?;
         self.places.give_back(u64::from(before.is_some()));
@@ -32,11 +41,11 @@ impl<K: PathKey + Drop, V: Drop, P: Keeps<K, V>> BoundedMap<K, V, P> {
         rt: &R,
         key: Q,
         test: F,
-    ) -> Result<Option<Arc<V>>, NoMemory>
+    ) -> Result<Option<S::Value>, NoMemory>
         requires callable { (value : _) → P.holds (Q.key_of key) value.now → F.pre test value }
         ensures tested { IfOk result (λ removed. (found : Option V) × IfSome found (P.holds (Q.key_of key)) × MayPass F.FnOnce test found (is_some removed)) }
-        ensures removed { IfOk result (λ removed. IfSome removed (λ value. MayPass F.FnOnce test (Some value.value) true)) }
-        ensures kept { IfOk result (λ removed. IfSome removed (λ value. P.holds (Q.key_of key) value.value)) }
+        ensures removed { IfOk result (λ removed. IfSome removed (λ value. MayPass F.FnOnce test (Some (S.value_of value)) true)) }
+        ensures kept { IfOk result (λ removed. IfSome removed (λ value. P.holds (Q.key_of key) (S.value_of value))) }
     {
         let removed = self.map.remove_where(rt, key, test)?;
         self.places.give_back(u64::from(removed.is_some()));
@@ -77,7 +86,7 @@ impl<K: PathKey + Drop, V: Drop, P: Keeps<K, V>> BoundedMap<K, V, P> {
     fn remove_all_failing<R: Wait, F: Fn(&K, &V) -> bool>(
         &self,
         rt: &R,
-        view: &View<K, V, P>,
+        view: &View<K, V, P, S>,
         test: &F,
     ) -> Result<u64, NoMemory>
         requires callable { F.IsAlwaysCallable test.now }
@@ -97,21 +106,26 @@ impl<K: PathKey + Drop, V: Drop, P: Keeps<K, V>> BoundedMap<K, V, P> {
     fn remove_failing<R: Wait, F: Fn(&K, &V) -> bool>(
         &self,
         rt: &R,
-        key: &Arc<K>,
-        seen: &Arc<V>,
+        key: &S::Key,
+        seen: &S::Value,
         test: &F,
     ) -> Result<bool, NoMemory>
         requires callable { F.IsAlwaysCallable test.now }
     {
-        if test(key, seen) {
+        let lent = S::lend_key(key);
+        if test(lent, S::lend_value(seen)) {
             return Ok(false);
         }
-        let removed = self.remove_where(rt, key, |value| !test(key, value))?;
+        let removed = self.remove_where(rt, lent, |value| !test(lent, value))?;
         Ok(removed.is_some())
     }
 }
 
-impl<K: PathKey + Drop, V: Eq + Drop, P: Keeps<K, V>> BoundedMap<K, V, P> {
+impl<K: PathKey + Drop, V: Eq + Drop, P: Keeps<K, V>, S: Slots<K, V>> BoundedMap<K, V, P, S>
+where
+    S::Key: Drop,
+    S::Value: Drop,
+{
     /// Removes the key where it is mapped to a value equal to `value`, and returns whether it was.
     ///
     /// Cost: O(log n), under the lock of the key's stripe, where `V::eq` runs. Refused: `NoMemory`, if memory runs out.

@@ -1,10 +1,9 @@
 //! Writes that a closure decides on, under the lock of the key's stripe, each an entry behind what was seen.
 ghost use Rattle.std.specs.Prelude.{◌≡◌, ◌&&◌, ◌||◌, Err, IfErr, IfOk, IfSome, Ok, OnErr, Option, Result, Some, is_some, option_map};
-ghost use Rattle.std.specs.Arc.{arc_value};
 ghost use mathlib.Core.List.{IsPrefix};
-ghost use Rattle.stripes.specs.Rules.{first_digit};
-ghost use Rattle.stripes.specs.Told.{Finds};
-ghost use Rattle.stripes.specs.Updates.{MayMake, MayPass, made_of, write_of};
+ghost use Rattle.stripe.specs.Rules.{first_digit};
+ghost use Rattle.stripe.specs.Told.{Finds};
+ghost use Rattle.stripe.specs.Updates.{MayMake, MayPass, made_of, write_of};
 ghost use Rattle.map_session.specs.Fullness.{SaysFull};
 ghost use Rattle.versions.specs.Commands.{is_full_for};
 ghost use Rattle.versions.specs.Map.{value_at};
@@ -14,13 +13,24 @@ ghost use Rattle.write_history.specs.Signers.{Read, WroteIf, signed_if};
 use super::Session;
 use crate::put_error::PutError;
 use hash_path::{PathKey, Sought};
-use std::sync::{Arc, Wait};
+use std::sync::Wait;
 use stripes::{Keeps, MOST_PAIRS_OF_STRIPE};
-use trie_node::NoMemory;
+use trie_node::{NoMemory, Slots};
 use write_history::Naming;
 
 /// What the closures may do is as for the calls of the map: each runs once, under the lock, and must not call the map.
-impl<'m, K: PathKey + Drop, V: Drop, P: Keeps<K, V>, J: Naming> Session<'m, K, V, P, J> {
+impl<'m, K: PathKey + Drop, V: Drop, P: Keeps<K, V>, J: Naming, S: Slots<K, V>> Session<
+    'm,
+    K,
+    V,
+    P,
+    J,
+    S,
+>
+where
+    S::Key: Drop,
+    S::Value: Drop,
+{
     /// Calls `change` at the value that the key has, or at none, and stores what it makes of it, as one step. It returns
     /// the value before, or none: the one that the history up to this write leaves the key. Where it made a value, that
     /// is put, and where it made none and there was one, the key is removed. Else nothing is written.
@@ -32,16 +42,15 @@ impl<'m, K: PathKey + Drop, V: Drop, P: Keeps<K, V>, J: Naming> Session<'m, K, V
         rt: &R,
         key: K,
         change: F,
-    ) -> Result<Option<Arc<V>>, PutError>
+    ) -> Result<Option<S::Value>, PutError>
         requires callable { (old : _) → IfSome old (λ value. P.holds key value.now) → F.pre change old }
         requires rule { (old : _) (made : _) → IfSome old (λ value. P.holds key value.now) → F.post change old made → IfSome made (P.holds key) }
-        ensures wrote { IfOk result (λ before. (made : Option V) × MayMake F.FnOnce change (option_map arc_value before) made × WroteIf K.cmp K.path_of (is_some made || is_some before) (write_of key made) key (option_map arc_value before) self.old.signer self.old.log self.new.log × (self.new.signer ≡ signed_if (is_some made || is_some before) self.old.signer)) }
-        ensures kept { IfOk result (λ before. IfSome before (λ found. P.holds key found.value)) }
+        ensures wrote { IfOk result (λ before. (made : Option V) × MayMake F.FnOnce change (option_map S.value_of before) made × WroteIf K.cmp K.path_of (is_some made || is_some before) (write_of key made) key (option_map S.value_of before) self.old.signer self.old.log self.new.log × (self.new.signer ≡ signed_if (is_some made || is_some before) self.old.signer)) }
+        ensures kept { IfOk result (λ before. IfSome before (λ found. P.holds key (S.value_of found))) }
         ensures full { SaysFull result (λ full. (made : Option V) × Finds K.cmp K.path_of (first_digit K.path_of key) self.old.log (λ pairs. MayMake F.FnOnce change (value_at K.cmp pairs key) made × (is_some made && is_full_for K.cmp MOST_PAIRS_OF_STRIPE pairs key ≡ full))) }
         ensures refused { OnErr result (self.new ≡ self.old) }
     {
         let path = key.path();
-        let key = Arc::new(self.alloc, key)?;
         let mut stripe = self.row.stripe_at(rt, path);
         match stripe.update_behind(
             self.alloc,
@@ -73,7 +82,6 @@ impl<'m, K: PathKey + Drop, V: Drop, P: Keeps<K, V>, J: Naming> Session<'m, K, V
         ensures refused { OnErr result (self.new ≡ self.old) }
     {
         let path = key.path();
-        let key = Arc::new(self.alloc, key)?;
         let mut stripe = self.row.stripe_at(rt, path);
         let done = stripe.update_with_behind(
             self.alloc,
@@ -100,17 +108,16 @@ impl<'m, K: PathKey + Drop, V: Drop, P: Keeps<K, V>, J: Naming> Session<'m, K, V
         rt: &R,
         key: K,
         change: F,
-    ) -> Result<Result<Option<Arc<V>>, E>, PutError>
+    ) -> Result<Result<Option<S::Value>, E>, PutError>
         requires callable { (old : _) → IfSome old (λ value. P.holds key value.now) → F.pre change old }
         requires rule { (old : _) (made : _) → IfSome old (λ value. P.holds key value.now) → F.post change old made → IfOk made (λ new. IfSome new (P.holds key)) }
-        ensures wrote { IfOk result (λ done. IfOk done (λ before. (made : Option V) × MayMake F.FnOnce change (option_map arc_value before) (Ok made) × WroteIf K.cmp K.path_of (is_some made || is_some before) (write_of key made) key (option_map arc_value before) self.old.signer self.old.log self.new.log × (self.new.signer ≡ signed_if (is_some made || is_some before) self.old.signer))) }
+        ensures wrote { IfOk result (λ done. IfOk done (λ before. (made : Option V) × MayMake F.FnOnce change (option_map S.value_of before) (Ok made) × WroteIf K.cmp K.path_of (is_some made || is_some before) (write_of key made) key (option_map S.value_of before) self.old.signer self.old.log self.new.log × (self.new.signer ≡ signed_if (is_some made || is_some before) self.old.signer))) }
         ensures failed { IfOk result (λ done. IfErr done (λ error. (found : Option V) × Read K.cmp K.path_of key found self.old.log self.new.log × MayMake F.FnOnce change found (Err error) × (self.new.signer ≡ self.old.signer))) }
-        ensures kept { IfOk result (λ done. IfOk done (λ before. IfSome before (λ found. P.holds key found.value))) }
+        ensures kept { IfOk result (λ done. IfOk done (λ before. IfSome before (λ found. P.holds key (S.value_of found)))) }
         ensures full { SaysFull result (λ full. (made : Result (Option V) E) × Finds K.cmp K.path_of (first_digit K.path_of key) self.old.log (λ pairs. MayMake F.FnOnce change (value_at K.cmp pairs key) made × (is_some (made_of made) && is_full_for K.cmp MOST_PAIRS_OF_STRIPE pairs key ≡ full))) }
         ensures refused { OnErr result (self.new ≡ self.old) }
     {
         let path = key.path();
-        let key = Arc::new(self.alloc, key)?;
         let mut stripe = self.row.stripe_at(rt, path);
         match stripe.try_update_behind(
             self.alloc,
@@ -135,11 +142,11 @@ impl<'m, K: PathKey + Drop, V: Drop, P: Keeps<K, V>, J: Naming> Session<'m, K, V
         rt: &R,
         key: Q,
         test: F,
-    ) -> Result<Option<Arc<V>>, NoMemory>
+    ) -> Result<Option<S::Value>, NoMemory>
         requires callable { (value : _) → P.holds (Q.key_of key) value.now → F.pre test value }
-        ensures wrote { IfOk result (λ removed. (found : Option V) × WroteIf K.cmp K.path_of (is_some removed) (Remove (Q.key_of key)) (Q.key_of key) found self.old.signer self.old.log self.new.log × MayPass F.FnOnce test found (is_some removed) × IfSome removed (λ value. found ≡ Some value.value)) }
+        ensures wrote { IfOk result (λ removed. (found : Option V) × WroteIf K.cmp K.path_of (is_some removed) (Remove (Q.key_of key)) (Q.key_of key) found self.old.signer self.old.log self.new.log × MayPass F.FnOnce test found (is_some removed) × IfSome removed (λ value. found ≡ Some (S.value_of value))) }
         ensures signer { IfOk result (λ removed. self.new.signer ≡ signed_if (is_some removed) self.old.signer) }
-        ensures kept { IfOk result (λ removed. IfSome removed (λ value. P.holds (Q.key_of key) value.value)) }
+        ensures kept { IfOk result (λ removed. IfSome removed (λ value. P.holds (Q.key_of key) (S.value_of value))) }
         ensures refused { OnErr result (self.new ≡ self.old) }
     {
         let path = key.path_sought();

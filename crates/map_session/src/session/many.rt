@@ -1,7 +1,7 @@
 //! Writes of many keys, one behind another.
 ghost use Rattle.std.specs.Prelude.{◌≡◌, ◌++◌, All, IfOk, List, OnErr, OnOk, false, is_some, length};
 ghost use Rattle.bulk_ops.specs.Meanings.{MayAnswer};
-ghost use Rattle.stripes.specs.Rules.{first_digit as digit_of};
+ghost use Rattle.stripe.specs.Rules.{first_digit as digit_of};
 ghost use Rattle.map_session.specs.Iterables.{CameFirst, EachKeeps, IsAtEnd};
 ghost use Rattle.std.specs.Iterator.{IsFiniteIterable};
 ghost use Rattle.map_session.specs.Sessions.{InTurn, Puts, Removes, RemovesIf};
@@ -10,16 +10,27 @@ ghost use Rattle.versions.specs.Map.{Map};
 use super::Session;
 use crate::put_error::PutError;
 use crate::steps::passes;
-use closure_ops::answer_at;
+use closure_ops::answer_in;
 use hash_path::{Path, PathKey};
 use map_view::View;
 use std::alloc::Global;
-use std::sync::{Arc, Wait};
+use std::sync::Wait;
 use stripes::{Keeps, Stripe};
-use trie_node::NoMemory;
+use trie_node::{NoMemory, Slots};
 use write_history::{Author, Front, Naming};
 
-impl<'m, K: PathKey + Drop, V: Drop, P: Keeps<K, V>, J: Naming> Session<'m, K, V, P, J> {
+impl<'m, K: PathKey + Drop, V: Drop, P: Keeps<K, V>, J: Naming, S: Slots<K, V>> Session<
+    'm,
+    K,
+    V,
+    P,
+    J,
+    S,
+>
+where
+    S::Key: Drop,
+    S::Value: Drop,
+{
     /// Puts each of the pairs, in order, each as an entry of its own. Where one is refused, those before it are in the
     /// map and in the history.
     ///
@@ -79,7 +90,7 @@ impl<'m, K: PathKey + Drop, V: Drop, P: Keeps<K, V>, J: Naming> Session<'m, K, V
     fn remove_all_failing<R: Wait, F: Fn(&K, &V) -> bool>(
         &mut self,
         rt: &R,
-        view: &View<K, V, P>,
+        view: &View<K, V, P, S>,
         test: &F,
     ) -> Result<u64, NoMemory>
         requires callable { F.IsAlwaysCallable test.now }
@@ -99,15 +110,15 @@ impl<'m, K: PathKey + Drop, V: Drop, P: Keeps<K, V>, J: Naming> Session<'m, K, V
     fn remove_if_both_fail<R: Wait, F: Fn(&K, &V) -> bool>(
         &mut self,
         rt: &R,
-        key: &Arc<K>,
-        seen: &Arc<V>,
+        key: &S::Key,
+        seen: &S::Value,
         test: &F,
     ) -> Result<bool, NoMemory>
         requires { F.IsAlwaysCallable test.now }
-        ensures wrote { IfOk result (λ removed. RemovesIf K.cmp K.path_of removed key.now.value (λ value. P.holds key.now.value value × MayAnswer F.Fn test.now key.now.value value false) self.old self.new) }
+        ensures wrote { IfOk result (λ removed. RemovesIf K.cmp K.path_of removed (S.key_of key.now) (λ value. P.holds (S.key_of key.now) value × MayAnswer F.Fn test.now (S.key_of key.now) value false) self.old self.new) }
         ensures refused { OnErr result (self.new ≡ self.old) }
     {
-        if answer_at(test, key, seen) {
+        if answer_in::<K, V, S, _, _>(test, key, seen) {
             return Ok(false);
         }
         Ok(self.remove_failing(rt, key, test)?.is_some())
@@ -117,14 +128,14 @@ impl<'m, K: PathKey + Drop, V: Drop, P: Keeps<K, V>, J: Naming> Session<'m, K, V
     fn remove_failing<R: Wait, F: Fn(&K, &V) -> bool>(
         &mut self,
         rt: &R,
-        key: &Arc<K>,
+        key: &S::Key,
         test: &F,
-    ) -> Result<Option<Arc<V>>, NoMemory>
+    ) -> Result<Option<S::Value>, NoMemory>
         requires { F.IsAlwaysCallable test.now }
-        ensures wrote { IfOk result (λ removed. RemovesIf K.cmp K.path_of (is_some removed) key.now.value (λ value. P.holds key.now.value value × MayAnswer F.Fn test.now key.now.value value false) self.old self.new) }
+        ensures wrote { IfOk result (λ removed. RemovesIf K.cmp K.path_of (is_some removed) (S.key_of key.now) (λ value. P.holds (S.key_of key.now) value × MayAnswer F.Fn test.now (S.key_of key.now) value false) self.old self.new) }
         ensures refused { OnErr result (self.new ≡ self.old) }
     {
-        let path = key.path();
+        let path = S::lend_key(key).path();
         let mut stripe = self.row.stripe_at(rt, path);
         remove_behind(
             self.alloc,
@@ -140,19 +151,29 @@ impl<'m, K: PathKey + Drop, V: Drop, P: Keeps<K, V>, J: Naming> Session<'m, K, V
 
 // Removes the key from its stripe where its value fails the test, behind what the front had seen, and returns the value
 // that was removed, or none.
-fn remove_behind<K: PathKey + Drop, V: Drop, P: Keeps<K, V>, J: Naming, F: Fn(&K, &V) -> bool>(
+fn remove_behind<
+    K: PathKey + Drop,
+    V: Drop,
+    P: Keeps<K, V>,
+    J: Naming,
+    S: Slots<K, V>,
+    F: Fn(&K, &V) -> bool,
+>(
     alloc: Global,
-    stripe: &mut Stripe<K, V, P, J>,
-    key: &Arc<K>,
+    stripe: &mut Stripe<K, V, P, J, S>,
+    key: &S::Key,
     path: Path,
     test: &F,
     front: &mut Front<K, V, J>,
     author: &mut Author<J>,
-) -> Result<Option<Arc<V>>, NoMemory>
+) -> Result<Option<S::Value>, NoMemory>
+where
+    S::Key: Drop,
+    S::Value: Drop,
     requires callable { F.IsAlwaysCallable test.now }
-    requires path { path.0 ≡ K.path_of key.now.value }
-    requires place { digit_of K.path_of key.now.value ≡ stripe.old.digit }
-    ensures wrote { IfOk result (λ removed. RemovesIf K.cmp K.path_of (is_some removed) key.now.value (λ value. P.holds key.now.value value × MayAnswer F.Fn test.now key.now.value value false) (record { log = front.old; signer = author.old }) (record { log = front.new; signer = author.new })) }
+    requires path { path.0 ≡ K.path_of (S.key_of key.now) }
+    requires place { digit_of K.path_of (S.key_of key.now) ≡ stripe.old.digit }
+    ensures wrote { IfOk result (λ removed. RemovesIf K.cmp K.path_of (is_some removed) (S.key_of key.now) (λ value. P.holds (S.key_of key.now) value × MayAnswer F.Fn test.now (S.key_of key.now) value false) (record { log = front.old; signer = author.old }) (record { log = front.new; signer = author.new })) }
     ensures front { OnErr result (front.new ≡ front.old) }
     ensures unsigned { OnErr result (author.new ≡ author.old) }
     ensures digit { stripe.new.digit ≡ stripe.old.digit }
@@ -162,7 +183,7 @@ fn remove_behind<K: PathKey + Drop, V: Drop, P: Keeps<K, V>, J: Naming, F: Fn(&K
     if passes(stripe, key, path, test) {
         return Ok(None);
     }
-    let removed = stripe.remove(alloc, key, path, author)?;
+    let removed = stripe.remove(alloc, S::lend_key(key), path, author)?;
     stripe.tell(front);
     Ok(removed)
 }

@@ -1,8 +1,7 @@
 //! The whole map at one moment of the history, which is then seen.
 ghost use Rattle.std.specs.Prelude.{◌≡◌, ◌↔◌, ◌≤◌, ◌++◌, ◌∷◌, [], IfOk, IsTrue, List, None, OnErr, OnOk, length, map, option_map};
-ghost use Rattle.std.specs.Arc.{arc_value};
 ghost use mathlib.Core.List.{IsPrefix};
-ghost use Rattle.stripes.specs.Rules.{AllKeep};
+ghost use Rattle.stripe.specs.Rules.{AllKeep};
 ghost use Rattle.versions.specs.Map.{IsMap, Map, value_at};
 ghost use Rattle.versions.specs.declared.version.TheConstants.{MOST_PAIRS};
 ghost use Rattle.write_history.specs.declared.entry.Entry.{Entry};
@@ -14,17 +13,28 @@ use super::Session;
 use crate::handles::handles_in;
 use hash_path::{PathKey, Sought};
 use map_view::View;
-use std::sync::{Arc, Wait};
+use std::sync::Wait;
 use stripes::{Keeps, STRIPES, clear_all, empty_maps, forks};
-use trie_node::NoMemory;
+use trie_node::{NoMemory, Slots};
 use united_roots::RootRow;
 use write_history::{Gathered, Naming};
 
-impl<'m, K: PathKey + Drop, V: Drop, P: Keeps<K, V>, J: Naming> Session<'m, K, V, P, J> {
+impl<'m, K: PathKey + Drop, V: Drop, P: Keeps<K, V>, J: Naming, S: Slots<K, V>> Session<
+    'm,
+    K,
+    V,
+    P,
+    J,
+    S,
+>
+where
+    S::Key: Drop,
+    S::Value: Drop,
+{
     /// The map of one moment: each key has in it the value that it has in the history which is then seen.
     ///
     /// Cost: O(1), under all locks. Refused: `NoMemory`, if memory runs out.
-    pub fn view<R: Wait>(&mut self, rt: &R) -> Result<View<K, V, P>, NoMemory>
+    pub fn view<R: Wait>(&mut self, rt: &R) -> Result<View<K, V, P, S>, NoMemory>
         ensures moment { IfOk result (λ view. (key : K) → value_at K.cmp view key ≡ value_in K.cmp K.path_of self.new.log key) }
         ensures kept { IfOk result (λ view. AllKeep K.cmp P.holds view) }
         ensures seen { IsPrefix self.old.log self.new.log }
@@ -68,9 +78,9 @@ impl<'m, K: PathKey + Drop, V: Drop, P: Keeps<K, V>, J: Naming> Session<'m, K, V
         &mut self,
         rt: &R,
         keys: &[Q],
-    ) -> Result<Vec<Option<Arc<V>>>, NoMemory>
-        ensures read { IfOk result (λ values. map (option_map arc_value) values.items ≡ map (λ key. value_in K.cmp K.path_of self.new.log (Q.key_of key)) keys.now) }
-        ensures kept { IfOk result (λ values. (m : Map K V) × AllKeep K.cmp P.holds m × (map (option_map arc_value) values.items ≡ map (λ key. value_at K.cmp m (Q.key_of key)) keys.now)) }
+    ) -> Result<Vec<Option<S::Value>>, NoMemory>
+        ensures read { IfOk result (λ values. map (option_map S.value_of) values.items ≡ map (λ key. value_in K.cmp K.path_of self.new.log (Q.key_of key)) keys.now) }
+        ensures kept { IfOk result (λ values. (m : Map K V) × AllKeep K.cmp P.holds m × (map (option_map S.value_of) values.items ≡ map (λ key. value_at K.cmp m (Q.key_of key)) keys.now)) }
         ensures seen { IsPrefix self.old.log self.new.log }
         ensures signer { self.new.signer ≡ self.old.signer }
     {

@@ -1,24 +1,38 @@
 //! Reads of one key, by the history that is then seen.
 ghost use Rattle.std.specs.Prelude.{◌≡◌, IfOk, IfSome, is_some, option_map};
-ghost use Rattle.std.specs.Arc.{arc_value};
 ghost use mathlib.Core.List.{IsPrefix};
 ghost use Rattle.write_history.specs.Histories.{value_in};
 ghost use Rattle.write_history.specs.Signers.{Read};
 
 use super::Session;
 use hash_path::{Path, PathKey, Sought};
-use std::sync::{Arc, Wait};
+use std::sync::Wait;
 use stripes::Keeps;
-use trie_node::NoMemory;
+use trie_node::{NoMemory, Slots};
 use write_history::Naming;
 
-impl<'m, K: PathKey + Drop, V: Drop, P: Keeps<K, V>, J: Naming> Session<'m, K, V, P, J> {
+impl<'m, K: PathKey + Drop, V: Drop, P: Keeps<K, V>, J: Naming, S: Slots<K, V>> Session<
+    'm,
+    K,
+    V,
+    P,
+    J,
+    S,
+>
+where
+    S::Key: Drop,
+    S::Value: Drop,
+{
     /// The value of the key, or none: the one that it has in the history which is then seen.
     ///
     /// Cost: O(log n), under the lock of the key's stripe. Refused: `NoMemory`, where the handle on the value cannot be cloned.
-    pub fn get<R: Wait, Q: Sought<K>>(&mut self, rt: &R, key: Q) -> Result<Option<Arc<V>>, NoMemory>
-        ensures read { IfOk result (λ found. Read K.cmp K.path_of (Q.key_of key) (option_map arc_value found) self.old.log self.new.log) }
-        ensures kept { IfOk result (λ found. IfSome found (λ value. P.holds (Q.key_of key) value.value)) }
+    pub fn get<R: Wait, Q: Sought<K>>(
+        &mut self,
+        rt: &R,
+        key: Q,
+    ) -> Result<Option<S::Value>, NoMemory>
+        ensures read { IfOk result (λ found. Read K.cmp K.path_of (Q.key_of key) (option_map S.value_of found) self.old.log self.new.log) }
+        ensures kept { IfOk result (λ found. IfSome found (λ value. P.holds (Q.key_of key) (S.value_of value))) }
         ensures seen { IsPrefix self.old.log self.new.log }
         ensures signer { self.new.signer ≡ self.old.signer }
     {
@@ -66,23 +80,34 @@ impl<'m, K: PathKey + Drop, V: Drop, P: Keeps<K, V>, J: Naming> Session<'m, K, V
         rt: &R,
         key: Q,
         path: Path,
-    ) -> Result<Option<Arc<V>>, NoMemory>
+    ) -> Result<Option<S::Value>, NoMemory>
         requires { path.0 ≡ K.path_of (Q.key_of key) }
-        ensures read { IfOk result (λ found. Read K.cmp K.path_of (Q.key_of key) (option_map arc_value found) self.old.log self.new.log) }
-        ensures kept { IfOk result (λ found. IfSome found (λ value. P.holds (Q.key_of key) value.value)) }
+        ensures read { IfOk result (λ found. Read K.cmp K.path_of (Q.key_of key) (option_map S.value_of found) self.old.log self.new.log) }
+        ensures kept { IfOk result (λ found. IfSome found (λ value. P.holds (Q.key_of key) (S.value_of value))) }
         ensures seen { IsPrefix self.old.log self.new.log }
         ensures signer { self.new.signer ≡ self.old.signer }
     {
         let mut stripe = self.row.stripe_at(rt, path);
         stripe.see(&mut self.front);
         match stripe.get(key, path) {
-            Some(value) => Ok(Some(Arc::try_clone(value)?)),
+            Some(value) => Ok(Some(S::another_value(value)?)),
             None => Ok(None),
         }
     }
 }
 
-impl<'m, K: PathKey + Drop, V: Copy + Drop, P: Keeps<K, V>, J: Naming> Session<'m, K, V, P, J> {
+impl<'m, K: PathKey + Drop, V: Copy + Drop, P: Keeps<K, V>, J: Naming, S: Slots<K, V>> Session<
+    'm,
+    K,
+    V,
+    P,
+    J,
+    S,
+>
+where
+    S::Key: Drop,
+    S::Value: Drop,
+{
     /// A copy of the value of the key, or none: the one that it has in the history which is then seen. No handle on it
     /// is cloned, so it costs less than `get`.
     ///
@@ -96,7 +121,7 @@ impl<'m, K: PathKey + Drop, V: Copy + Drop, P: Keeps<K, V>, J: Naming> Session<'
         let mut stripe = self.row.stripe_at(rt, path);
         stripe.see(&mut self.front);
         match stripe.get(key, path) {
-            Some(value) => Some(**value),
+            Some(value) => Some(*S::lend_value(value)),
             None => None,
         }
     }

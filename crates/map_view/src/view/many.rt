@@ -4,12 +4,15 @@ ghost use Rattle.versions.specs.Map.{value_at};
 
 use super::View;
 use hash_path::{PathKey, Sought};
-use std::sync::Arc;
 use stripes::Keeps;
 use trie_lookups::find_many;
-use trie_node::NoMemory;
+use trie_node::{NoMemory, Slots};
 
-impl<K: PathKey + Drop, V: Drop, P: Keeps<K, V>> View<K, V, P> {
+impl<K: PathKey, V, P: Keeps<K, V>, S: Slots<K, V>> View<K, V, P, S>
+where
+    S::Key: Drop,
+    S::Value: Drop,
+{
     /// The values of keys, in the order of the keys: for each what `get` returns. They are lent, and no memory is
     /// requested but for the list.
     ///
@@ -18,8 +21,8 @@ impl<K: PathKey + Drop, V: Drop, P: Keeps<K, V>> View<K, V, P> {
     /// as long, and a list of one key nearly twice as long.
     ///
     /// Cost: O(k log n) for k keys, no lock. Refused: `NoMemory`, if memory runs out.
-    pub fn get_many<Q: Sought<K>>(&self, keys: &[Q]) -> Result<Vec<Option<&Arc<V>>>, NoMemory>
-        ensures { IfOk result (λ values. map (option_map (λ value. value.now.value)) values.items ≡ map (λ key. value_at K.cmp self.now (Q.key_of key)) keys.now) }
+    pub fn get_many<Q: Sought<K>>(&self, keys: &[Q]) -> Result<Vec<Option<&S::Value>>, NoMemory>
+        ensures { IfOk result (λ values. map (option_map (λ value. S.value_of value.now)) values.items ≡ map (λ key. value_at K.cmp self.now (Q.key_of key)) keys.now) }
     {
         find_many(self.alloc, self.plain.root(), keys)
     }

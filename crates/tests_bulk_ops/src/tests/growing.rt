@@ -1,8 +1,7 @@
 //! Parts that grow by a piece, beside the join of two parts.
+use super::pieces::{part_of, two_of};
 use super::stopping::Given;
-use super::{
-    Asked, Plain, assert_is, assert_plain, below, first, instead, part_of, plain_of, two_of,
-};
+use super::{Asked, Plain, assert_is, assert_plain, below, first, instead, plain_of};
 use bulk_work::work_into;
 use combiner::Bulk;
 use hash_path::PathKey;
@@ -23,7 +22,10 @@ fn grown<K: PathKey + Drop, V: Drop, B: Bulk<K, V>>(
 {
     let (lower, upper) = two_of(rt, alloc, view);
     let begun = part_of(rt, alloc, &lower, bulk);
-    work_into(alloc, &upper, bulk, begun).expect(rt, "no part")
+    drop(lower);
+    let part = work_into(alloc, &upper, bulk, begun).expect(rt, "no part");
+    drop(upper);
+    part
 }
 
 /// The answer to the query by the part of the lower of two pieces of the three pairs, grown by the upper one.

@@ -1,20 +1,19 @@
-//! Maps of the images of pairs: keys that several images share, no pairs, and closures and maps that find no memory.
+//! Maps of the images of pairs: keys that several images share, no pairs, and closures that find no memory.
 ghost use Rattle.std.specs.Prelude.{◌≡◌, ◌∷◌, [], take};
 
-use super::joined;
-use super::memory::{MOST_GIVEN, take_all_but};
+use super::pieces::joined;
 use bulk_ops::{ImageFn, PairFn, Part, Query, StoredPairs};
-use bulk_work::{Answer, Asks, ask, work};
+use bulk_work::{Answer, Asks, ask};
 use combiner::{Bulk, Sum};
 use keys::ByteText;
-use splitter::{Piece, whole};
 use std::alloc::Global;
 use std::panic::Expect;
 use std::process::Abort;
 use std::sync::Arc;
-use test_keys::take_all;
 use trie_node::{NoMemory, Stamp};
 use versions::{Version, View};
+
+mod refused;
 
 // What stands for the closures of other questions, which are not asked here.
 #[derive(Drop)]
@@ -136,6 +135,16 @@ fn one_key(alloc: Global) -> StoredPairs<ByteText, i64, OneKey> {
 
 fn refused_at(alloc: Global, value: i64) -> StoredPairs<ByteText, i64, RefusedAt> {
     StoredPairs::new(RefusedAt { alloc, value })
+}
+
+// A key and its value, shared.
+fn shared(rt: &impl Abort, alloc: Global, text: &str, value: i64) -> (Arc<ByteText>, Arc<i64>)
+    ensures key { result.0.value ≡ text.now }
+    ensures value { result.1.value ≡ value }
+{
+    let key = ByteText::from_text(alloc, text).expect(rt, "no text");
+    let key = Arc::new(alloc, key).expect(rt, "no key");
+    (key, Arc::new(alloc, value).expect(rt, "no value"))
 }
 
 // Puts the value at the key.
@@ -279,160 +288,4 @@ fn a_closure_that_finds_no_memory_refuses(rt: HostRuntime) {
     assert!(rt; ask(alloc, first(&rt, alloc, 3), &query).is_err());
     let two = (2, [Some(1), Some(2), None, None]);
     assert_eq!(rt; images_of(&rt, alloc, 2, &query), [two; 2]);
-}
-
-// The images of three pairs, where there is memory.
-fn seen_of_piece(rt: &impl Abort, alloc: Global, piece: &Piece<ByteText, i64>) -> Option<Seen> {
-    let query = Imaged::MapPairs(initials(alloc), 2);
-    seen_if_made(rt, alloc, &work(alloc, piece, &query))
-}
-
-#[test]
-fn a_map_that_finds_no_memory_refuses(rt: HostRuntime) {
-    let alloc = rt.alloc();
-    let piece = whole(alloc, first(&rt, alloc, 3));
-    let taken = take_all(alloc).expect(&rt, "no list");
-    let refused = seen_of_piece(&rt, alloc, &piece).is_none();
-    drop(taken);
-    assert!(rt; refused);
-    let contents = seen_of_piece(&rt, alloc, &piece).expect(&rt, "no images");
-    assert!(rt; is_of_initials(contents));
-}
-
-// The part of their images, with `given` blocks of memory.
-fn made_with(
-    rt: &impl Abort,
-    alloc: Global,
-    piece: &Piece<ByteText, i64>,
-    given: usize,
-) -> Result<Images, NoMemory> {
-    let query = Imaged::MapPairs(initials(alloc), 2);
-    let _taken = take_all_but(rt, alloc, given);
-    work(alloc, piece, &query)
-}
-
-// What their images have with `given` blocks of memory, if they are made.
-fn seen_with(
-    rt: &impl Abort,
-    alloc: Global,
-    piece: &Piece<ByteText, i64>,
-    given: usize,
-) -> Option<Seen> {
-    let made = made_with(rt, alloc, piece, given);
-    let seen = seen_if_made(rt, alloc, &made);
-    drop(made);
-    seen
-}
-
-#[test]
-fn images_are_refused_until_there_is_memory(rt: HostRuntime) {
-    let alloc = rt.alloc();
-    let piece = whole(alloc, first(&rt, alloc, 3));
-    let mut made = None;
-    for given in 0..MOST_GIVEN {
-        if made.is_none() {
-            made = seen_with(&rt, alloc, &piece, given);
-            assert!(rt; given > 0 || made.is_none());
-        }
-    }
-    drop(piece);
-    assert!(rt; matches!(made, Some(contents) if is_of_initials(contents)));
-}
-
-// A key and its value, shared.
-fn shared(rt: &impl Abort, alloc: Global, text: &str, value: i64) -> (Arc<ByteText>, Arc<i64>)
-    ensures key { result.0.value ≡ text.now }
-    ensures value { result.1.value ≡ value }
-{
-    let key = ByteText::from_text(alloc, text).expect(rt, "no text");
-    let key = Arc::new(alloc, key).expect(rt, "no key");
-    (key, Arc::new(alloc, value).expect(rt, "no value"))
-}
-
-// The part of one pair.
-fn one_of<P: ImageFn<ByteText, i64>>(
-    rt: &impl Abort,
-    alloc: Global,
-    query: &Imaged<P>,
-    key: &Arc<ByteText>,
-    value: &Arc<i64>,
-) -> Images
-    requires { ⟦<Imaged<P> as Bulk<ByteText, i64>>⟧.ready query.now }
-    ensures { ⟦<Imaged<P> as Bulk<ByteText, i64>>⟧.answers query.now ((key.now.value, value.now.value) ∷ []) result }
-{
-    query.one(alloc, key, value).expect(rt, "no part")
-}
-
-// What a part of a=1 has after the image of b=3 was added to it, with `given` blocks of memory or with all of it.
-fn added<P: ImageFn<ByteText, i64>>(
-    rt: &impl Abort,
-    alloc: Global,
-    query: &Imaged<P>,
-    given: Option<usize>,
-) -> (bool, Seen)
-    requires { ⟦<Imaged<P> as Bulk<ByteText, i64>>⟧.ready query.now }
-{
-    let (first, one) = shared(rt, alloc, "a", 1);
-    let (second, three) = shared(rt, alloc, "b", 3);
-    let mut part = one_of(rt, alloc, query, &first, &one);
-    let taken = match given {
-        Some(given) => Some(take_all_but(rt, alloc, given)),
-        None => None,
-    };
-    let is_added = query.add(alloc, &mut part, &second, &three).is_ok();
-    drop(taken);
-    (is_added, seen_of(rt, alloc, &part))
-}
-
-#[test]
-fn a_refused_image_leaves_the_part_as_it_was(rt: HostRuntime) {
-    let alloc = rt.alloc();
-    let query = Imaged::MapPairs(initials(alloc), 2);
-    for given in 0..MOST_GIVEN {
-        let (is_added, contents) = added(&rt, alloc, &query, Some(given));
-        if is_added {
-            assert!(rt; given > 0);
-            return assert_eq!(rt; contents, (2, [Some(1), None, Some(3), None]));
-        }
-        assert_eq!(rt; contents, (1, [Some(1), None, None, None]));
-    }
-    assert!(rt; false, "an image is refused with memory to spare");
-}
-
-#[test]
-fn an_added_image_has_the_value_of_its_closure(rt: HostRuntime) {
-    let alloc = rt.alloc();
-    let query = Imaged::MapPairs(one_key(alloc), 3);
-    let (is_added, contents) = added(&rt, alloc, &query, None);
-    assert!(rt; is_added && is_of_one_key(contents));
-}
-
-// The join of the images of a=1 and of b=3, with `given` blocks of memory.
-fn joined_of_two(rt: &impl Abort, alloc: Global, given: usize) -> Option<Seen> {
-    let query = Imaged::MapPairs(initials(alloc), 2);
-    let (first, one) = shared(rt, alloc, "a", 1);
-    let (second, three) = shared(rt, alloc, "b", 3);
-    let left = one_of(rt, alloc, &query, &first, &one);
-    let right = one_of(rt, alloc, &query, &second, &three);
-    let taken = take_all_but(rt, alloc, given);
-    let both = query.join(alloc, &left, &right);
-    drop(taken);
-    drop((left, right));
-    drop((first, one));
-    drop((second, three));
-    let seen = seen_if_made(rt, alloc, &both);
-    drop(both);
-    seen
-}
-
-#[test]
-fn a_join_of_images_is_refused_until_there_is_memory(rt: HostRuntime) {
-    let alloc = rt.alloc();
-    for given in 0..MOST_GIVEN {
-        if let Some(contents) = joined_of_two(&rt, alloc, given) {
-            assert!(rt; given > 0);
-            return assert_eq!(rt; contents, (2, [Some(1), None, Some(3), None]));
-        }
-    }
-    assert!(rt; false, "a join of images is refused with memory to spare");
 }

@@ -155,7 +155,11 @@ fn started(rt: &impl Abort, alloc: Global, given: usize) -> (bool, Option<Plain>
     let unit = query.unit(alloc).is_ok();
     let one = query.one(alloc, &key, &value);
     drop(taken);
-    (unit, plain_if_made(rt, &one))
+    drop((key, value));
+    drop(query);
+    let plain = plain_if_made(rt, &one);
+    drop(one);
+    (unit, plain)
 }
 
 #[test]
@@ -180,10 +184,13 @@ fn merged(rt: &impl Abort, alloc: Global, given: usize) -> Option<Contents> {
     let taken = take_all_but(rt, alloc, given);
     let both = union_of(rt, alloc, &left, &right);
     drop(taken);
-    match &both {
+    drop((left, right));
+    let contents = match &both {
         Some(map) => Some(at_three(map)),
         None => None,
-    }
+    };
+    drop(both);
+    contents
 }
 
 // The keys part at the last digit, so the merge makes thirteen branches.

@@ -1,22 +1,20 @@
 //! The worked steps of one board, by hand: two keys, at the positions 0 and 12, two workers, a count of all pairs, and
 //! pieces of one pair.
 
-use super::rows::COUNT;
 use super::{assert_is, assert_true};
-use crate::maps::END;
-use crate::plain_outcome::{PlainOutcome, TestPart, plain_part};
-use core_steps::{Board, Progress, first_board, law_of_jobs, work_on};
+use core_steps::{Board, Progress, first_board};
 use std::alloc::Global;
 use std::panic::Expect;
 use std::process::Abort;
 use std::sync::Arc;
+use test_cores::{COUNT, END, TestPart};
 use test_keys::ChosenKey;
-use test_machine::{TestQuery, query_of};
+use test_machine::query_of;
 use trie_node::Stamp;
 use versions::{Version, View};
 
-/// A board of the tests.
-pub(super) type TestBoard = Board<ChosenKey, u64, TestPart>;
+// A board of the tests.
+type TestBoard = Board<ChosenKey, u64, TestPart>;
 
 // Puts a value at the key of a path word.
 fn put(rt: &impl Abort, alloc: Global, map: &mut Version<ChosenKey, u64>, path: u64, value: u64) {
@@ -25,8 +23,8 @@ fn put(rt: &impl Abort, alloc: Global, map: &mut Version<ChosenKey, u64>, path: 
     map.put(alloc, key, value).expect(rt, "not put");
 }
 
-/// Two pairs, at the positions 0 and 12.
-pub(super) fn two_pairs(rt: &impl Abort, alloc: Global) -> View<ChosenKey, u64> {
+// Two pairs, at the positions 0 and 12.
+fn two_pairs(rt: &impl Abort, alloc: Global) -> View<ChosenKey, u64> {
     let mut map = Version::empty(alloc, 100, Stamp(1)).expect(rt, "no map");
     put(rt, alloc, &mut map, 0, 1);
     put(rt, alloc, &mut map, 0xc000_0000_0000_0000, 2);
@@ -77,24 +75,4 @@ fn pieces_are_taken_cut_and_stolen(rt: HostRuntime) {
     assert_is(&rt, board.workers(), 2);
     assert_true(&rt, board.part(0).is_some());
     assert_true(&rt, board.part(2).is_none());
-}
-
-#[test]
-fn pieces_are_worked(rt: HostRuntime) {
-    let query = query_of(COUNT);
-    let view = two_pairs(&rt, rt.alloc());
-    let made = first_board(rt.alloc(), &query, 2, view);
-    let mut board = made.expect(&rt, "no board");
-    law_of_jobs::<ChosenKey, u64, TestQuery>(&query);
-    assert!(rt; board.workers() == 2);
-    assert_moved(&rt, board.take(0), Progress::Took(0, END));
-    assert!(rt; board.workers() == 2);
-    let worked = work_on(rt.alloc(), &query, &mut board, 0);
-    let progress = worked.expect(&rt, "not worked");
-    assert_moved(&rt, progress, Progress::Worked(0, END, 2, false));
-    assert_is(
-        &rt,
-        board.part(0).map(plain_part),
-        Some(PlainOutcome::Count(2)),
-    );
 }

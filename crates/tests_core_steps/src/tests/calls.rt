@@ -1,20 +1,13 @@
 //! Each public call once, as far as the other tests do not make it.
 
-use super::boards::two_pairs;
-use super::rows::COUNT;
-use super::{Case, answer_to, assert_is, assert_outcome, assert_true, core_of_two};
-use crate::maps::END;
-use crate::plain_outcome::{PlainOutcome, plain_of, plain_part};
-use crate::plans::{Plan, TestCore, step_of};
-use core_steps::{
-    Move, Progress, collected, first_board, law_of_boards, law_of_cores, law_of_coverings,
-    law_of_jobs, law_of_runs, law_of_tilings, make_move,
-};
+use super::{answer_to, assert_is, assert_outcome, assert_true, core_of_two};
+use core_steps::{Move, Progress};
 use std::alloc::Global;
 use std::panic::Expect;
 use std::process::Abort;
+use test_cores::{Case, END, PlainOutcome, Plan, TestCore, plain_of, step_of};
 use test_keys::ChosenKey;
-use test_machine::{Do, Question, TestQuery, query_of};
+use test_machine::{Do, Question};
 
 const KEY: ChosenKey = ChosenKey { path: 0, id: 7 };
 
@@ -63,7 +56,7 @@ const STEPS: [Case; 21] = [
 
 // A copy of a step has this outcome.
 fn assert_copy(rt: &impl Abort, alloc: Global, core: &mut TestCore, row: Case) {
-    let step = step_of(rt, alloc, row.0);
+    let step = step_of(alloc, row.0).expect(rt, "no step");
     let copy = step.try_clone().expect(rt, "no copy");
     drop(step);
     let outcome = answer_to(rt, alloc, core, copy);
@@ -92,45 +85,4 @@ fn a_move_names_workers(rt: HostRuntime) {
     }
     assert_true(&rt, Move::Work(2).names_other(2));
     assert_true(&rt, !Move::Work(2).names_other(3));
-}
-
-#[test]
-fn what_waits_is_not_collected(rt: HostRuntime) {
-    let query = query_of(COUNT);
-    let view = two_pairs(&rt, rt.alloc());
-    let made = first_board(rt.alloc(), &query, 1, view);
-    let board = made.expect(&rt, "no board");
-    let part = collected(rt.alloc(), &query, &board).expect(&rt, "no part");
-    assert_true(&rt, part.is_none());
-}
-
-#[test]
-fn all_that_was_worked_is_collected(rt: HostRuntime) {
-    let query = query_of(COUNT);
-    let view = two_pairs(&rt, rt.alloc());
-    let made = first_board(rt.alloc(), &query, 1, view);
-    let mut board = made.expect(&rt, "no board");
-    law_of_jobs::<ChosenKey, u64, TestQuery>(&query);
-    assert!(rt; board.workers() == 1);
-    let took = make_move(rt.alloc(), &query, &mut board, 1, Move::Take(0));
-    assert_is(&rt, took, Ok(Progress::Took(0, END)));
-    assert!(rt; board.workers() == 1);
-    let worked = make_move(rt.alloc(), &query, &mut board, 1, Move::Work(0));
-    assert_is(&rt, worked, Ok(Progress::Worked(0, END, 2, false)));
-    let part = collected(rt.alloc(), &query, &board).expect(&rt, "no part");
-    assert_is(
-        &rt,
-        part.as_ref().map(plain_part),
-        Some(PlainOutcome::Count(2)),
-    );
-}
-
-#[test]
-fn laws_are_called() {
-    law_of_runs::<ChosenKey, u64, TestQuery>();
-    law_of_cores::<ChosenKey, u64, TestQuery>();
-    law_of_coverings::<ChosenKey, u64, TestQuery>();
-    law_of_tilings::<ChosenKey, u64, TestQuery>();
-    law_of_boards::<ChosenKey, u64>();
-    law_of_jobs::<ChosenKey, u64, TestQuery>(&query_of(Question::Total));
 }

@@ -1,7 +1,7 @@
 //! The kinds of outcomes, so that a test can check that each is met.
 
-use crate::plain_outcome::PlainOutcome;
 use core_steps::Progress;
+use test_cores::PlainOutcome;
 use versions::Refusal;
 
 /// How many kinds there are.

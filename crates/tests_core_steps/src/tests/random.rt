@@ -4,12 +4,11 @@ use super::assert_true;
 use super::kinds::{KINDS, kind_of};
 use super::twins::Twins;
 use crate::choices::{FIRST_PAIRS, chooser_of};
-use crate::plain_outcome::PlainOutcome;
-use crate::plans::Plan;
 use core_steps::Move;
 use std::alloc::Global;
 use std::panic::Expect;
 use std::process::Abort;
+use test_cores::{PlainOutcome, Plan};
 
 // How many lists a test makes.
 const LISTS: u32 = 500;

@@ -1,28 +1,19 @@
-//! Worked lists of steps, by hand: each step by step, and once more as one list. The keys P, Q and R have the path
-//! words 0, 0xc000000000000000 and 1, so that P has position 0 and Q position 12; the keys a, b and c have the words of
-//! those texts.
+//! Worked lists of steps, by hand: each step by step, and once more as one list. The keys a, b and c have the path words
+//! of those texts.
 
-use super::{Case, assert_is, assert_run, assert_steps, core_of_two, outcomes_of, plans_of};
-use crate::maps::END;
-use crate::plain_outcome::{PlainOutcome, found_row, plain_part};
-use crate::plans::{Plan, TestCore};
+use super::{assert_is, assert_run, assert_steps, core_of_two, outcomes_of, plans_of};
 use bulk_ops::Part;
 use core_steps::{Move, Progress};
 use std::alloc::Global;
 use std::panic::Expect;
 use std::process::Abort;
+use test_cores::{
+    COUNT, Case, END, PlainOutcome, Plan, TestCore, WORKED, all_worked, begun, found_row,
+    plain_part,
+};
 use test_keys::ChosenKey;
 use test_machine::{ALL, Do, Passing, Place, Question};
 use versions::Refusal;
-
-const P: ChosenKey = ChosenKey { path: 0, id: 0 };
-
-const Q: ChosenKey = ChosenKey {
-    path: 0xc000_0000_0000_0000,
-    id: 0,
-};
-
-const R: ChosenKey = ChosenKey { path: 1, id: 0 };
 
 const A: ChosenKey = ChosenKey {
     path: 0xaf63_dc4c_8601_ec8c,
@@ -38,79 +29,6 @@ const C: ChosenKey = ChosenKey {
     path: 0xaf63_de4c_8601_eff2,
     id: 0,
 };
-
-/// The count of all pairs.
-pub(super) const COUNT: Question = Question::Count(ALL);
-
-// P=1 and Q=2 are put on handle 1.
-const PUT: [Case; 3] = [
-    (Plan::Open(1), PlainOutcome::Unit),
-    (Plan::On(1, Do::Put(P, 1)), PlainOutcome::Old(None)),
-    (Plan::On(1, Do::Put(Q, 2)), PlainOutcome::Old(None)),
-];
-
-// After a freeze R=3 is put; then worker 0 holds P's piece and worker 1 Q's.
-const CUT: [Case; 4] = [
-    (Plan::On(1, Do::Put(R, 3)), PlainOutcome::Old(None)),
-    (
-        Plan::Move(0, Move::Take(0)),
-        PlainOutcome::Moved(Progress::Took(0, END)),
-    ),
-    (
-        Plan::Move(0, Move::Split(0)),
-        PlainOutcome::Moved(Progress::Cut(0, 12, END)),
-    ),
-    (
-        Plan::Move(0, Move::Steal(1, 0)),
-        PlainOutcome::Moved(Progress::Took(12, END)),
-    ),
-];
-
-// Then worker 1 works, worker 0 works, and the job is not finished before.
-const WORKED: [Case; 3] = [
-    (
-        Plan::Move(0, Move::Work(1)),
-        PlainOutcome::Moved(Progress::Worked(12, END, 1, false)),
-    ),
-    (Plan::Finish(0), PlainOutcome::Unfinished),
-    (
-        Plan::Move(0, Move::Work(0)),
-        PlainOutcome::Moved(Progress::Worked(0, 12, 1, false)),
-    ),
-];
-
-// Adds rows to rows.
-fn add(rt: &impl Abort, rows: &mut Vec<Case>, more: &[Case]) {
-    for row in more {
-        rows.push(*row).expect(rt, "no room");
-    }
-}
-
-// The steps until each of two workers holds a piece of the map that is asked, and then these.
-fn begun(rt: &impl Abort, alloc: Global, question: Question, more: &[Case]) -> Vec<Case> {
-    let mut rows = Vec::new(alloc);
-    add(rt, &mut rows, &PUT);
-    add(
-        rt,
-        &mut rows,
-        &[(Plan::Freeze(1, question), PlainOutcome::Job(0))],
-    );
-    add(rt, &mut rows, &CUT);
-    add(rt, &mut rows, more);
-    rows
-}
-
-/// The steps until both pieces are worked, and then these.
-pub(super) fn all_worked(
-    rt: &impl Abort,
-    alloc: Global,
-    question: Question,
-    more: &[Case],
-) -> Vec<Case> {
-    let mut rows = begun(rt, alloc, question, &WORKED);
-    add(rt, &mut rows, more);
-    rows
-}
 
 // A new core returns these outcomes for the steps as one list.
 fn assert_list(rt: &impl Abort, alloc: Global, rows: &[Case]) {
@@ -130,7 +48,7 @@ fn assert_rows(rt: &impl Abort, alloc: Global, rows: &[Case]) -> TestCore {
 
 // A new core, each of whose workers holds a piece of the map that is asked, returns these outcomes for the steps.
 fn after(rt: &impl Abort, alloc: Global, question: Question, more: &[Case]) -> TestCore {
-    let rows = begun(rt, alloc, question, more);
+    let rows = begun(alloc, question, more).expect(rt, "no rows");
     assert_rows(rt, alloc, &rows)
 }
 
@@ -217,7 +135,7 @@ fn a_stolen_piece_is_counted_once(rt: HostRuntime) {
 
 #[test]
 fn a_stolen_piece_is_counted_once_in_one_list(rt: HostRuntime) {
-    let rows = all_worked(&rt, rt.alloc(), COUNT, &COUNTED);
+    let rows = all_worked(rt.alloc(), COUNT, &COUNTED).expect(&rt, "no rows");
     assert_list(&rt, rt.alloc(), &rows);
 }
 

@@ -1,23 +1,20 @@
 //! A core beside a plain machine that makes the same steps: the outcomes of both, what each handle shows, and what each
 //! worker's part is.
 
-use super::{answer_to, assert_is, assert_outcome, assert_run, assert_true};
+use super::{answer_to, assert_is, assert_outcome, assert_run, assert_true, core_of};
 use crate::machine::{Expected, Machine};
-use crate::plain_outcome::{
-    PlainOutcome, TestOutcome, TestPart, found_row, outcome_of, plain_of, plain_part, rows_of_map,
-    rows_of_view,
-};
-use crate::plans::{Plan, TestCore, step_of};
 use crate::worker_states::Job;
 use bulk_ops::Part;
 use bulk_work::Answer;
 use core_steps::Outcome;
-use handles::MOST_ENTRIES;
 use std::alloc::Global;
 use std::panic::Expect;
 use std::process::Abort;
+use test_cores::{
+    PlainOutcome, Plan, TestCore, TestOutcome, TestPart, found_row, outcome_of, plain_of,
+    plain_part, rows_of_map, rows_of_view, step_of,
+};
 use test_machine::{PlainPair, answer};
-use versions::MOST_PAIRS;
 
 // The handles that the steps are about.
 const HANDLES: [u32; 9] = [0, 1, 2, 3, 4, 5, 1023, 1024, u32::MAX];
@@ -33,12 +30,13 @@ pub(super) struct Twins {
 
 // A new core like a machine.
 fn core_like(rt: &impl Abort, alloc: Global, machine: &Machine) -> TestCore {
-    let (limits, workers, grain) = (machine.table.limits, machine.workers, machine.grain);
-    assert!(rt; 1 <= limits.pairs && limits.pairs <= MOST_PAIRS);
-    assert!(rt; 2 <= limits.entries && limits.entries <= MOST_ENTRIES);
-    assert!(rt; 1 <= workers && workers <= 16);
-    assert!(rt; 1 <= grain && grain <= 65_536);
-    TestCore::new(alloc, limits, workers, grain).expect(rt, "no core")
+    core_of(
+        rt,
+        alloc,
+        machine.table.limits,
+        machine.workers,
+        machine.grain,
+    )
 }
 
 // Rows as they should be.
@@ -56,7 +54,10 @@ fn assert_found(rt: &impl Abort, found: Option<PlainPair>, rows: &[PlainPair]) {
 // The outcome shows these rows: a view all of them, a find one of them where there is one.
 fn assert_shows(rt: &impl Abort, alloc: Global, outcome: &TestOutcome, rows: &[PlainPair]) {
     match outcome {
-        Outcome::View(view) => assert_rows(rt, &rows_of_view(rt, alloc, view), rows),
+        Outcome::View(view) => {
+            let seen = rows_of_view(alloc, view).expect(rt, "no rows");
+            assert_rows(rt, &seen, rows);
+        }
         Outcome::Answer(Answer::Found(found)) => assert_found(rt, found_row(found), rows),
         _ => (),
     }
@@ -66,7 +67,10 @@ fn assert_shows(rt: &impl Abort, alloc: Global, outcome: &TestOutcome, rows: &[P
 fn assert_part_shows(rt: &impl Abort, alloc: Global, part: &TestPart, rows: &[PlainPair]) {
     match part {
         Part::Found(found) => assert_found(rt, found_row(found), rows),
-        Part::Made(map) => assert_rows(rt, &rows_of_map(rt, alloc, map), rows),
+        Part::Made(map) => {
+            let seen = rows_of_map(alloc, map).expect(rt, "no rows");
+            assert_rows(rt, &seen, rows);
+        }
         _ => (),
     }
 }
@@ -106,7 +110,7 @@ impl Twins {
 
     // The core makes the step, which has the outcome that is expected.
     fn assert_made(&mut self, rt: &impl Abort, alloc: Global, plan: Plan, expected: &Expected) {
-        let step = step_of(rt, alloc, plan);
+        let step = step_of(alloc, plan).expect(rt, "no step");
         let outcome = answer_to(rt, alloc, &mut self.core, step);
         assert_outcome(rt, plain_of(&outcome), expected.returned);
         assert_shows(rt, alloc, &outcome, &expected.rows);

@@ -1,13 +1,11 @@
 //! Calls and their refusals. Replies and refusals under the largest limits are cases of the built program.
 
 use super::{Case, LARGEST, assert_entries, assert_is, assert_new, assert_rows, table_of};
-use crate::asking::{Ask, Asking};
-use crate::plain_outcome::{PlainOutcome, call_outcome_of, value_in};
-use crate::steps::{Act, Do, command_of};
 use handles::{Call, CallReply, Limits};
 use std::alloc::Global;
 use std::panic::Expect;
 use std::process::Abort;
+use test_tables::{Act, Ask, Asking, Do, PlainOutcome, call_outcome_of, command_of, value_in};
 use versions::{NoMemory, Refusal};
 
 // Each call once, and what a snapshot keeps.

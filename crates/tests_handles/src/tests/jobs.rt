@@ -2,12 +2,10 @@
 //! case of the built program.
 
 use super::{Case, LARGEST, assert_entries, assert_is, assert_new, assert_rows, table_of};
-use crate::asking::{Ask, Asked, Asking, Within};
-use crate::plain_outcome::PlainOutcome;
-use crate::steps::{Act, Do};
 use handles::Limits;
 use std::alloc::Global;
 use std::process::Abort;
+use test_tables::{Act, Ask, Asked, Asking, Do, PlainOutcome, Within};
 use versions::Refusal;
 
 const COUNT: Ask = Ask::Count(4, 4);

@@ -1,11 +1,9 @@
 //! Bulk calls: what they answer, and the two entries that each of them files.
-use super::jobs::FOUR_AND_FIVE;
-use super::outcomes::Outcome;
-use super::script::assert_steps;
-use super::steps::Step;
-use super::steps::Step::{Ask, Bulk, Files};
-use super::{A, B, LARGEST};
+use super::assert_steps;
 use handles::Limits;
+use test_clients::{A, B, FOUR_AND_FIVE, LARGEST, Outcome};
+use test_journals::Step;
+use test_journals::Step::{Ask, Bulk, Files};
 use test_machine::Do::{Get, Put, Size};
 use test_machine::Request::{Finish, Freeze, On, Open};
 use test_machine::{ALL, EVEN, Question};

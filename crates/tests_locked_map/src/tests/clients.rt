@@ -1,16 +1,14 @@
 //! Two clients, each on a thread of its own.
-use super::any_map::AnyMap;
-use super::entries::{Entered, Exchange, TestClosed, value_at};
-use super::making::act;
-use super::model::replayed;
-use super::outcomes::Outcome;
-use super::requests::Deed;
-use super::running::{Playing, Plays, run_clients};
-use super::{A, LARGEST, assert_is};
+use super::assert_is;
+use super::running::run_clients;
 use std::alloc::Global;
 use std::process::Abort;
 use std::sync::Wait;
 use std::thread::Threads;
+use test_clients::{
+    A, AnyMap, Deed, Entered, Exchange, LARGEST, Outcome, Playing, Plays, TestClosed, act, value_at,
+};
+use test_journals::replayed;
 use test_machine::Do::{Put, PutIfAbsent};
 use test_machine::Request;
 use test_machine::Request::{On, Open};
@@ -97,7 +95,7 @@ fn assert_filed(rt: &impl Abort, entries: &[Entered], seat: u32, wanted: [Exchan
 
 // The journal has the outcomes of both, and nothing else.
 fn assert_journal(rt: &impl Abort, alloc: Global, closed: &TestClosed, returned: Two) {
-    let entries = replayed(rt, alloc, LARGEST, closed);
+    let entries = replayed(alloc, LARGEST, closed).expect(rt, "another table");
     assert_is(rt, entries.len(), 4);
     let (one, two) = returned;
     assert_filed(rt, &entries, 0, [(Open(1), one.0), (PUT_ONE, one.1)]);

@@ -1,10 +1,9 @@
 //! Refusals that are entries, and those that are not.
-use super::outcomes::{NOTHING, Outcome};
-use super::script::assert_steps;
-use super::steps::Step::{Ask, Dry};
-use super::steps::{Step, filled};
-use super::{A, B, LARGEST};
+use super::assert_steps;
 use handles::Limits;
+use test_clients::{A, B, LARGEST, NOTHING, Outcome};
+use test_journals::Step;
+use test_journals::Step::Ask;
 use test_machine::Do::{Get, Put, PutIfAbsent, Size};
 use test_machine::Request::{Abandon, Finish, Freeze, On, Open, Snapshot, View};
 use test_machine::{ALL, EVEN, Question, Request};
@@ -42,24 +41,6 @@ const FULL_JOURNAL: [Step; 7] = [
 #[test]
 fn a_full_journal_is_no_entry(rt: HostRuntime) {
     assert_steps(&rt, 1, FOUR_ENTRIES, &FULL_JOURNAL);
-}
-
-// Space for as many entries as are made before, with one to spare: a journal is full when fewer than two are left.
-const FEW_ENTRIES: Limits = Limits {
-    pairs: 16,
-    entries: 33,
-};
-
-// Each of the calls would need memory for its entry, but makes none. It catches a call that looks for room first.
-#[test]
-fn a_full_journal_is_refused_whatever_the_memory(rt: HostRuntime) {
-    let mut steps = filled(&rt, rt.alloc(), &[Ask(0, Open(1), Outcome::Unit)], 32, 0);
-    for request in [On(1, Get(A)), View(1), COUNT] {
-        steps
-            .push(Dry(0, request, JOURNAL_FULL))
-            .expect(&rt, "no room");
-    }
-    assert_steps(&rt, 1, FEW_ENTRIES, &steps);
 }
 
 const OF_HANDLES: [Step; 14] = [
@@ -111,7 +92,8 @@ const AFTER_64_JOBS: [Step; 4] = [
 
 #[test]
 fn sixty_four_jobs_may_be_open(rt: HostRuntime) {
-    let mut steps = filled(&rt, rt.alloc(), &[Ask(0, Open(1), Outcome::Unit)], 1, 0);
+    let first = [Ask(0, Open(1), Outcome::Unit)];
+    let mut steps = Vec::from_slice(rt.alloc(), &first).expect(&rt, "no steps");
     for job in 0..64 {
         steps
             .push(Ask(0, COUNT, Outcome::Frozen(job, NOTHING)))

@@ -1,9 +1,8 @@
 //! A value that is made where there is none.
-use super::outcomes::Outcome;
-use super::script::assert_steps;
-use super::steps::Step;
-use super::steps::Step::{Ask, Files, GetOrStore};
-use super::{A, B, LARGEST};
+use super::assert_steps;
+use test_clients::{A, B, LARGEST, Outcome};
+use test_journals::Step;
+use test_journals::Step::{Ask, Files, GetOrStore};
 use test_machine::Do::{Get, Put, PutIfAbsent};
 use test_machine::Request::{On, Open};
 use versions::Refusal;

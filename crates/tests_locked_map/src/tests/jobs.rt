@@ -1,19 +1,12 @@
 //! Jobs: what a ticket's answer is of, and how a job ends.
-use super::outcomes::{NOTHING, Outcome, Seen};
-use super::script::{assert_ends, assert_steps};
-use super::steps::Step;
-use super::steps::Step::{Ask, Lose};
-use super::{A, B, LARGEST};
+use super::{assert_ends, assert_steps};
+use test_clients::{A, B, FOUR_AND_FIVE, LARGEST, NOTHING, Outcome};
+use test_journals::Step;
+use test_journals::Step::{Ask, Lose};
 use test_machine::Do::{Get, Put, Size};
 use test_machine::Request::{Abandon, Finish, Freeze, On, Open};
 use test_machine::{ALL, EVEN, Question, Request};
 use versions::Refusal;
-
-/// The values 4 of A and 5 of B.
-pub const FOUR_AND_FIVE: Seen = Seen {
-    len: 2,
-    values: [Some(4), Some(5), None, None],
-};
 
 const COUNT: Request = Freeze(1, Question::Count(ALL));
 

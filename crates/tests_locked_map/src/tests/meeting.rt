@@ -1,9 +1,8 @@
 //! Two seats that meet, and a view that is kept.
-use super::outcomes::{Outcome, Seen};
-use super::script::assert_steps;
-use super::steps::Step;
-use super::steps::Step::{Ask, Keep, Meet};
-use super::{A, B, LARGEST};
+use super::assert_steps;
+use test_clients::{A, B, LARGEST, Outcome, Seen};
+use test_journals::Step;
+use test_journals::Step::{Ask, Keep, Meet};
 use test_machine::Do::{Get, Put};
 use test_machine::Request;
 use test_machine::Request::{On, Open};

@@ -1,15 +1,9 @@
 //! A client that makes random requests, and notes down what they return.
-use super::any_map::AnyMap;
-use super::entries::Exchange;
-use super::making::act;
-use super::outcomes::Outcome;
-use super::requests::Deed;
-use super::running::Plays;
-use super::{A, KEYS};
 use std::alloc::Global;
 use std::sync::atomic::{AtomicU64, Ordering};
 use std::sync::{Arc, Wait};
 use std::thread::Threads;
+use test_clients::{A, AnyMap, Deed, Exchange, KEYS, Outcome, Plays, act};
 use test_keys::{ChosenKey, Random};
 use test_machine::{ALL, Do, EVEN, Passing, Question, Request};
 

@@ -1,16 +1,15 @@
 //! Eight clients of random calls, each journal beside a plain program.
-use super::entries::Entered;
-use super::model::replayed;
-use super::outcomes::Outcome;
+use super::assert_is;
 use super::random::{Draws, MOST_NOTES, Note, Player};
-use super::running::{Playing, run_clients};
-use super::{LARGEST, assert_is};
+use super::running::run_clients;
 use handles::Limits;
 use std::alloc::Global;
 use std::process::Abort;
 use std::sync::atomic::AtomicU64;
 use std::sync::{Arc, Wait};
 use std::thread::Threads;
+use test_clients::{Entered, LARGEST, Outcome, Playing};
+use test_journals::replayed;
 use test_keys::Random;
 use versions::Refusal;
 
@@ -100,7 +99,7 @@ fn one_round<R: AllocGlobal + Abort + Threads + Wait + Sync>(
     clients: Vec<Playing<Player>>,
 ) -> Vec<Vec<Note>> {
     let (notes, closed) = run_clients(rt, limits, clients);
-    let entries = replayed(rt, rt.alloc(), limits, &closed);
+    let entries = replayed(rt.alloc(), limits, &closed).expect(rt, "another table");
     assert_noted(rt, &entries, &notes);
     notes
 }

@@ -1,9 +1,11 @@
 //! The seats by which a map closes.
-use super::outcomes::Outcome;
-use super::script::{Ending, closed_len};
-use super::steps::Step;
-use super::steps::Step::Ask;
-use super::{A, B, LARGEST, assert_is};
+use super::assert_is;
+use std::process::Abort;
+use std::sync::Wait;
+use std::thread::Threads;
+use test_clients::{A, B, LARGEST, Outcome};
+use test_journals::Step::Ask;
+use test_journals::{Ending, Step, closed_len};
 use test_machine::Do::Put;
 use test_machine::Request::{On, Open};
 
@@ -16,12 +18,21 @@ const EACH_FILES: [Step; 3] = [
 
 const NO_STEPS: [Step; 0] = [];
 
+// So many entries the journal has of a map with three seats that the steps were played on, where these close it.
+fn assert_len<R: AllocGlobal + Abort + Threads + Wait + Sync>(
+    rt: &R,
+    steps: &[Step],
+    ending: Ending,
+    wanted: Option<usize>,
+) {
+    let closed = closed_len(rt, rt.alloc(), 3, steps, LARGEST, ending);
+    assert_is(rt, closed.expect(rt, "no map"), wanted);
+}
+
 #[test]
 fn a_map_with_no_calls_is_closed(rt: HostRuntime) {
-    let closed = closed_len(&rt, 3, &NO_STEPS, LARGEST, Ending::All);
-    assert_is(&rt, closed, Some(0));
-    let closed = closed_len(&rt, 3, &NO_STEPS, LARGEST, Ending::Turned);
-    assert_is(&rt, closed, None);
+    assert_len(&rt, &NO_STEPS, Ending::All, Some(0));
+    assert_len(&rt, &NO_STEPS, Ending::Turned, None);
 }
 
 // A map is torn where its seats are in another order, or where one that filed something is left out.
@@ -35,7 +46,6 @@ fn all_seats_close_a_map_in_their_order(rt: HostRuntime) {
         (Ending::WithoutLast, None),
     ];
     for (ending, wanted) in rows {
-        let closed = closed_len(&rt, 3, &EACH_FILES, LARGEST, ending);
-        assert_is(&rt, closed, wanted);
+        assert_len(&rt, &EACH_FILES, ending, wanted);
     }
 }

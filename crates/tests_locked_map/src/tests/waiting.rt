@@ -1,93 +1,28 @@
 //! Work with no lock held that waits for another client: a value that is made, and a map that a crew counts.
-use super::any_map::AnyMap;
-use super::entries::Entered;
-use super::making::{WORKERS, act, bulk};
-use super::model::replayed;
-use super::outcomes::{Outcome, Seen};
-use super::requests::Deed;
-use super::running::{Playing, Plays, run_clients};
-use super::{A, LARGEST, assert_is};
-use hash_path::Bound;
-use locked_map::Gate;
+use super::assert_is;
+use super::running::run_clients;
 use std::alloc::Global;
 use std::process::Abort;
-use std::sync::atomic::{AtomicU32, Ordering};
+use std::sync::atomic::Ordering;
 use std::sync::{Arc, Wait};
 use std::thread::Threads;
+use test_clients::{
+    A, AnyMap, Deed, Entered, LARGEST, MOST_TURNS, Outcome, Playing, Plays, Seen, Signs, TestGate,
+    act, bulk,
+};
+use test_journals::replayed;
 use test_keys::{ChosenKey, wait_for};
 use test_machine::Do::{Get, Put, PutIfAbsent};
 use test_machine::Request::{Finish, Freeze, On, Open};
 use test_machine::{ALL, Question, Request, query_of, shared_key};
 
-/// How often a thread lets others run before it gives up.
-pub const MOST_TURNS: u32 = 10_000_000;
-
-/// What the threads of a test tell one another. Each number counts up from 0.
-#[derive(Drop)]
-pub struct Signs {
-    // Values that are being made, or pieces that were begun, by whichever worker.
-    begun: AtomicU32,
-    // Pieces that were begun while the first was held.
-    others: AtomicU32,
-    // Puts that were answered since.
-    answered: AtomicU32,
-    // Waits that ran out.
-    ran_out: AtomicU32,
-    // Pieces that the caller of the crew began.
-    callers: AtomicU32,
-}
-
-// Nothing was begun.
-fn no_signs() -> Signs {
-    Signs {
-        begun: AtomicU32::new(0),
-        others: AtomicU32::new(0),
-        answered: AtomicU32::new(0),
-        ran_out: AtomicU32::new(0),
-        callers: AtomicU32::new(0),
+// A value that is made is held until the put has been answered.
+fn make(signs: &Signs) -> u64 {
+    signs.begun.store(1, Ordering::SeqCst);
+    if !wait_for(&signs.answered, MOST_TURNS) {
+        signs.ran_out.store(1, Ordering::SeqCst);
     }
-}
-
-// The first piece that is begun is held until the other worker has begun one and the put has been answered.
-impl Gate for Signs {
-    fn before(&self, worker: u32, _lo: Bound, _hi: Bound) {
-        if worker >= WORKERS {
-            self.callers.fetch_add(1, Ordering::SeqCst);
-        }
-        if self.begun.fetch_add(1, Ordering::SeqCst) > 0 {
-            self.others.store(1, Ordering::SeqCst);
-        } else if !wait_for(&self.others, MOST_TURNS) || !wait_for(&self.answered, MOST_TURNS) {
-            self.ran_out.store(1, Ordering::SeqCst);
-        }
-    }
-}
-
-/// What is asked before each piece of a bulk call.
-#[derive(Clone, Copy)]
-pub enum TestGate<'a> {
-    /// Nothing: every piece begins at once.
-    Free,
-    /// The signs of a test.
-    Signed(&'a Signs),
-}
-
-impl Gate for TestGate<'_> {
-    fn before(&self, worker: u32, lo: Bound, hi: Bound) {
-        if let TestGate::Signed(signs) = self {
-            signs.before(worker, lo, hi);
-        }
-    }
-}
-
-impl Signs {
-    // A value that is made is held until the put has been answered.
-    fn make(&self) -> u64 {
-        self.begun.store(1, Ordering::SeqCst);
-        if !wait_for(&self.answered, MOST_TURNS) {
-            self.ran_out.store(1, Ordering::SeqCst);
-        }
-        7
-    }
+    7
 }
 
 // The clients, of which two meet.
@@ -131,7 +66,7 @@ fn play_getter<M: AnyMap, R: Threads + Wait + Sync>(
     let Ok(key) = shared_key(alloc, A) else {
         return Outcome::Lost;
     };
-    match map.get_or_else_update(rt, seat, 1, key, || signs.make()) {
+    match map.get_or_else_update(rt, seat, 1, key, || make(signs)) {
         Ok(value) => Outcome::Old(Some(*value)),
         Err(refusal) => Outcome::Refused(refusal),
     }
@@ -224,10 +159,10 @@ type Met = (Vec<Outcome>, u32, u32, Vec<Entered>);
 
 fn run_pair<R: AllocGlobal + Abort + Threads + Wait + Sync>(rt: &R, counts: bool) -> Met {
     let alloc = rt.alloc();
-    let signs = Arc::new(alloc, no_signs()).expect(rt, "no signs");
+    let signs = Arc::new(alloc, Signs::new()).expect(rt, "no signs");
     let clients = two_clients(rt, alloc, &signs, counts);
     let (returned, closed) = run_clients(rt, LARGEST, clients);
-    let entries = replayed(rt, alloc, LARGEST, &closed);
+    let entries = replayed(alloc, LARGEST, &closed).expect(rt, "another table");
     let ran_out = signs.ran_out.load(Ordering::SeqCst);
     let callers = signs.callers.load(Ordering::SeqCst);
     (returned, ran_out, callers, entries)

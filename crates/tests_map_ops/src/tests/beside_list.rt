@@ -1,15 +1,14 @@
 //! Many calls on versions that fork from one another, and on a plain sorted list beside each, which answer alike.
-use super::plain::{Pair, find_pair, put_pair, shared_pair, without_pair};
-use super::shape::{Shown, walk};
-use super::{Chosen, assert_is, chosen, fork, plainly, remove, shared, value_of};
+use super::{Chosen, assert_is, chosen, empty_at, fork, plainly, remove, shared, value_of};
 use generation::Source;
 use std::alloc::Global;
 use std::panic::Expect;
 use std::process::Abort;
 use std::sync::Arc;
 use test_keys::ChosenKey;
+use test_maps::{Pair, find_pair, outline_of_map, put_pair, shared_pair, without_pair};
+use test_roots::Outline;
 use trie_node::Stamp;
-use versions::Version;
 
 // Few words, which part at different levels.
 const WORDS: [u64; 8] = [
@@ -133,20 +132,19 @@ impl Both {
     // Whether the version has the nodes of a version into which the pairs of the list were put.
     fn has_shape(&self, rt: &impl Abort, alloc: Global) -> bool {
         let made = of_pairs(rt, alloc, &self.list);
-        nodes_of(rt, alloc, &self.version).as_slice() == nodes_of(rt, alloc, &made).as_slice()
+        nodes_of(rt, alloc, &self.version).lines.as_slice()
+            == nodes_of(rt, alloc, &made).lines.as_slice()
     }
 }
 
 // An empty version.
 fn empty(rt: &impl Abort, alloc: Global) -> Chosen {
-    Version::empty(alloc, 100, Stamp::LOOSE).expect(rt, "no map")
+    empty_at(rt, alloc, 100, Stamp::LOOSE)
 }
 
 // The nodes of the version's trie, as a walk meets them.
-fn nodes_of(rt: &impl Abort, alloc: Global, version: &Chosen) -> Vec<Shown> {
-    let mut nodes = Vec::new(alloc);
-    walk(version.root(), 0, &mut nodes).expect(rt, "no list");
-    nodes
+fn nodes_of(rt: &impl Abort, alloc: Global, version: &Chosen) -> Outline<i64> {
+    outline_of_map(alloc, version).expect(rt, "no list")
 }
 
 // A version into which the pairs are put.

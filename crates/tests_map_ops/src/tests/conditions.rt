@@ -116,6 +116,25 @@ fn a_put_under_a_condition_tells_whether_it_was_done(rt: HostRuntime) {
     assert_text(&rt, alloc, &map, "a", Some(6));
 }
 
+// A view shares the key's node, so that its value is not exchanged where it stands.
+#[test]
+fn a_full_map_beside_a_view_replaces_a_value(rt: HostRuntime) {
+    let alloc = rt.alloc();
+    let mut map = empty(&rt, alloc, 1);
+    assert_put_where(&rt, alloc, &mut map, ("a", 5), &IfAbsent, Ok((None, true)));
+    let view = map.view().expect(&rt, "no view");
+    assert_put_where(
+        &rt,
+        alloc,
+        &mut map,
+        ("a", 6),
+        &IfEqual(&5),
+        Ok((Some(5), true)),
+    );
+    assert_is(&rt, view.len(), 1);
+    assert_text(&rt, alloc, &map, "a", Some(6));
+}
+
 #[test]
 fn a_removal_under_a_condition_tells_whether_it_was_done(rt: HostRuntime) {
     let alloc = rt.alloc();

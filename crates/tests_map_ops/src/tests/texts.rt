@@ -1,12 +1,12 @@
 //! Removals by a text, with no key made of it.
-use super::{Texts, assert_is, assert_text, fork, len, of_three, plainly, put};
+use super::{Texts, assert_is, assert_text, empty_at, fork, len, next, of_three, plainly, put};
 use generation::Source;
 use keys::ByteText;
 use std::alloc::Global;
 use std::panic::Expect;
 use std::process::Abort;
 use trie_node::{IfEqual, Stamp};
-use versions::{NoMemory, Version};
+use versions::NoMemory;
 
 // What removals by a text and by bytes answer of a map of three.
 fn removed(alloc: Global, version: &mut Texts) -> Result<[Option<i64>; 4], NoMemory> {
@@ -58,7 +58,7 @@ fn put_row(rt: &impl Abort, alloc: Global, version: &mut Texts, letter: u8) {
 
 // A map of all texts of two letters.
 fn of_two_letters(rt: &impl Abort, alloc: Global, stamp: Stamp) -> Texts {
-    let mut version = Version::empty(alloc, 256, stamp).expect(rt, "no map");
+    let mut version = empty_at(rt, alloc, 256, stamp);
     for letter in LETTERS {
         put_row(rt, alloc, &mut version, letter);
     }
@@ -78,7 +78,7 @@ fn remove_row(rt: &impl Abort, alloc: Global, version: &mut Texts, letter: u8) {
 fn texts_are_removed_beside_a_fork(rt: HostRuntime) {
     let alloc = rt.alloc();
     let mut source = Source::new();
-    let mut version = of_two_letters(&rt, alloc, source.next());
+    let mut version = of_two_letters(&rt, alloc, next(&rt, &mut source));
     let other = fork(&rt, &mut version, &mut source);
     for letter in *b"acegikmo" {
         remove_row(&rt, alloc, &mut version, letter);

@@ -1,14 +1,12 @@
-//! Views of a version, and versions of a root.
+//! Views of a version.
 use super::{
-    Texts, assert_is, assert_own, assert_put, assert_removal, assert_sizes, assert_text, clear,
-    has, is_empty, limit_and_stamp, of_three, text,
+    Texts, assert_is, assert_own, assert_put, assert_removal, clear, has, is_empty, of_three, text,
 };
 use keys::ByteText;
-use std::alloc::Global;
 use std::panic::Expect;
 use std::process::Abort;
 use trie_node::Stamp;
-use versions::{Refusal, Version, View};
+use versions::View;
 
 // Takes a value that other threads may have and read.
 fn for_threads<T: Send + Sync>(value: T) -> T {
@@ -65,32 +63,4 @@ fn a_view_shows_no_later_write(rt: HostRuntime) {
     assert_has_all_three(&rt, &view, &*c);
     let again = another(&rt, view);
     assert_is(&rt, pairs_and_value(&again, &*c), (3, Some(3)));
-}
-
-// A map of the root of no pairs, with another stamp than the root's.
-fn of_empty_root(rt: &impl Abort, alloc: Global) -> Texts {
-    let root = trie_node::empty_root(alloc, Stamp(2)).expect(rt, "no root");
-    Version::from_root(root, 2, Stamp(5))
-}
-
-// Gives a map of three pairs at most the limit 3.
-fn limit_to_three(rt: &impl Abort, version: &mut Texts) {
-    assert!(rt; version.len() <= 3);
-    version.relimit(3);
-}
-
-#[test]
-fn a_map_of_a_root_may_get_another_limit(rt: HostRuntime) {
-    let alloc = rt.alloc();
-    let mut version = of_empty_root(&rt, alloc);
-    assert_is(&rt, limit_and_stamp(&version), (2, Stamp(5)));
-    assert_sizes(&rt, &version, (0, 0));
-    assert_put(&rt, alloc, &mut version, ("a", 1), Ok(None));
-    assert_put(&rt, alloc, &mut version, ("b", 2), Ok(None));
-    assert_put(&rt, alloc, &mut version, ("c", 3), Err(Refusal::Full));
-    limit_to_three(&rt, &mut version);
-    assert_put(&rt, alloc, &mut version, ("c", 3), Ok(None));
-    assert_put(&rt, alloc, &mut version, ("d", 4), Err(Refusal::Full));
-    assert_is(&rt, limit_and_stamp(&version), (3, Stamp(5)));
-    assert_text(&rt, alloc, &version, "b", Some(2));
 }

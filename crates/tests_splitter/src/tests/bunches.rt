@@ -4,11 +4,11 @@ use super::row_of;
 use crate::maps::{Map, map_of, random_map, view_of};
 use crate::plain::{PlainPair, rows_between};
 use iter::BunchedPairs;
-use splitter::{Cut, Piece, cut, whole};
+use splitter::{Cut, cut, whole};
 use std::alloc::{AllocError, Global};
 use std::panic::Expect;
 use std::process::Abort;
-use test_keys::{ChosenKey, Random, take_all};
+use test_keys::{ChosenKey, Random};
 
 // A walk of the tests.
 type Bunched<'a> = BunchedPairs<'a, ChosenKey, i64>;
@@ -88,34 +88,4 @@ fn bunches_end_where_they_are_full(rt: HostRuntime) {
         let (map, rows) = map_of(&rt, alloc, &words);
         assert_halves(&rt, alloc, &map, &rows);
     }
-}
-
-// `count` near path words, and `count` that are one.
-fn near_and_same(alloc: Global, count: usize) -> Result<Vec<u64>, AllocError> {
-    let mut words = near(alloc, count as u64)?;
-    words.extend_from_slice(&same(alloc, 7, count)?)?;
-    Ok(words)
-}
-
-// How many pairs the piece's walk gives, and its last.
-fn end_of(piece: &Piece<ChosenKey, i64>) -> (usize, Option<PlainPair>) {
-    let mut count = 0usize;
-    let mut last = None;
-    for (key, value) in piece.bunched_pairs() {
-        last = row_of(Some((key, value)));
-        count = count.saturating_add(1);
-    }
-    (count, last)
-}
-
-#[test]
-fn bunches_make_no_request(rt: HostRuntime) {
-    let alloc = rt.alloc();
-    let words = near_and_same(alloc, 700).expect(&rt, "no words");
-    let (map, rows) = map_of(&rt, alloc, &words);
-    let piece = whole(alloc, view_of(&rt, &map));
-    let taken = take_all(alloc).expect(&rt, "no list");
-    let end = end_of(&piece);
-    drop(taken);
-    assert_eq!(rt; end, (rows.len(), rows.last().copied()));
 }

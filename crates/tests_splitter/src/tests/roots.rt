@@ -1,20 +1,14 @@
 //! Pieces as roots of their own, node for node.
 
-ghost use Rattle.std.specs.Prelude.{◌≤◌, ◌+◌};
-ghost use Rattle.hash_path.specs.Digits.{word_digits};
-ghost use Rattle.trie_shape.specs.Shape.{Fits};
-ghost use Rattle.trie_shape.specs.View.{tree};
-
-use super::row_of;
 use crate::maps::{Map, empty, map_of, put, random_map, view_of};
-use crate::plain::{PlainPair, rows_between};
-use hash_path::WORD_DIGITS;
 use splitter::{Cut, Piece, cut, whole};
 use std::alloc::{AllocError, Global};
 use std::panic::Expect;
 use std::process::Abort;
-use test_keys::{ChosenKey, Random, Shortage};
-use trie_node::{Look, Node, Stamp, bitmap_counts_children, child, look, size, stamp};
+use test_keys::{ChosenKey, Random};
+use test_maps::{outline_of_map, outline_of_piece};
+use test_roots::{Line, Outline};
+use trie_node::Stamp;
 
 type Part = Piece<ChosenKey, i64>;
 
@@ -23,57 +17,6 @@ const MAPS: u32 = 60;
 
 // A map has no more pieces than these on the way to pieces of one.
 const MOST_PIECES: u32 = 1_000;
-
-// A node by its depth below the root, its bitmap where it is a branch, and its number of pairs.
-type Line = (u32, Option<u32>, u64);
-
-// The nodes of a root, their stamps and their pairs, in the order of a walk.
-#[derive(Drop)]
-struct Outline {
-    lines: Vec<Line>,
-    stamps: Vec<Stamp>,
-    pairs: Vec<(ChosenKey, i64)>,
-}
-
-// The nodes and pairs of a root.
-fn outline_of(rt: &impl Abort, alloc: Global, root: &Node<ChosenKey, i64>) -> Outline
-    requires { Fits (tree root.now) }
-{
-    let mut seen = Outline {
-        lines: Vec::new(alloc),
-        stamps: Vec::new(alloc),
-        pairs: Vec::new(alloc),
-    };
-    walk(root, 0, &mut seen).expect(rt, "no outline");
-    seen
-}
-
-// Adds what stands below a node. No trie has a node at a depth above the number of digits.
-fn walk(node: &Node<ChosenKey, i64>, depth: u32, seen: &mut Outline) -> Result<(), AllocError>
-    requires fits { Fits (tree node.now) }
-    requires depth { depth ≤ word_digits + 1 }
-{
-    if depth > WORD_DIGITS {
-        return Ok(());
-    }
-    bitmap_counts_children::<ChosenKey, i64>();
-    seen.stamps.push(stamp(node))?;
-    match look(node) {
-        Look::Pairs(pairs) => {
-            seen.lines.push((depth, None, size(node)))?;
-            for (key, value) in pairs {
-                seen.pairs.push((**key, **value))?;
-            }
-        }
-        Look::Branch(bitmap) => {
-            seen.lines.push((depth, Some(bitmap), size(node)))?;
-            for n in 0..bitmap.count_ones() {
-                walk(child(node, n), depth + 1, seen)?;
-            }
-        }
-    }
-    Ok(())
-}
 
 // A map of the pairs of the piece, put one after another.
 fn put_anew(rt: &impl Abort, alloc: Global, piece: &Part) -> Map {
@@ -86,14 +29,14 @@ fn put_anew(rt: &impl Abort, alloc: Global, piece: &Part) -> Map {
 
 // How many nodes are new: they stand before all others, each below the one before, and none but the last has a second
 // child. All others are the map's.
-fn new_nodes(rt: &impl Abort, seen: &Outline) -> usize {
+fn new_nodes(rt: &impl Abort, seen: &Outline<i64>) -> usize {
     let mut fresh = 0usize;
     let mut alone = true;
     for (line, stamp) in seen.lines.iter().zip(seen.stamps.iter()) {
         if *stamp == Stamp::LOOSE {
-            assert_eq!(rt; line.0 as usize, fresh);
+            assert_eq!(rt; line.depth as usize, fresh);
             assert!(rt; alone);
-            alone = line.1.is_some_and(|bitmap| bitmap.count_ones() == 1);
+            alone = line.bitmap.is_some_and(|bitmap| bitmap.count_ones() == 1);
             fresh = fresh.saturating_add(1);
         } else {
             assert_eq!(rt; *stamp, Stamp(1));
@@ -105,10 +48,9 @@ fn new_nodes(rt: &impl Abort, seen: &Outline) -> usize {
 
 // The piece's root is, node for node, that of a map into which its pairs were put. It shares all nodes but the first.
 fn assert_root(rt: &impl Abort, alloc: Global, piece: &Part, is_whole: bool) {
-    let root = piece.root().expect(rt, "no root");
-    let seen = outline_of(rt, alloc, &root);
-    let wanted = outline_of(rt, alloc, put_anew(rt, alloc, piece).root());
-    assert_eq!(rt; size(&root), piece.len());
+    let seen = outline_of_piece(alloc, piece).expect(rt, "no root");
+    let wanted = outline_of_map(alloc, &put_anew(rt, alloc, piece)).expect(rt, "no outline");
+    assert_eq!(rt; seen.lines.first().map(|line| line.size), Some(piece.len()));
     assert_eq!(rt; seen.pairs.len() as u64, piece.len());
     assert!(rt; seen.lines.as_slice() == wanted.lines.as_slice());
     assert!(rt; seen.pairs.as_slice() == wanted.pairs.as_slice());
@@ -209,8 +151,7 @@ fn halves_of(rt: &impl Abort, alloc: Global, words: &[u64]) -> (Part, Part) {
 
 // The piece's root has these nodes, with these stamps.
 fn assert_nodes(rt: &impl Abort, alloc: Global, piece: &Part, nodes: &[(Line, Stamp)]) {
-    let root = piece.root().expect(rt, "no root");
-    let seen = outline_of(rt, alloc, &root);
+    let seen = outline_of_piece(alloc, piece).expect(rt, "no root");
     assert_eq!(rt; seen.lines.len(), nodes.len());
     for (at, node) in nodes.iter().enumerate() {
         assert_eq!(rt; seen.lines.as_slice().get(at), Some(&node.0));
@@ -233,13 +174,18 @@ fn third(digit: u64) -> u64 {
 fn a_lone_leaf_hangs_in_the_root(rt: HostRuntime) {
     let alloc = rt.alloc();
     let (lower, upper) = halves_of(&rt, alloc, &[third(3), third(4), third(31)]);
-    let leaf = ((1, None, 1), OLD);
-    assert_nodes(&rt, alloc, &lower, &[((0, Some(1 << 1), 1), NEW), leaf]);
-    let below = ((3, None, 1), OLD);
+    let leaf = (Line::pairs(1, 1), OLD);
+    assert_nodes(
+        &rt,
+        alloc,
+        &lower,
+        &[(Line::branch(0, 1 << 1, 1), NEW), leaf],
+    );
+    let below = (Line::pairs(3, 1), OLD);
     let chain = [
-        ((0, Some(1 << 1), 2), NEW),
-        ((1, Some(1 << 2), 2), NEW),
-        ((2, Some(1 << 4 | 1 << 31), 2), NEW),
+        (Line::branch(0, 1 << 1, 2), NEW),
+        (Line::branch(1, 1 << 2, 2), NEW),
+        (Line::branch(2, 1 << 4 | 1 << 31, 2), NEW),
         below,
         below,
     ];
@@ -252,56 +198,21 @@ fn a_lone_branch_stays_below_its_digits(rt: HostRuntime) {
     let alloc = rt.alloc();
     let deeper = [third(3) | 6 << 15, third(3) | 7 << 15, third(4), third(4)];
     let (lower, upper) = halves_of(&rt, alloc, &deeper);
-    let below = ((4, None, 1), OLD);
+    let below = (Line::pairs(4, 1), OLD);
     let chain = [
-        ((0, Some(1 << 1), 2), NEW),
-        ((1, Some(1 << 2), 2), NEW),
-        ((2, Some(1 << 3), 2), NEW),
-        ((3, Some(1 << 6 | 1 << 7), 2), OLD),
+        (Line::branch(0, 1 << 1, 2), NEW),
+        (Line::branch(1, 1 << 2, 2), NEW),
+        (Line::branch(2, 1 << 3, 2), NEW),
+        (Line::branch(3, 1 << 6 | 1 << 7, 2), OLD),
         below,
         below,
     ];
     assert_nodes(&rt, alloc, &lower, &chain);
-    let bucket = ((1, None, 2), OLD);
-    assert_nodes(&rt, alloc, &upper, &[((0, Some(1 << 1), 2), NEW), bucket]);
-}
-
-// How often the piece is refused its root because memory runs out, where each time there are 32 bytes more; none where
-// it never gets one.
-fn refusals(rt: &impl Abort, alloc: Global, piece: &Part) -> Option<u32> {
-    let mut shortage = Shortage::new(alloc).expect(rt, "no list");
-    for refused in 0..400 {
-        if let Ok(root) = piece.root() {
-            return (size(&root) == piece.len()).then_some(refused);
-        }
-        shortage.give(alloc, 32).expect(rt, "not given");
-    }
-    None
-}
-
-// It has the rows of the map from its first position on and before its end.
-fn assert_has(rt: &impl Abort, alloc: Global, piece: &Part, rows: &[PlainPair]) {
-    let own = rows_between(rt, alloc, rows, piece.lo(), piece.hi());
-    let mut walk = piece.bunched_pairs();
-    assert_eq!(rt; piece.len(), own.len() as u64);
-    for row in &own {
-        assert_eq!(rt; row_of(walk.next()), Some(*row));
-    }
-    assert_eq!(rt; row_of(walk.next()), None);
-}
-
-// Each new branch asks for memory: one for the lower piece, three for the upper.
-#[test]
-fn out_of_memory_leaves_the_piece(rt: HostRuntime) {
-    let alloc = rt.alloc();
-    let (map, rows) = map_of(&rt, alloc, &[third(3), third(4), third(31)]);
-    let all = whole(alloc, view_of(&rt, &map));
-    assert_eq!(rt; refusals(&rt, alloc, &all), Some(0));
-    let (lower, upper) = two_of(&rt, all, 1).expect(&rt, "no two pieces");
-    for (piece, branches) in [(&lower, 1), (&upper, 3)] {
-        let refused = refusals(&rt, alloc, piece);
-        assert!(rt; refused.is_some_and(|times| times >= branches));
-        assert_has(&rt, alloc, piece, &rows);
-        assert_root(&rt, alloc, piece, false);
-    }
+    let bucket = (Line::pairs(1, 2), OLD);
+    assert_nodes(
+        &rt,
+        alloc,
+        &upper,
+        &[(Line::branch(0, 1 << 1, 2), NEW), bucket],
+    );
 }

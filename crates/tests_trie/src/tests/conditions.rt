@@ -8,7 +8,7 @@ use trie_node::{Always, Condition, IfAbsent, IfEqual, IfPresent, NoMemory, Stamp
 // Whether the condition holds of the value 5, and of none.
 fn holds_of_five<C: Condition<u32>>(rt: &impl Abort, alloc: Global, condition: &C) -> (bool, bool) {
     let five = shared_value(rt, alloc, 5);
-    (condition.holds(Some(&five)), condition.holds(None))
+    (condition.holds(Some(&*five)), condition.holds(None))
 }
 
 #[test]
@@ -28,7 +28,7 @@ fn plainly(
 ) -> (bool, Option<u32>) {
     let Written { root, previous } = answer.expect(rt, "not written");
     match previous {
-        Some(value) => (root.is_some(), Some(**value)),
+        Some(pair) => (root.is_some(), Some(*pair.value())),
         None => (root.is_some(), None),
     }
 }

@@ -2,13 +2,13 @@
 
 use super::assert_is;
 use super::maps::{KEYS, Map, NEW, key_at, put, spread};
-use crate::outline::{Outline, outline_of};
 use std::alloc::Global;
 use std::process::Abort;
 use std::sync::atomic::{AtomicU32, Ordering};
 use std::test::Fail;
-use test_keys::{ChosenKey, Shortage};
-use trie_filter::with_passing;
+use test_keys::ChosenKey;
+use test_maps::{outline_of_map, passing};
+use test_roots::Outline;
 use trie_node::Stamp;
 use versions::{NoMemory, Refusal, Version};
 
@@ -28,22 +28,9 @@ fn some_of_seven(alloc: Global, numbers: u32, stamp: Stamp) -> Result<Map<u32>, 
     Ok(map)
 }
 
-/// The map of the pairs that pass.
-fn passing<F: Fn(&ChosenKey, &u32) -> bool>(
-    alloc: Global,
-    map: &Map<u32>,
-    test: &F,
-) -> Result<Map<u32>, NoMemory>
-    requires callable { F.IsAlwaysCallable test.now }
-{
-    map.len();
-    let root = with_passing(alloc, map.root(), NEW, test)?;
-    Ok(Version::from_root(root, map.limit(), NEW))
-}
-
 /// The nodes and pairs of a map.
-fn seen(rt: &impl Abort, alloc: Global, map: &Map<u32>) -> Outline {
-    outline_of(alloc, map.root()).expect(rt, "no outline")
+fn seen(rt: &impl Abort, alloc: Global, map: &Map<u32>) -> Outline<u32> {
+    outline_of_map(alloc, map).expect(rt, "no outline")
 }
 
 /// For each set of the seven keys: those that pass are left, node for node as puts of the same pairs make them, and
@@ -56,6 +43,7 @@ fn each_set_of_keys_is_left_as_puts_make_it(rt: HostRuntime) -> Result<(), Fail>
         let left = passing(
             rt.alloc(),
             &map,
+            NEW,
             &|key: &ChosenKey, _: &u32| { has(numbers, key.id) },
         )?;
         let want = some_of_seven(rt.alloc(), numbers, NEW)?;
@@ -79,6 +67,7 @@ fn sizes(alloc: Global, map: &Map<u32>, numbers: u32) -> Result<(u64, u64), NoMe
     let left = passing(
         alloc,
         map,
+        NEW,
         &|key: &ChosenKey, _: &u32| { has(numbers, key.id) },
     )?;
     Ok((left.len(), left.own_nodes()))
@@ -116,6 +105,7 @@ fn every_second_of_many_is_left_as_puts_make_it(rt: HostRuntime) -> Result<(), F
     let left = passing(
         rt.alloc(),
         &map,
+        NEW,
         &|_: &ChosenKey, value: &u32| value % 2 == 0,
     )?;
     let want = spread_map(rt.alloc(), false, NEW)?;
@@ -135,6 +125,7 @@ fn a_test_is_asked_once_for_each_pair(rt: HostRuntime) -> Result<(), Fail> {
     let left = passing(
         rt.alloc(),
         &map,
+        NEW,
         &|_: &ChosenKey, _: &u32| { calls.fetch_add(1, Ordering::Relaxed) % 3 == 0 },
     )?;
     assert_is(&rt, calls.load(Ordering::Relaxed), 7);
@@ -143,41 +134,6 @@ fn a_test_is_asked_once_for_each_pair(rt: HostRuntime) -> Result<(), Fail> {
         &rt,
         seen(&rt, rt.alloc(), &left),
         seen(&rt, rt.alloc(), &want),
-    );
-    Ok(())
-}
-
-/// How often the map of those of the seven keys is refused because memory runs out, where each time there are 16 bytes
-/// more.
-fn refusals(alloc: Global, map: &Map<u32>, numbers: u32) -> Result<(u32, Option<Map<u32>>), Fail> {
-    let mut shortage = Shortage::new(alloc)?;
-    let mut refused = 0u32;
-    for _ in 0..200 {
-        if let Ok(left) = passing(
-            alloc,
-            map,
-            &|key: &ChosenKey, _: &u32| { has(numbers, key.id) },
-        ) {
-            return Ok((refused, Some(left)));
-        }
-        refused = refused.wrapping_add(1);
-        shortage.give(alloc, 16)?;
-    }
-    Ok((refused, None))
-}
-
-/// Of all seven, three branches and their children are made, and a bucket and its pairs: eight requests.
-#[test]
-fn out_of_memory_leaves_the_map(rt: HostRuntime) -> Result<(), Fail> {
-    let map = some_of_seven(rt.alloc(), 127, Stamp(1))?;
-    let (refused, left) = refusals(rt.alloc(), &map, 127)?;
-    assert_is(&rt, refused > 7, true);
-    assert_is(&rt, left.is_some_and(|left| left.own_nodes() == 8), true);
-    let before = some_of_seven(rt.alloc(), 127, Stamp(1))?;
-    assert_is(
-        &rt,
-        seen(&rt, rt.alloc(), &map),
-        seen(&rt, rt.alloc(), &before),
     );
     Ok(())
 }

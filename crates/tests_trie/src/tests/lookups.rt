@@ -5,8 +5,8 @@ use super::maps::{Map, key_at, put, spread};
 use std::alloc::{AllocError, Global};
 use std::process::Abort;
 use std::test::Fail;
-use test_keys::{ChosenKey, Random, Shortage};
-use trie_lookups::find_many;
+use test_keys::{ChosenKey, Random};
+use test_maps::found_in;
 use trie_node::{NoMemory, Stamp};
 use versions::{Refusal, Version};
 
@@ -61,7 +61,7 @@ fn found(alloc: Global, map: &Map<u32>, keys: &[ChosenKey]) -> Result<Vec<Option
         sought.push(key)?;
     }
     let mut values = Vec::with_capacity(alloc, keys.len())?;
-    for value in find_many(alloc, map.root(), sought.as_slice())? {
+    for value in found_in(alloc, map, sought.as_slice())? {
         values.push(match value {
             Some(value) => Some(**value),
             None => None,
@@ -158,30 +158,4 @@ fn many_keys_find_what_was_put(rt: HostRuntime) -> Result<(), Fail> {
         }
     }
     assert_found(&rt, alloc, &put, &keys)
-}
-
-/// Whether a look-up of the keys ends with `bytes` bytes of memory left.
-fn ends(
-    alloc: Global,
-    map: &Map<u32>,
-    keys: &[&ChosenKey],
-    bytes: usize,
-) -> Result<bool, AllocError> {
-    let mut shortage = Shortage::new(alloc)?;
-    shortage.give(alloc, bytes)?;
-    Ok(find_many(alloc, map.root(), keys).is_ok())
-}
-
-/// The list is one request, and there is no other; a list of no key makes none.
-#[test]
-fn a_refused_list_is_an_error(rt: HostRuntime) -> Result<(), Fail> {
-    let alloc = rt.alloc();
-    let put = listed(alloc, &KEYS)?;
-    let map = map_of(alloc, &put)?;
-    let (first, last) = (key_at(KEYS[0]), key_at(KEYS[8]));
-    assert_is(&rt, ends(alloc, &map, &[], 0)?, true);
-    assert_is(&rt, ends(alloc, &map, &[&first, &last], 0)?, false);
-    assert_is(&rt, ends(alloc, &map, &[&first, &last], 4096)?, true);
-    assert_is(&rt, found(alloc, &map, &put)?, wanted(alloc, &put, &put)?);
-    Ok(())
 }

@@ -1,17 +1,16 @@
-ghost use Rattle.std.specs.Prelude.{◌<◌};
+//! The maps of two tries as one.
 
-use super::memory::{TWO, assert_same, block, take_all_but};
 use super::random::{any_key, assert_is_map, insert};
 use super::{
-    Trie, assert_is, assert_lines, assert_pairs, branch, key, new, pairs, put, seen, trie_of,
+    Trie, assert_is, assert_lines, assert_pairs, assert_same, key, new, put, seen, trie_of,
 };
-use crate::outline::{Line, Outline};
 use std::alloc::Global;
 use std::collections::BTreeMap;
 use std::panic::Expect;
 use std::process::Abort;
 use test_keys::{ChosenKey, Random};
-use trie_node::{Node, Stamp, union_of_maps, unions_of_maps};
+use test_roots::{Line, Outline};
+use trie_node::Stamp;
 
 // The map of both, where the value of the left one wins.
 fn merged(rt: &impl Abort, alloc: Global, (left, right): (&Trie, &Trie), stamp: u64) -> Trie {
@@ -39,11 +38,11 @@ fn values_of_the_left_win(rt: HostRuntime) {
     let left = trie_of(&rt, alloc, &[(p, 1), (q, 2)]);
     let right = trie_of(&rt, alloc, &[(q, 3), (r, 4)]);
     let lines = [
-        branch(0, 0b11, 3),
-        branch(1, 0b11, 2),
-        pairs(2, 1),
-        pairs(2, 1),
-        pairs(1, 1),
+        Line::branch(0, 0b11, 3),
+        Line::branch(1, 0b11, 2),
+        Line::pairs(2, 1),
+        Line::pairs(2, 1),
+        Line::pairs(1, 1),
     ];
     let all = [(p, 1), (q, 2), (r, 4)];
     assert_merged(&rt, alloc, (&left, &right), &lines, &all);
@@ -57,7 +56,7 @@ fn buckets_of_one_word_are_one(rt: HostRuntime) {
     let (k0, k1, k2, k3) = (key(7, 0), key(7, 1), key(7, 2), key(7, 3));
     let few = trie_of(&rt, alloc, &[(k1, 1), (k2, 2)]);
     let many = trie_of(&rt, alloc, &[(k0, 5), (k2, 6), (k3, 7)]);
-    let lines = [branch(0, 1 << 7, 4), pairs(1, 4)];
+    let lines = [Line::branch(0, 1 << 7, 4), Line::pairs(1, 4)];
     let all = [(k0, 5), (k1, 1), (k2, 2), (k3, 7)];
     assert_merged(&rt, alloc, (&few, &many), &lines, &all);
     let all = [(k0, 5), (k1, 1), (k2, 6), (k3, 7)];
@@ -70,10 +69,10 @@ fn a_bucket_meets_a_branch(rt: HostRuntime) {
     let bucket = trie_of(&rt, alloc, &[(key(32, 0), 1), (key(32, 1), 2)]);
     let below = trie_of(&rt, alloc, &[(key(0, 0), 3), (key(32, 1), 4)]);
     let lines = [
-        branch(0, 1, 3),
-        branch(1, 0b11, 3),
-        pairs(2, 1),
-        pairs(2, 2),
+        Line::branch(0, 1, 3),
+        Line::branch(1, 0b11, 3),
+        Line::pairs(2, 1),
+        Line::pairs(2, 2),
     ];
     let all = [(key(0, 0), 3), (key(32, 0), 1), (key(32, 1), 2)];
     assert_merged(&rt, alloc, (&bucket, &below), &lines, &all);
@@ -82,7 +81,7 @@ fn a_bucket_meets_a_branch(rt: HostRuntime) {
 }
 
 // The merged root is the one that is outlined. Its stamps show that it is none of the merge's.
-fn assert_merged_is(rt: &impl Abort, alloc: Global, both: (&Trie, &Trie), before: &Outline) {
+fn assert_merged_is(rt: &impl Abort, alloc: Global, both: (&Trie, &Trie), before: &Outline<u32>) {
     assert_same(rt, alloc, &merged(rt, alloc, both, 4), before);
 }
 
@@ -119,7 +118,7 @@ fn all_words(rt: &impl Abort, alloc: Global) -> BTreeMap<ChosenKey, u32> {
 }
 
 // How many nodes there are, and how many are the merge's.
-fn made(seen: &Outline) -> (usize, usize) {
+fn made(seen: &Outline<u32>) -> (usize, usize) {
     let made = seen.stamps.iter().filter(|stamp| stamp.0 == 2).count();
     (seen.lines.len(), made)
 }
@@ -161,57 +160,4 @@ fn random_merges_agree_with_ordered_maps(rt: HostRuntime) {
         let both = merged(&rt, alloc, (&left, &right), 2);
         assert_is_map(&rt, alloc, &both, &map);
     }
-}
-
-// The bytes of `children` children.
-fn bytes_of(children: usize) -> usize
-    requires { children < 64 }
-{
-    children * size_of::<Node<ChosenKey, u32>>()
-}
-
-// The bytes of a row of four places.
-const FOUR: usize = 136;
-
-// What a merge of two branches and of two below them requests: room for the children of each, from
-// the root down, and each branch's row, from below.
-fn requested(rt: &impl Abort, alloc: Global) -> Vec<Vec<u8>> {
-    let mut blocks = Vec::new(alloc);
-    for size in [TWO, FOUR, bytes_of(4), bytes_of(1)] {
-        blocks.push(block(rt, alloc, size)).expect(rt, "no room");
-    }
-    blocks
-}
-
-// Whether the roots are merged with `given` requests granted.
-fn is_merged_with(
-    rt: &impl Abort,
-    alloc: Global,
-    (left, right): (&Trie, &Trie),
-    given: usize,
-) -> bool {
-    let mut spare = requested(rt, alloc);
-    let _taken = take_all_but(rt, alloc, &mut spare, given);
-    left.merged(alloc, right, Stamp(2)).is_ok()
-}
-
-#[test]
-fn refused_merges_leave_the_roots(rt: HostRuntime) {
-    let alloc = rt.alloc();
-    let left = trie_of(&rt, alloc, &[(key(32, 0), 1), (key(64, 0), 2)]);
-    let right = trie_of(&rt, alloc, &[(key(96, 0), 3), (key(128, 0), 4)]);
-    let left_before = seen(&rt, alloc, &left);
-    let right_before = seen(&rt, alloc, &right);
-    for given in 0..5 {
-        let is_merged = is_merged_with(&rt, alloc, (&left, &right), given);
-        assert_same(&rt, alloc, &left, &left_before);
-        assert_same(&rt, alloc, &right, &right_before);
-        assert_is(&rt, is_merged, given == 4);
-    }
-}
-
-#[test]
-fn laws_of_unions_are_called_at_no_condition() {
-    union_of_maps::<ChosenKey, u32>();
-    unions_of_maps::<ChosenKey, u32>();
 }

@@ -1,13 +1,13 @@
 use super::{
     Trie, assert_is, assert_lines, assert_pairs, assert_value, copy, key, new, put, removed, seen,
 };
-use crate::outline::lines_of;
 use hash_path::PathKey;
 use std::alloc::{AllocError, Global};
 use std::collections::BTreeMap;
 use std::panic::Expect;
 use std::process::Abort;
 use test_keys::{ChosenKey, Random};
+use test_roots::lines_of;
 use trie_node::{Stamp, size};
 
 // Few words, so that buckets and branches that are drawn up are frequent.

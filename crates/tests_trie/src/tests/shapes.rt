@@ -1,10 +1,8 @@
-use super::{
-    Trie, assert_is, assert_lines, assert_pairs, branch, key, pairs, removed, seen, trie_of,
-};
-use crate::outline::Line;
+use super::{Trie, assert_is, assert_lines, assert_pairs, key, removed, seen, trie_of};
 use std::alloc::Global;
 use std::process::Abort;
 use test_keys::ChosenKey;
+use test_roots::Line;
 use trie_node::size;
 
 // The trie has these nodes and pairs, in the order of a walk.
@@ -26,11 +24,11 @@ fn keys_of_one_word_share_a_bucket(rt: HostRuntime) {
     let alloc = rt.alloc();
     let (x, y, z) = (key(0, 1), key(0, 2), key(0, 3));
     let trie = trie_of(&rt, alloc, &[(z, 13), (x, 11), (y, 12)]);
-    let lines = [branch(0, 1, 3), pairs(1, 3)];
+    let lines = [Line::branch(0, 1, 3), Line::pairs(1, 3)];
     assert_outline(&rt, alloc, &trie, &lines, &[(x, 11), (y, 12), (z, 13)]);
 
     let trie = removed(&rt, alloc, &trie, y, 2);
-    let lines = [branch(0, 1, 2), pairs(1, 2)];
+    let lines = [Line::branch(0, 1, 2), Line::pairs(1, 2)];
     assert_outline(&rt, alloc, &trie, &lines, &[(x, 11), (z, 13)]);
 }
 
@@ -40,26 +38,26 @@ fn words_that_differ_last_make_fifteen_nodes(rt: HostRuntime) {
     let (p, q) = (key(0, 0), key(0xc000_0000_0000_0000, 0));
     let trie = trie_of(&rt, alloc, &[(p, 1), (q, 2)]);
     let fifteen = [
-        branch(0, 1, 2),
-        branch(1, 1, 2),
-        branch(2, 1, 2),
-        branch(3, 1, 2),
-        branch(4, 1, 2),
-        branch(5, 1, 2),
-        branch(6, 1, 2),
-        branch(7, 1, 2),
-        branch(8, 1, 2),
-        branch(9, 1, 2),
-        branch(10, 1, 2),
-        branch(11, 1, 2),
-        branch(12, 1 << 12 | 1, 2),
-        pairs(13, 1),
-        pairs(13, 1),
+        Line::branch(0, 1, 2),
+        Line::branch(1, 1, 2),
+        Line::branch(2, 1, 2),
+        Line::branch(3, 1, 2),
+        Line::branch(4, 1, 2),
+        Line::branch(5, 1, 2),
+        Line::branch(6, 1, 2),
+        Line::branch(7, 1, 2),
+        Line::branch(8, 1, 2),
+        Line::branch(9, 1, 2),
+        Line::branch(10, 1, 2),
+        Line::branch(11, 1, 2),
+        Line::branch(12, 1 << 12 | 1, 2),
+        Line::pairs(13, 1),
+        Line::pairs(13, 1),
     ];
     assert_outline(&rt, alloc, &trie, &fifteen, &[(p, 1), (q, 2)]);
 
     let trie = removed(&rt, alloc, &trie, q, 2);
-    let two = [branch(0, 1, 1), pairs(1, 1)];
+    let two = [Line::branch(0, 1, 1), Line::pairs(1, 1)];
     assert_outline(&rt, alloc, &trie, &two, &[(p, 1)]);
 }
 
@@ -73,7 +71,12 @@ fn words_of_three_first_digits_make_three_leaves(rt: HostRuntime) {
     );
     let trie = trie_of(&rt, alloc, &[(a, 1), (b, 2), (c, 3)]);
     let digits = 1 << 5 | 1 << 12 | 1 << 18;
-    let lines = [branch(0, digits, 3), pairs(1, 1), pairs(1, 1), pairs(1, 1)];
+    let lines = [
+        Line::branch(0, digits, 3),
+        Line::pairs(1, 1),
+        Line::pairs(1, 1),
+        Line::pairs(1, 1),
+    ];
     assert_outline(&rt, alloc, &trie, &lines, &[(b, 2), (a, 1), (c, 3)]);
 }
 
@@ -87,6 +90,10 @@ fn removal_leaves_the_shape_of_the_rest(rt: HostRuntime) {
     );
     let trie = trie_of(&rt, alloc, &[(first, 1), (second, 2), (third, 3)]);
     let trie = removed(&rt, alloc, &trie, second, 2);
-    let lines = [branch(0, 1 << 31 | 1, 2), pairs(1, 1), pairs(1, 1)];
+    let lines = [
+        Line::branch(0, 1 << 31 | 1, 2),
+        Line::pairs(1, 1),
+        Line::pairs(1, 1),
+    ];
     assert_outline(&rt, alloc, &trie, &lines, &[(first, 1), (third, 3)]);
 }

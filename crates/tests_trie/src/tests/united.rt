@@ -1,12 +1,12 @@
 //! What the root of several maps is, of one first digit each.
 
 use super::key;
-use crate::parts::{Gathered, Part, Whole};
 use hash_path::FAN_OUT;
 use std::alloc::Global;
 use std::panic::Expect;
 use std::process::Abort;
-use test_keys::{ChosenKey, take_all};
+use test_keys::ChosenKey;
+use test_roots::{Gathered, Part, Whole};
 use trie_node::{Look, NoMemory, Stamp, look, size, stamp};
 
 /// A root of the tests.
@@ -90,17 +90,4 @@ fn a_root_has_all_digits(rt: HostRuntime) {
     for digit in 0..FAN_OUT {
         assert_value(&rt, &root, key(digit as u64, digit), Some(digit));
     }
-}
-
-/// The row asks for memory once, and the root once.
-#[test]
-fn out_of_memory_is_an_error(rt: HostRuntime) {
-    let alloc = rt.alloc();
-    let all = Gathered::<ChosenKey, u32>::new(alloc).expect(&rt, "no row");
-    let taken = take_all(alloc).expect(&rt, "no list");
-    let row = Gathered::<ChosenKey, u32>::new(alloc).is_err();
-    let root = all.into_root(alloc).is_err();
-    drop(taken);
-    assert!(rt; row);
-    assert!(rt; root);
 }

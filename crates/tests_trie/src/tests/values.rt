@@ -6,10 +6,10 @@ use std::alloc::Global;
 use std::process::Abort;
 use std::sync::atomic::{AtomicU32, Ordering};
 use std::test::Fail;
-use test_keys::{ChosenKey, Shortage};
+use test_keys::ChosenKey;
+use test_maps::changed;
 use trie_node::Stamp;
-use trie_values::with_new_values;
-use versions::{NoMemory, Refusal, Version};
+use versions::{Refusal, Version};
 
 /// The root and two branches, four leaves and the bucket.
 const NODES: u64 = 8;
@@ -21,19 +21,6 @@ fn seven(alloc: Global) -> Result<Map<u32>, Refusal> {
         put(alloc, &mut map, key_at(at), at.1.wrapping_mul(10))?;
     }
     Ok(map)
-}
-
-/// The map with new values.
-fn changed<W: Drop, F: Fn(&ChosenKey, &u32) -> W>(
-    alloc: Global,
-    map: &Map<u32>,
-    change: &F,
-) -> Result<Map<W>, NoMemory>
-    requires callable { F.IsAlwaysCallable change.now }
-{
-    map.len();
-    let root = with_new_values(alloc, map.root(), NEW, change)?;
-    Ok(Version::from_root(root, map.limit(), NEW))
 }
 
 /// The value at the key, or none.
@@ -82,6 +69,7 @@ fn keys_at_several_levels_get_values_of_another_type(rt: HostRuntime) -> Result<
     let made = changed(
         rt.alloc(),
         &map,
+        NEW,
         &|key: &ChosenKey, value: &u32| { (key.id % 2 == 0, u64::from(*value) + 1) },
     )?;
     let want = [
@@ -101,7 +89,7 @@ fn keys_at_several_levels_get_values_of_another_type(rt: HostRuntime) -> Result<
 #[test]
 fn no_keys_get_no_values(rt: HostRuntime) -> Result<(), Fail> {
     let map = Version::empty(rt.alloc(), 10, Stamp(1))?;
-    let made = changed(rt.alloc(), &map, &|_: &ChosenKey, value: &u32| *value)?;
+    let made = changed(rt.alloc(), &map, NEW, &|_: &ChosenKey, value: &u32| *value)?;
     assert_is(&rt, sizes(&made), (0, 1));
     Ok(())
 }
@@ -127,6 +115,7 @@ fn many_keys_get_values(rt: HostRuntime) -> Result<(), Fail> {
     let made = changed(
         rt.alloc(),
         &map,
+        NEW,
         &|_: &ChosenKey, value: &u32| value.wrapping_add(1),
     )?;
     assert_is(
@@ -145,6 +134,7 @@ fn a_closure_is_called_once_for_each_pair(rt: HostRuntime) -> Result<(), Fail> {
     let made = changed(
         rt.alloc(),
         &map,
+        NEW,
         &|_: &ChosenKey, _: &u32| { calls.fetch_add(1, Ordering::Relaxed) },
     )?;
     assert_is(
@@ -165,39 +155,5 @@ fn a_closure_is_called_once_for_each_pair(rt: HostRuntime) -> Result<(), Fail> {
             Some(6),
         ],
     );
-    Ok(())
-}
-
-/// How often the map of the seven keys with new values is refused because memory runs out, where each time there are 16
-/// bytes more. It makes 15 requests: for seven values, for three branches and their children, and for a bucket and its
-/// pairs.
-fn refusals(alloc: Global, map: &Map<u32>) -> Result<(u32, Option<Map<u32>>), Fail> {
-    let mut shortage = Shortage::new(alloc)?;
-    let mut refused = 0u32;
-    for _ in 0..200 {
-        if let Ok(made) = changed(
-            alloc,
-            map,
-            &|_: &ChosenKey, value: &u32| value.wrapping_mul(2),
-        ) {
-            return Ok((refused, Some(made)));
-        }
-        refused = refused.wrapping_add(1);
-        shortage.give(alloc, 16)?;
-    }
-    Ok((refused, None))
-}
-
-#[test]
-fn out_of_memory_leaves_the_map(rt: HostRuntime) -> Result<(), Fail> {
-    let map = seven(rt.alloc())?;
-    let (refused, made) = refusals(rt.alloc(), &map)?;
-    assert_is(&rt, refused > 14, true);
-    assert_is(
-        &rt,
-        made.is_some_and(|made| sizes(&made) == (7, NODES)),
-        true,
-    );
-    assert_as_before(&rt, &map);
     Ok(())
 }

@@ -18,8 +18,8 @@ const CLEARS: u32 = 100;
 // How many keys a thread puts between two clears, all of one path word, so that a put takes its time.
 const PUTS: u32 = 100;
 
-// How often a thread lets others run before it gives up. On a busy machine it did 44 times.
-const PATIENCE: u32 = 200_000;
+// How often a thread lets others run before it gives up, which it does only where the map is at fault: some 30 seconds.
+const PATIENCE: u32 = 100_000_000;
 
 // What the threads tell one another.
 #[derive(Drop)]
@@ -77,6 +77,7 @@ fn clear_often<R: Wait>(rt: &R, map: &Values, signs: &Signs) -> Result<(), NoMem
             break;
         }
     }
+    signs.is_first.store(0, Ordering::SeqCst);
     Ok(())
 }
 

@@ -56,6 +56,7 @@ fn keys_of_a_base_are_read_while_they_are_locked(rt: HostRuntime) {
 enum Write {
     Put,
     PutShared,
+    PutMany,
     Replace,
     ReplaceIf,
     ReplaceAll,
@@ -76,6 +77,7 @@ fn make_write<R: AllocGlobal + Wait>(rt: &R, map: &Map, call: Write) -> bool {
     match call {
         Write::Put => map.put(rt, third, 70).is_ok(),
         Write::PutShared => put_shared(rt, map, 70).is_ok(),
+        Write::PutMany => put_list(rt, map, 70).is_ok(),
         Write::Replace => map.replace(rt, third, 70).is_ok(),
         Write::ReplaceIf => map.replace_if(rt, third, &3, 70).is_ok(),
         Write::ReplaceAll => map.replace_all(rt, |_, _| 70).is_ok(),
@@ -87,6 +89,13 @@ fn make_write<R: AllocGlobal + Wait>(rt: &R, map: &Map, call: Write) -> bool {
 
 fn put_shared<R: AllocGlobal + Wait>(rt: &R, map: &Map, value: u64) -> Result<(), PutError> {
     map.put_shared(rt, key(3, 0), Arc::new(rt.alloc(), value)?)?;
+    Ok(())
+}
+
+fn put_list<R: AllocGlobal + Wait>(rt: &R, map: &Map, value: u64) -> Result<(), PutError> {
+    let mut pairs = Vec::new(rt.alloc());
+    pairs.push((key(3, 0), value))?;
+    map.put_many(rt, pairs)?;
     Ok(())
 }
 
@@ -124,6 +133,7 @@ fn a_reader_with_a_base_sees_each_kind_of_write(rt: HostRuntime) {
     for call in [
         Write::Put,
         Write::PutShared,
+        Write::PutMany,
         Write::Replace,
         Write::ReplaceIf,
         Write::ReplaceAll,
@@ -140,6 +150,37 @@ fn a_reader_with_a_base_sees_each_kind_of_write(rt: HostRuntime) {
         Write::Restore,
     ] {
         assert_is(&rt, seen_after(&rt, call), (true, None));
+    }
+}
+
+// Makes the call on a map whose reader has a base, once a put beside the key has copied the nodes of its way, and returns
+// whether it was granted, and what the reader finds then.
+fn seen_once_copied<R: AllocGlobal + Wait + Abort>(rt: &R, call: Write) -> (bool, Option<u64>) {
+    let map = empty(rt);
+    let beside = key(35, 0);
+    put(rt, &map, key(3, 0), 3);
+    put(rt, &map, beside, 4);
+    let readers = map.readers();
+    let mut reader = readers.reader();
+    miss(rt, &mut reader, MISSES);
+    put(rt, &map, beside, 5);
+    assert_is(rt, reader.get_copied(rt, &key(3, 0)), Some(3));
+    let granted = make_write(rt, &map, call);
+    (granted, reader.get_copied(rt, &key(3, 0)))
+}
+
+// Here the values of the key are exchanged: its nodes are not those of the base any more.
+#[test]
+fn a_reader_sees_a_value_that_is_exchanged(rt: HostRuntime) {
+    for call in [
+        Write::Put,
+        Write::PutShared,
+        Write::PutMany,
+        Write::Replace,
+        Write::ReplaceIf,
+        Write::Update,
+    ] {
+        assert_is(&rt, seen_once_copied(&rt, call), (true, Some(70)));
     }
 }
 

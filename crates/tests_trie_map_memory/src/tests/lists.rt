@@ -1,5 +1,5 @@
 //! Lists that are written with requests for memory refused.
-use super::{Map, assert_is, empty, put, view_of};
+use super::{Map, assert_is, at, empty, put, view_of};
 use std::process::Abort;
 use std::sync::Wait;
 use test_keys::{ChosenKey, Shortage};
@@ -39,12 +39,12 @@ fn spread(id: u32) -> ChosenKey {
     }
 }
 
-// The pairs of a list.
-fn pairs_of<R: AllocGlobal + Abort>(rt: &R) -> Vec<(ChosenKey, u64)> {
+// The pairs of a list. Each value is its key's number and `more`.
+fn pairs_of<R: AllocGlobal + Abort>(rt: &R, more: u64) -> Vec<(ChosenKey, u64)> {
     let mut pairs = Vec::new(rt.alloc());
     for id in 0..PAIRS {
         pairs
-            .push((spread(id), u64::from(id)))
+            .push((spread(id), u64::from(id).wrapping_add(more)))
             .expect(rt, "no list");
     }
     pairs
@@ -58,7 +58,7 @@ fn room<R: AllocGlobal + Abort>(rt: &R, bytes: usize) -> Shortage {
 // What becomes of such pairs in such room. What was not put is given back, and is put once there is room.
 fn put_in_room<R: AllocGlobal + Wait + Abort>(rt: &R, bytes: usize) -> Written {
     let map = empty(rt);
-    let pairs = pairs_of(rt);
+    let pairs = pairs_of(rt, 0);
     let shortage = room(rt, bytes);
     let answer = map.put_many(rt, pairs);
     drop(shortage);
@@ -86,6 +86,26 @@ fn filled<R: AllocGlobal + Wait + Abort>(rt: &R) -> Map {
     map
 }
 
+// What becomes of such pairs in such room where all keys are there. What was not put is given back: its keys have the
+// values before.
+fn put_again_in_room<R: AllocGlobal + Wait + Abort>(rt: &R, bytes: usize) -> Written {
+    let map = filled(rt);
+    let pairs = pairs_of(rt, 100);
+    let shortage = room(rt, bytes);
+    let answer = map.put_many(rt, pairs);
+    drop(shortage);
+    let Err(refused) = answer else {
+        return Written::All;
+    };
+    let PutsRefused { put, rest, .. } = refused;
+    let written = put.len();
+    assert_is(rt, written.wrapping_add(rest.len()), PAIRS as usize);
+    for (key, value) in rest {
+        assert_is(rt, at(rt, &map, key), value.checked_sub(100));
+    }
+    partly(written)
+}
+
 // What becomes of the removal of their keys in such room.
 fn remove_in_room<R: AllocGlobal + Wait + Abort>(rt: &R, bytes: usize) -> Written {
     let map = filled(rt);
@@ -110,15 +130,23 @@ fn remove_in_room<R: AllocGlobal + Wait + Abort>(rt: &R, bytes: usize) -> Writte
     partly(removed.len())
 }
 
+// What is done with a list.
+#[derive(Clone, Copy)]
+enum List {
+    Puts,
+    PutsAgain,
+    Removals,
+}
+
 // How often a list was written whole, in part and not at all.
-fn tallied<R: AllocGlobal + Wait + Abort>(rt: &R, removals: bool) -> [u32; 3] {
+fn tallied<R: AllocGlobal + Wait + Abort>(rt: &R, list: List) -> [u32; 3] {
     let mut tally = [0u32; 3];
     for step in 0..STEPS {
         let bytes = step.wrapping_mul(STEP);
-        let written = if removals {
-            remove_in_room(rt, bytes)
-        } else {
-            put_in_room(rt, bytes)
+        let written = match list {
+            List::Puts => put_in_room(rt, bytes),
+            List::PutsAgain => put_again_in_room(rt, bytes),
+            List::Removals => remove_in_room(rt, bytes),
         };
         let place = match written {
             Written::All => 0usize,
@@ -133,12 +161,18 @@ fn tallied<R: AllocGlobal + Wait + Abort>(rt: &R, removals: bool) -> [u32; 3] {
 // The room grows, so that a list is refused before its first write, after some, and not at all.
 #[test]
 fn puts_are_parted_where_one_is_refused(rt: HostRuntime) {
-    let tally = tallied(&rt, false);
+    let tally = tallied(&rt, List::Puts);
+    assert_is(&rt, tally.map(|times| times > 0), [true; 3]);
+}
+
+#[test]
+fn puts_of_keys_that_are_there_are_parted_where_one_is_refused(rt: HostRuntime) {
+    let tally = tallied(&rt, List::PutsAgain);
     assert_is(&rt, tally.map(|times| times > 0), [true; 3]);
 }
 
 #[test]
 fn removals_are_parted_where_one_is_refused(rt: HostRuntime) {
-    let tally = tallied(&rt, true);
+    let tally = tallied(&rt, List::Removals);
     assert_is(&rt, tally.map(|times| times > 0), [true; 3]);
 }

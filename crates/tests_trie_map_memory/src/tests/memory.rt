@@ -5,7 +5,7 @@ use std::alloc::{AllocError, Global};
 use std::process::Abort;
 use std::sync::Wait;
 use std::thread::Threads;
-use test_keys::{Shortage, take_all};
+use test_keys::{ChosenKey, Shortage, take_all};
 use trie_map::{Crew, PutError};
 
 // The sizes of what a put asks for that is one child too many for its branch: an `Arc` of its key or value, and a row of four
@@ -121,6 +121,66 @@ fn puts_are_refused_at_each_request(rt: HostRuntime) {
         4 <= refused && 1 <= granted,
         "{refused} refused, {granted} granted"
     );
+}
+
+// Calls that write the value 2 at a key, which has 1 if it is there.
+#[derive(Clone, Copy, Debug)]
+enum Write {
+    Put,
+    Replace,
+    ReplaceIf,
+    Update,
+}
+
+// Makes the call, and returns the value before.
+fn make_write<R: Wait>(
+    rt: &R,
+    map: &Map,
+    key: ChosenKey,
+    call: Write,
+) -> Result<Option<u64>, PutError> {
+    Ok(match call {
+        Write::Put => plain(map.put(rt, key, 2)?),
+        Write::Replace => plain(map.replace(rt, key, 2)?),
+        Write::ReplaceIf => map.replace_if(rt, key, &1, 2)?.then_some(1),
+        Write::Update => plain(map.update(rt, key, |_| Some(2))?),
+    })
+}
+
+// What the call returns of a map of two keys where there is room for `small` small requests alone, and the value that
+// the key has then.
+fn write_in_room<R: AllocGlobal + Wait + Abort>(
+    rt: &R,
+    written: ChosenKey,
+    call: Write,
+    small: usize,
+) -> (Result<Option<u64>, PutError>, Option<u64>) {
+    let map = empty(rt);
+    put(rt, &map, key(1, 0), 1);
+    put(rt, &map, key(33, 0), 0);
+    let smalls = blocks(rt.alloc(), small, SMALL).expect(rt, "no blocks");
+    let taken = take_all(rt.alloc()).expect(rt, "no list");
+    drop(smalls);
+    let answer = make_write(rt, &map, written, call);
+    drop(taken);
+    (answer, at(rt, &map, written))
+}
+
+// Memory is requested for the value, and not for the key, nor for a node.
+#[test]
+fn a_write_of_a_key_that_is_there_makes_one_request(rt: HostRuntime) {
+    for call in [Write::Put, Write::Replace, Write::ReplaceIf, Write::Update] {
+        assert_is(
+            &rt,
+            write_in_room(&rt, key(1, 0), call, 0),
+            (Err(PutError::NoMemory), Some(1)),
+        );
+        assert_is(
+            &rt,
+            write_in_room(&rt, key(1, 0), call, 1),
+            (Ok(Some(1)), Some(2)),
+        );
+    }
 }
 
 // The calls that take all stripes. The last five ask a view of the map then, by one worker.

@@ -3,9 +3,9 @@ ghost use Rattle.std.specs.Prelude.{◌≡◌, ◌≤◌, Bool, IfOk, IfSome, le
 ghost use Rattle.std.specs.List.{list_all, list_any};
 ghost use Rattle.bulk_work.specs.Answers.{items_of, passes, passing};
 ghost use Rattle.bulk_ops.specs.Meanings.{MayAnswer, Means};
-ghost use Rattle.bulk_work.specs.Pairs.{pair_of};
+ghost use Rattle.map_view.specs.Questions.{pair_of};
 ghost use Rattle.combiner.specs.Monoids.{folded};
-ghost use Rattle.stripes.specs.Rules.{AllKeep};
+ghost use Rattle.stripe.specs.Rules.{AllKeep};
 ghost use Rattle.map_view.specs.Questions.{IsAnsweredOfKept, IsFound, changed};
 ghost use Rattle.versions.specs.Map.{Map};
 ghost use Rattle.versions.specs.declared.version.TheConstants.{MOST_PAIRS};
@@ -18,12 +18,16 @@ use std::sync::Wait;
 use std::thread::Threads;
 use stripes::Keeps;
 use task_pool::Crew;
-use trie_node::NoMemory;
+use trie_node::{NoMemory, Slots, ValueSlots};
 use versions::Version;
 use write_history::Naming;
 
 /// Each question takes a view and works it, so that nobody waits for the work.
-impl<K: PathKey + Drop, V: Drop, P: Keeps<K, V>, J: Naming> TrieMap<K, V, P, J> {
+impl<K: PathKey + Drop, V: Drop, P: Keeps<K, V>, J: Naming, S: Slots<K, V>> TrieMap<K, V, P, J, S>
+where
+    S::Key: Drop,
+    S::Value: Drop,
+{
     /// How many pairs pass the test, of the map as it stands at one moment of the call: a view is taken and walked.
     ///
     /// Cost: O(n), under all locks for the view alone. Refused: `NoMemory`, if memory runs out for the view.
@@ -63,10 +67,10 @@ impl<K: PathKey + Drop, V: Drop, P: Keeps<K, V>, J: Naming> TrieMap<K, V, P, J> 
         &self,
         rt: &R,
         test: F,
-    ) -> Result<Option<Pair<K, V>>, NoMemory>
+    ) -> Result<Option<Pair<K, V, S>>, NoMemory>
         requires callable { F.IsAlwaysCallable test }
-        ensures found { IfOk result (λ found. (m : Map K V) × AllKeep K.cmp P.holds m × ((p : K → V → Bool) → Means (MayAnswer F.Fn test) p → IsFound p m (option_map pair_of found))) }
-        ensures kept { IfOk result (λ found. IfSome found (λ pair. P.holds pair.0.value pair.1.value)) }
+        ensures found { IfOk result (λ found. (m : Map K V) × AllKeep K.cmp P.holds m × ((p : K → V → Bool) → Means (MayAnswer F.Fn test) p → IsFound p m (option_map (pair_of S.key_of S.value_of) found))) }
+        ensures kept { IfOk result (λ found. IfSome found (λ pair. P.holds (S.key_of pair.0) (S.value_of pair.1))) }
     {
         self.view(rt)?.find(test)
     }
@@ -95,7 +99,7 @@ impl<K: PathKey + Drop, V: Drop, P: Keeps<K, V>, J: Naming> TrieMap<K, V, P, J> 
         &self,
         rt: &R,
         test: F,
-    ) -> Result<Version<K, V>, NoMemory>
+    ) -> Result<Version<K, V, S>, NoMemory>
         requires callable { F.IsAlwaysCallable test }
         ensures entries { IfOk result (λ made. (m : Map K V) × AllKeep K.cmp P.holds m × ((p : K → V → Bool) → Means (MayAnswer F.Fn test) p → made.entries ≡ passing p m) × (length made.entries ≤ length m)) }
         ensures limit { IfOk result (λ made. made.limit ≡ MOST_PAIRS) }
@@ -112,14 +116,20 @@ impl<K: PathKey + Drop, V: Drop, P: Keeps<K, V>, J: Naming> TrieMap<K, V, P, J> 
         &self,
         rt: &R,
         change: G,
-    ) -> Result<Version<K, W>, NoMemory>
+    ) -> Result<Version<K, W, S>, NoMemory>
+    where
+        S: Slots<K, W>,
+        <S as ValueSlots<W>>::Value: Drop,
         requires callable { G.IsAlwaysCallable change }
         ensures entries { IfOk result (λ made. (m : Map K V) × AllKeep K.cmp P.holds m × ((f : K → V → W) → Means (MayAnswer G.Fn change) f → made.entries ≡ changed f m) × (length made.entries ≤ length m)) }
         ensures limit { IfOk result (λ made. made.limit ≡ MOST_PAIRS) }
     {
         self.view(rt)?.map_values(change)
     }
+}
 
+/// A query is asked of a map whose keys and values lie behind handles, since its answer has such handles.
+impl<K: PathKey + Drop, V: Drop, P: Keeps<K, V>, J: Naming> TrieMap<K, V, P, J> {
     /// The answer of the query for the map as it stands at one moment of the call, and the map that it makes where it
     /// has a target. It is worked over a view, so that nobody waits for it. The map that it is answered for is one
     /// whose pairs all keep the rule.

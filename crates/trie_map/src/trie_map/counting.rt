@@ -6,9 +6,14 @@ use super::TrieMap;
 use hash_path::PathKey;
 use std::sync::Wait;
 use stripes::Keeps;
+use trie_node::Slots;
 use write_history::Naming;
 
-impl<K: PathKey + Drop, V: Drop, P: Keeps<K, V>, J: Naming> TrieMap<K, V, P, J> {
+impl<K: PathKey + Drop, V: Drop, P: Keeps<K, V>, J: Naming, S: Slots<K, V>> TrieMap<K, V, P, J, S>
+where
+    S::Key: Drop,
+    S::Value: Drop,
+{
     /// How many pairs there are at one moment of the call. Each stripe is taken once those before it are held, in
     /// rising order of digits, as `view` takes them.
     ///

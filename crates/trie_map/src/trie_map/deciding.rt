@@ -1,17 +1,20 @@
 //! Writes of a map that a closure decides on, under the lock of the key's stripe.
 ghost use Rattle.std.specs.Prelude.{◌≡◌, Err, IfErr, IfOk, IfSome, None, Ok, Option, Some, is_some, option_map, true};
-ghost use Rattle.std.specs.Arc.{arc_value};
-ghost use Rattle.stripes.specs.Updates.{MayMake, MayPass};
+ghost use Rattle.stripe.specs.Updates.{MayMake, MayPass};
 
 use super::TrieMap;
 use hash_path::{PathKey, Sought};
 use map_session::PutError;
-use std::sync::{Arc, Wait};
+use std::sync::Wait;
 use stripes::Keeps;
-use trie_node::NoMemory;
+use trie_node::{NoMemory, Slots};
 use write_history::{Author, Naming};
 
-impl<K: PathKey + Drop, V: Drop, P: Keeps<K, V>, J: Naming> TrieMap<K, V, P, J> {
+impl<K: PathKey + Drop, V: Drop, P: Keeps<K, V>, J: Naming, S: Slots<K, V>> TrieMap<K, V, P, J, S>
+where
+    S::Key: Drop,
+    S::Value: Drop,
+{
     /// Calls `change` at the value that the key has, or at none, and stores what it makes of it, as one step: no other
     /// call writes the key between the two. Where it makes none, the key is removed, or stays absent. It returns the
     /// value before, at which `change` was called, or none.
@@ -30,15 +33,14 @@ impl<K: PathKey + Drop, V: Drop, P: Keeps<K, V>, J: Naming> TrieMap<K, V, P, J> 
         rt: &R,
         key: K,
         change: F,
-    ) -> Result<Option<Arc<V>>, PutError>
+    ) -> Result<Option<S::Value>, PutError>
         requires callable { (old : _) → IfSome old (λ value. P.holds key value.now) → F.pre change old }
         requires rule { (old : _) (made : _) → IfSome old (λ value. P.holds key value.now) → F.post change old made → IfSome made (P.holds key) }
-        ensures made { IfOk result (λ before. (made : Option V) × MayMake F.FnOnce change (option_map arc_value before) made) }
+        ensures made { IfOk result (λ before. (made : Option V) × MayMake F.FnOnce change (option_map S.value_of before) made) }
         ensures full { result ≡ Err PutError.Full → (value : V) × MayMake F.FnOnce change None (Some value) }
-        ensures kept { IfOk result (λ before. IfSome before (λ found. P.holds key found.value)) }
+        ensures kept { IfOk result (λ before. IfSome before (λ found. P.holds key (S.value_of found))) }
     {
         let path = key.path();
-        let key = Arc::new(self.alloc, key)?;
         let mut stripe = self.row.stripe_at(rt, path);
         match stripe.update(self.alloc, key, path, change, &mut Author::nobody()) {
             Ok(before) => Ok(before),
@@ -65,7 +67,6 @@ impl<K: PathKey + Drop, V: Drop, P: Keeps<K, V>, J: Naming> TrieMap<K, V, P, J> 
         ensures full { result ≡ Err PutError.Full → (value : V) × (answer : T) × MayMake F.FnOnce change None (Some value, answer) }
     {
         let path = key.path();
-        let key = Arc::new(self.alloc, key)?;
         let mut stripe = self.row.stripe_at(rt, path);
         let done = stripe.update_with(self.alloc, key, path, change, &mut Author::nobody());
         drop(stripe);
@@ -84,16 +85,15 @@ impl<K: PathKey + Drop, V: Drop, P: Keeps<K, V>, J: Naming> TrieMap<K, V, P, J> 
         rt: &R,
         key: K,
         change: F,
-    ) -> Result<Result<Option<Arc<V>>, E>, PutError>
+    ) -> Result<Result<Option<S::Value>, E>, PutError>
         requires callable { (old : _) → IfSome old (λ value. P.holds key value.now) → F.pre change old }
         requires rule { (old : _) (made : _) → IfSome old (λ value. P.holds key value.now) → F.post change old made → IfOk made (λ new. IfSome new (P.holds key)) }
-        ensures made { IfOk result (λ done. IfOk done (λ before. (made : Option V) × MayMake F.FnOnce change (option_map arc_value before) (Ok made))) }
+        ensures made { IfOk result (λ done. IfOk done (λ before. (made : Option V) × MayMake F.FnOnce change (option_map S.value_of before) (Ok made))) }
         ensures failed { IfOk result (λ done. IfErr done (λ error. (old : Option V) × IfSome old (P.holds key) × MayMake F.FnOnce change old (Err error))) }
         ensures full { result ≡ Err PutError.Full → (value : V) × MayMake F.FnOnce change None (Ok (Some value)) }
-        ensures kept { IfOk result (λ done. IfOk done (λ before. IfSome before (λ found. P.holds key found.value))) }
+        ensures kept { IfOk result (λ done. IfOk done (λ before. IfSome before (λ found. P.holds key (S.value_of found)))) }
     {
         let path = key.path();
-        let key = Arc::new(self.alloc, key)?;
         let mut stripe = self.row.stripe_at(rt, path);
         stripe.law();
         match stripe.try_update(self.alloc, key, path, change, &mut Author::nobody()) {
@@ -112,11 +112,11 @@ impl<K: PathKey + Drop, V: Drop, P: Keeps<K, V>, J: Naming> TrieMap<K, V, P, J> 
         rt: &R,
         key: Q,
         test: F,
-    ) -> Result<Option<Arc<V>>, NoMemory>
+    ) -> Result<Option<S::Value>, NoMemory>
         requires callable { (value : _) → P.holds (Q.key_of key) value.now → F.pre test value }
         ensures tested { IfOk result (λ removed. (found : Option V) × IfSome found (P.holds (Q.key_of key)) × MayPass F.FnOnce test found (is_some removed)) }
-        ensures removed { IfOk result (λ removed. IfSome removed (λ value. MayPass F.FnOnce test (Some value.value) true)) }
-        ensures kept { IfOk result (λ removed. IfSome removed (λ value. P.holds (Q.key_of key) value.value)) }
+        ensures removed { IfOk result (λ removed. IfSome removed (λ value. MayPass F.FnOnce test (Some (S.value_of value)) true)) }
+        ensures kept { IfOk result (λ removed. IfSome removed (λ value. P.holds (Q.key_of key) (S.value_of value))) }
     {
         let path = key.path_sought();
         let mut stripe = self.row.stripe_at(rt, path);

@@ -8,16 +8,21 @@ use hash_path::PathKey;
 use map_session::PutError;
 use std::sync::Wait;
 use stripes::Keeps;
-use write_history::Naming;
+use trie_node::Slots;
+use write_history::{Naming, Unnamed};
 
-impl<K: PathKey + Drop, V: Drop, P: Keeps<K, V>> TrieMap<K, V, P> {
+impl<K: PathKey + Drop, V: Drop, P: Keeps<K, V>, S: Slots<K, V>> TrieMap<K, V, P, Unnamed, S>
+where
+    S::Key: Drop,
+    S::Value: Drop,
+{
     /// A map of the pairs, which are put in order: of several with one key the last stays. The iterator has to end.
     ///
     /// Cost: O(n log n) for n pairs, a lock each. Refused: as `put`.
     pub fn from_pairs<R: AllocGlobal + Wait, I: IntoIterator<Item = (K, V)> + Drop>(
         rt: &R,
         pairs: I,
-    ) -> Result<TrieMap<K, V, P>, PutError>
+    ) -> Result<TrieMap<K, V, P, Unnamed, S>, PutError>
         requires ends { IsFiniteIterable I.into_iter_gives I.IntoIter.can_next I.IntoIter.remaining pairs }
         requires rule { EachKeeps P.holds I.into_iter_gives I.IntoIter.next_gives pairs }
     {
@@ -27,7 +32,11 @@ impl<K: PathKey + Drop, V: Drop, P: Keeps<K, V>> TrieMap<K, V, P> {
     }
 }
 
-impl<K: PathKey + Drop, V: Drop, P: Keeps<K, V>, J: Naming> TrieMap<K, V, P, J> {
+impl<K: PathKey + Drop, V: Drop, P: Keeps<K, V>, J: Naming, S: Slots<K, V>> TrieMap<K, V, P, J, S>
+where
+    S::Key: Drop,
+    S::Value: Drop,
+{
     /// Puts each of the pairs, in order. Where one is refused, those before it are in the map.
     ///
     /// Cost: O(k log n) for k pairs, a lock each. Refused: as `put`.

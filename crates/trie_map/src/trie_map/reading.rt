@@ -5,9 +5,14 @@ use super::TrieMap;
 use hash_path::{PathKey, Sought};
 use std::sync::Wait;
 use stripes::Keeps;
+use trie_node::Slots;
 use write_history::Naming;
 
-impl<K: PathKey + Drop, V: Drop, P: Keeps<K, V>, J: Naming> TrieMap<K, V, P, J> {
+impl<K: PathKey + Drop, V: Drop, P: Keeps<K, V>, J: Naming, S: Slots<K, V>> TrieMap<K, V, P, J, S>
+where
+    S::Key: Drop,
+    S::Value: Drop,
+{
     /// What `look` returns of the value of the key, or of none: a value is read where it is, and no handle on it is
     /// cloned. So it costs less than `get`.
     ///
@@ -30,7 +35,17 @@ impl<K: PathKey + Drop, V: Drop, P: Keeps<K, V>, J: Naming> TrieMap<K, V, P, J> 
     }
 }
 
-impl<K: PathKey + Drop, V: Copy + Drop, P: Keeps<K, V>, J: Naming> TrieMap<K, V, P, J> {
+impl<K: PathKey + Drop, V: Copy + Drop, P: Keeps<K, V>, J: Naming, S: Slots<K, V>> TrieMap<
+    K,
+    V,
+    P,
+    J,
+    S,
+>
+where
+    S::Key: Drop,
+    S::Value: Drop,
+{
     /// A copy of the value of the key, or none. No handle on it is cloned, so it costs less than `get`.
     ///
     /// Cost: O(log n), under the lock of the key's stripe. Refused: never.
@@ -40,7 +55,7 @@ impl<K: PathKey + Drop, V: Copy + Drop, P: Keeps<K, V>, J: Naming> TrieMap<K, V,
         let path = key.path_sought();
         let stripe = self.row.stripe_at(rt, path);
         match stripe.get(key, path) {
-            Some(value) => Some(**value),
+            Some(value) => Some(*S::lend_value(value)),
             None => None,
         }
     }

@@ -1,19 +1,23 @@
 //! Values that are put as they are shared, and new values for all keys.
 ghost use Rattle.std.specs.Prelude.{◌≡◌, ◌≤◌, IfOk, IfSome, length};
 ghost use Rattle.bulk_ops.specs.Meanings.{MayAnswer};
-ghost use Rattle.stripes.specs.Rules.{AllKeep};
+ghost use Rattle.stripe.specs.Rules.{AllKeep};
 ghost use Rattle.versions.specs.Map.{Map};
 
 use super::TrieMap;
 use hash_path::PathKey;
 use map_session::{PutError, made_at, put_present};
 use map_view::View;
-use std::sync::{Arc, Wait};
+use std::sync::Wait;
 use stripes::Keeps;
-use trie_node::{Always, IfAbsent, IfPresent, NoMemory};
+use trie_node::{IfPresent, NoMemory, Slots};
 use write_history::{Author, Naming};
 
-impl<K: PathKey + Drop, V: Drop, P: Keeps<K, V>, J: Naming> TrieMap<K, V, P, J> {
+impl<K: PathKey + Drop, V: Drop, P: Keeps<K, V>, J: Naming, S: Slots<K, V>> TrieMap<K, V, P, J, S>
+where
+    S::Key: Drop,
+    S::Value: Drop,
+{
     /// Maps the key to a value that is shared already, as `get` and a view lend it, and returns the value before, or
     /// none. The value is not copied.
     ///
@@ -22,14 +26,17 @@ impl<K: PathKey + Drop, V: Drop, P: Keeps<K, V>, J: Naming> TrieMap<K, V, P, J> 
         &self,
         rt: &R,
         key: K,
-        value: Arc<V>,
-    ) -> Result<Option<Arc<V>>, PutError>
-        requires { P.holds key value.value }
-        ensures kept { IfOk result (λ before. IfSome before (λ found. P.holds key found.value)) }
+        value: S::Value,
+    ) -> Result<Option<S::Value>, PutError>
+        requires { P.holds key (S.value_of value) }
+        ensures kept { IfOk result (λ before. IfSome before (λ found. P.holds key (S.value_of found))) }
     {
         let path = key.path();
-        let key = Arc::new(self.alloc, key)?;
-        Ok(self.write(rt, key, path, value, &Always)?.previous)
+        let mut stripe = self.row.stripe_at(rt, path);
+        match stripe.put(self.alloc, key, path, value, &mut Author::nobody()) {
+            Ok(before) => Ok(before),
+            Err(refusal) => Err(PutError::of(refusal)),
+        }
     }
 
     /// What `put_if_absent` does with a value that is shared already.
@@ -39,14 +46,13 @@ impl<K: PathKey + Drop, V: Drop, P: Keeps<K, V>, J: Naming> TrieMap<K, V, P, J> 
         &self,
         rt: &R,
         key: K,
-        value: Arc<V>,
-    ) -> Result<Option<Arc<V>>, PutError>
-        requires { P.holds key value.value }
-        ensures kept { IfOk result (λ before. IfSome before (λ found. P.holds key found.value)) }
+        value: S::Value,
+    ) -> Result<Option<S::Value>, PutError>
+        requires { P.holds key (S.value_of value) }
+        ensures kept { IfOk result (λ before. IfSome before (λ found. P.holds key (S.value_of found))) }
     {
         let path = key.path();
-        let key = Arc::new(self.alloc, key)?;
-        Ok(self.write(rt, key, path, value, &IfAbsent)?.previous)
+        self.put_absent(rt, key, path, value)
     }
 
     /// What `replace` does with a value that is shared already.
@@ -56,17 +62,12 @@ impl<K: PathKey + Drop, V: Drop, P: Keeps<K, V>, J: Naming> TrieMap<K, V, P, J> 
         &self,
         rt: &R,
         key: K,
-        value: Arc<V>,
-    ) -> Result<Option<Arc<V>>, NoMemory>
-        requires { P.holds key value.value }
-        ensures kept { IfOk result (λ before. IfSome before (λ found. P.holds key found.value)) }
+        value: S::Value,
+    ) -> Result<Option<S::Value>, NoMemory>
+        requires { P.holds key (S.value_of value) }
+        ensures kept { IfOk result (λ before. IfSome before (λ found. P.holds key (S.value_of found))) }
     {
-        let path = key.path();
-        let key = Arc::new(self.alloc, key)?;
-        Ok(
-            self.write_present(rt, key, path, value, &IfPresent)?
-                .previous,
-        )
+        Ok(self.replace_where(rt, key, value, &IfPresent)?.previous)
     }
 
     /// Gives each key the value that the closure makes of its pair, and returns how many keys it gave one.
@@ -97,7 +98,7 @@ impl<K: PathKey + Drop, V: Drop, P: Keeps<K, V>, J: Naming> TrieMap<K, V, P, J> 
     fn replace_each<R: Wait, F: Fn(&K, &V) -> V>(
         &self,
         rt: &R,
-        view: &View<K, V, P>,
+        view: &View<K, V, P, S>,
         change: &F,
     ) -> Result<u64, NoMemory>
         requires callable { F.IsAlwaysCallable change.now }
@@ -117,23 +118,23 @@ impl<K: PathKey + Drop, V: Drop, P: Keeps<K, V>, J: Naming> TrieMap<K, V, P, J> 
     fn replace_by<R: Wait, F: Fn(&K, &V) -> V>(
         &self,
         rt: &R,
-        key: &Arc<K>,
+        key: &S::Key,
         change: &F,
-    ) -> Result<Option<Arc<V>>, NoMemory>
+    ) -> Result<Option<S::Value>, NoMemory>
         requires callable { F.IsAlwaysCallable change.now }
         requires rule { (key : K) (old made : V) → P.holds key old → MayAnswer F.Fn change.now key old made → P.holds key made }
-        ensures kept { IfOk result (λ before. IfSome before (λ found. P.holds key.now.value found.value)) }
+        ensures kept { IfOk result (λ before. IfSome before (λ found. P.holds (S.key_of key.now) (S.value_of found))) }
     {
-        let path = key.path();
+        let path = S::lend_key(key).path();
         let mut stripe = self.row.stripe_at(rt, path);
         let Some(made) = made_at(&stripe, key, path, change) else {
             return Ok(None);
         };
-        let made = Arc::new(self.alloc, made)?;
+        let made = S::new_value(self.alloc, made)?;
         put_present(
             self.alloc,
             &mut stripe,
-            Arc::try_clone(key)?,
+            S::another_key(key)?,
             path,
             made,
             &mut Author::nobody(),

@@ -1,7 +1,7 @@
 //! Maps whose whole content comes from a view, or from a map of one owner.
 ghost use Rattle.std.specs.Prelude.{◌≡◌, IfOk};
 ghost use Rattle.hash_path.specs.Digits.{fan_out};
-ghost use Rattle.stripes.specs.Rules.{AllKeep};
+ghost use Rattle.stripe.specs.Rules.{AllKeep};
 ghost use Rattle.stripes.specs.Stripes.{digits_of, up_to};
 
 use super::TrieMap;
@@ -11,12 +11,18 @@ use map_view::View;
 use std::alloc::Global;
 use std::sync::Wait;
 use stripes::{Keeps, Stripe, Stripes, exchange_all, joined_while_held, parted};
+use trie_node::Slots;
 use united_roots::RootRow;
 use versions::Version;
+use write_history::Unnamed;
 
 /// What is made shares every key, every value and nearly every node with what it is made of: 33 nodes are new, however
 /// many pairs there are.
-impl<K: PathKey + Drop, V: Drop, P: Keeps<K, V>> TrieMap<K, V, P> {
+impl<K: PathKey + Drop, V: Drop, P: Keeps<K, V>, S: Slots<K, V>> TrieMap<K, V, P, Unnamed, S>
+where
+    S::Key: Drop,
+    S::Value: Drop,
+{
     /// A map with the pairs of a view.
     ///
     /// That each of its pairs keeps the rule is part of its type. Which pairs it has no clause can say: tests do.
@@ -25,8 +31,8 @@ impl<K: PathKey + Drop, V: Drop, P: Keeps<K, V>> TrieMap<K, V, P> {
     /// runs out.
     pub fn from_view<R: AllocGlobal>(
         rt: &R,
-        view: &View<K, V, P>,
-    ) -> Result<TrieMap<K, V, P>, PutError> {
+        view: &View<K, V, P, S>,
+    ) -> Result<TrieMap<K, V, P, Unnamed, S>, PutError> {
         TrieMap::from_version(rt, view.whole())
     }
 
@@ -35,8 +41,8 @@ impl<K: PathKey + Drop, V: Drop, P: Keeps<K, V>> TrieMap<K, V, P> {
     /// Cost: O(1), no lock. Refused: as `from_view`.
     pub fn from_version<R: AllocGlobal>(
         rt: &R,
-        version: &Version<K, V>,
-    ) -> Result<TrieMap<K, V, P>, PutError>
+        version: &Version<K, V, S>,
+    ) -> Result<TrieMap<K, V, P, Unnamed, S>, PutError>
         requires rule { AllKeep K.cmp P.holds version.now.entries }
     {
         let alloc = rt.alloc();
@@ -53,7 +59,11 @@ impl<K: PathKey + Drop, V: Drop, P: Keeps<K, V>> TrieMap<K, V, P> {
     ///
     /// Cost: O(1), under all locks. Refused: `Full`, where a stripe would have more than 524,288 pairs, which no view of
     /// a map has; `NoMemory`, if memory runs out.
-    pub fn restore<R: Wait>(&self, rt: &R, view: &View<K, V, P>) -> Result<View<K, V, P>, PutError>
+    pub fn restore<R: Wait>(
+        &self,
+        rt: &R,
+        view: &View<K, V, P, S>,
+    ) -> Result<View<K, V, P, S>, PutError>
         ensures before { IfOk result (λ before. AllKeep K.cmp P.holds before) }
     {
         self.restore_version(rt, view.whole())
@@ -65,8 +75,8 @@ impl<K: PathKey + Drop, V: Drop, P: Keeps<K, V>> TrieMap<K, V, P> {
     pub fn restore_version<R: Wait>(
         &self,
         rt: &R,
-        version: &Version<K, V>,
-    ) -> Result<View<K, V, P>, PutError>
+        version: &Version<K, V, S>,
+    ) -> Result<View<K, V, P, S>, PutError>
         requires rule { AllKeep K.cmp P.holds version.now.entries }
         ensures before { IfOk result (λ before. AllKeep K.cmp P.holds before) }
     {
@@ -81,10 +91,13 @@ impl<K: PathKey + Drop, V: Drop, P: Keeps<K, V>> TrieMap<K, V, P> {
 }
 
 // The stripes of a map.
-fn parts<K: PathKey + Drop, V: Drop, P: Keeps<K, V>>(
+fn parts<K: PathKey + Drop, V: Drop, P: Keeps<K, V>, S: Slots<K, V>>(
     alloc: Global,
-    version: &Version<K, V>,
-) -> Result<Vec<Stripe<K, V, P>>, PutError>
+    version: &Version<K, V, S>,
+) -> Result<Vec<Stripe<K, V, P, Unnamed, S>>, PutError>
+where
+    S::Key: Drop,
+    S::Value: Drop,
     requires rule { AllKeep K.cmp P.holds version.now.entries }
     ensures digits { IfOk result (λ stripes. digits_of stripes.items ≡ up_to fan_out) }
 {

@@ -1,22 +1,26 @@
 //! The removal of the pairs that fail a test.
 ghost use Rattle.std.specs.Prelude.{◌≡◌, ◌≢◌, ◌≤◌, All, AllPairs, Bool, IfOk, IfSome, IsTrue, OnErr, false, if◌then◌else◌, is_some, length};
 ghost use Rattle.bulk_ops.specs.Meanings.{MayAnswer, Means};
-ghost use Rattle.stripes.specs.Rules.{AllKeep, first_digit as digit_of};
+ghost use Rattle.stripe.specs.Rules.{AllKeep, first_digit as digit_of};
 ghost use Rattle.map_view.specs.Questions.{failing};
 ghost use Rattle.versions.specs.Map.{Map, without};
 
 use super::TrieMap;
-use closure_ops::answer_at;
+use closure_ops::answer_in;
 use hash_path::{Path, PathKey};
 use map_session::passes;
 use map_view::View;
 use std::alloc::Global;
-use std::sync::{Arc, Wait};
+use std::sync::Wait;
 use stripes::{Keeps, Stripe};
-use trie_node::NoMemory;
+use trie_node::{NoMemory, Slots};
 use write_history::{Author, Naming};
 
-impl<K: PathKey + Drop, V: Drop, P: Keeps<K, V>, J: Naming> TrieMap<K, V, P, J> {
+impl<K: PathKey + Drop, V: Drop, P: Keeps<K, V>, J: Naming, S: Slots<K, V>> TrieMap<K, V, P, J, S>
+where
+    S::Key: Drop,
+    S::Value: Drop,
+{
     /// Removes the pairs that fail the test, and returns how many it removed.
     ///
     /// A view is taken and walked, so that nobody waits for the walk. Where a pair of the view fails the test, the
@@ -43,7 +47,7 @@ impl<K: PathKey + Drop, V: Drop, P: Keeps<K, V>, J: Naming> TrieMap<K, V, P, J> 
     fn remove_all_failing<R: Wait, F: Fn(&K, &V) -> bool>(
         &self,
         rt: &R,
-        view: &View<K, V, P>,
+        view: &View<K, V, P, S>,
         test: &F,
     ) -> Result<u64, NoMemory>
         requires callable { F.IsAlwaysCallable test.now }
@@ -65,15 +69,15 @@ impl<K: PathKey + Drop, V: Drop, P: Keeps<K, V>, J: Naming> TrieMap<K, V, P, J> 
     fn remove_if_both_fail<R: Wait, F: Fn(&K, &V) -> bool>(
         &self,
         rt: &R,
-        key: &Arc<K>,
-        seen: &Arc<V>,
+        key: &S::Key,
+        seen: &S::Value,
         test: &F,
     ) -> Result<bool, NoMemory>
         requires { F.IsAlwaysCallable test.now }
-        ensures seen { IfOk result (λ removed. IsTrue removed → MayAnswer F.Fn test.now key.now.value seen.now.value false) }
-        ensures failed { IfOk result (λ removed. IsTrue removed → (value : V) × P.holds key.now.value value × MayAnswer F.Fn test.now key.now.value value false) }
+        ensures seen { IfOk result (λ removed. IsTrue removed → MayAnswer F.Fn test.now (S.key_of key.now) (S.value_of seen.now) false) }
+        ensures failed { IfOk result (λ removed. IsTrue removed → (value : V) × P.holds (S.key_of key.now) value × MayAnswer F.Fn test.now (S.key_of key.now) value false) }
     {
-        if answer_at(test, key, seen) {
+        if answer_in::<K, V, S, _, _>(test, key, seen) {
             return Ok(false);
         }
         Ok(self.remove_failing(rt, key, test)?.is_some())
@@ -83,13 +87,13 @@ impl<K: PathKey + Drop, V: Drop, P: Keeps<K, V>, J: Naming> TrieMap<K, V, P, J> 
     fn remove_failing<R: Wait, F: Fn(&K, &V) -> bool>(
         &self,
         rt: &R,
-        key: &Arc<K>,
+        key: &S::Key,
         test: &F,
-    ) -> Result<Option<Arc<V>>, NoMemory>
+    ) -> Result<Option<S::Value>, NoMemory>
         requires { F.IsAlwaysCallable test.now }
-        ensures { IfOk result (λ removed. IfSome removed (λ value. P.holds key.now.value value.value × MayAnswer F.Fn test.now key.now.value value.value false)) }
+        ensures { IfOk result (λ removed. IfSome removed (λ value. P.holds (S.key_of key.now) (S.value_of value) × MayAnswer F.Fn test.now (S.key_of key.now) (S.value_of value) false)) }
     {
-        let path = key.path();
+        let path = S::lend_key(key).path();
         let mut stripe = self.row.stripe_at(rt, path);
         remove_failing(self.alloc, &mut stripe, key, path, test)
     }
@@ -97,24 +101,34 @@ impl<K: PathKey + Drop, V: Drop, P: Keeps<K, V>, J: Naming> TrieMap<K, V, P, J> 
 
 // Removes the key from its stripe where its value fails the test, and returns the value that was removed, or none. The
 // only error is `NoMemory`, if memory runs out. The stripe is then as before.
-fn remove_failing<K: PathKey + Drop, V: Drop, P: Keeps<K, V>, J: Naming, F: Fn(&K, &V) -> bool>(
+fn remove_failing<
+    K: PathKey + Drop,
+    V: Drop,
+    P: Keeps<K, V>,
+    J: Naming,
+    S: Slots<K, V>,
+    F: Fn(&K, &V) -> bool,
+>(
     alloc: Global,
-    stripe: &mut Stripe<K, V, P, J>,
-    key: &Arc<K>,
+    stripe: &mut Stripe<K, V, P, J, S>,
+    key: &S::Key,
     path: Path,
     test: &F,
-) -> Result<Option<Arc<V>>, NoMemory>
+) -> Result<Option<S::Value>, NoMemory>
+where
+    S::Key: Drop,
+    S::Value: Drop,
     requires callable { F.IsAlwaysCallable test.now }
-    requires path { path.0 ≡ K.path_of key.now.value }
-    requires place { digit_of K.path_of key.now.value ≡ stripe.old.digit }
-    ensures kept { IfOk result (λ removed. IfSome removed (λ value. P.holds key.now.value value.value)) }
-    ensures removed { IfOk result (λ removed. IfSome removed (λ value. MayAnswer F.Fn test.now key.now.value value.value false)) }
-    ensures entries { IfOk result (λ removed. stripe.new.entries ≡ (if is_some removed then without K.cmp stripe.old.entries key.now.value else stripe.old.entries)) }
+    requires path { path.0 ≡ K.path_of (S.key_of key.now) }
+    requires place { digit_of K.path_of (S.key_of key.now) ≡ stripe.old.digit }
+    ensures kept { IfOk result (λ removed. IfSome removed (λ value. P.holds (S.key_of key.now) (S.value_of value))) }
+    ensures removed { IfOk result (λ removed. IfSome removed (λ value. MayAnswer F.Fn test.now (S.key_of key.now) (S.value_of value) false)) }
+    ensures entries { IfOk result (λ removed. stripe.new.entries ≡ (if is_some removed then without K.cmp stripe.old.entries (S.key_of key.now) else stripe.old.entries)) }
     ensures digit { stripe.new.digit ≡ stripe.old.digit }
     ensures err { OnErr result (stripe.new ≡ stripe.old) }
 {
     if passes(stripe, key, path, test) {
         return Ok(None);
     }
-    stripe.remove(alloc, key, path, &mut Author::nobody())
+    stripe.remove(alloc, S::lend_key(key), path, &mut Author::nobody())
 }

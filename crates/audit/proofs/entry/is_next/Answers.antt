@@ -11,11 +11,11 @@ returns-in_default-2 c =
     let at : c.from-number.result ≡ c.args.table.now.entries = search rules in
     no_line c.args.table.now c.args.line.now c.in-Some.bytes.now (c.from-number.result + 1) c.in-Some.ensures (ap (λ (n : ℕ). n + 1) at) (none_said _ _ c.in_ok-found.field-0 c.in_default-2.is c.in_ok-found.ensures)
 
-pub returns-then-found-gt63 : goal.returns-then-found-gt63
-returns-then-found-gt63 c =
+pub returns-then-found-from : goal.returns-then-found-from
+returns-then-found-from c =
     let at : c.from-number.result ≡ c.args.table.now.entries = search rules in
     no_seat c.args.table.now c.args.line.now c.in-Some.bytes.now _ _ (c.from-number.result + 1) c.in-Some-2.found.seat c.in-Some.ensures (ap (λ (n : ℕ). n + 1) at) (omega arith) (omega arith)
-    (some_said _ _ c.in_ok-found.field-0 c.in-Some-2.found c.in-Some-2.is c.in_ok-found.ensures) (omega arith)
+    (some_said _ _ c.in_ok-found.field-0 c.in-Some-2.found c.in-Some-2.is c.in_ok-found.ensures) (search rules)
 
 pub returns-in_default-3 : goal.returns-in_default-3
 returns-in_default-3 c =

@@ -7,10 +7,10 @@ use Rattle.audit.proofs.ReplyPartLemmas.{images_none, never_shown}
 use Rattle.audit.proofs.images.images_in_reply.Goals as goal
 
 -- the only map that the text may show has another text
-pub returns : goal.returns
-returns c =
+pub returns-in-Ok-false : goal.returns-in-Ok-false
+returns-in-Ok-false c =
     let made = c.in_ok-map.map.entries in
-    let listed : c.in_ok-listing_of.field-0 ≡ made = c.in_ok-listing_of.ensures ∙ c.in_ok-images.ensures in
-    images_none c.args.query.now c.args.mapping.now c.requires.0 c.args.view.now c.in_ok-some.some.entries c.in_ok-read.read.entries made c.args.reply.now c.requires.1 c.in_ok-some.ensures.image c.in_ok-some.ensures.sorted c.in_ok-read.ensures
+    let listed : c.in-Ok-view.images ≡ made = c.in-Ok-view.ensures in
+    images_none c.args.query.now c.args.mapping.now c.requires.0 c.args.view.now c.in_ok-some.some.entries c.in-Ok.read.entries made c.args.reply.now c.requires.1 c.in_ok-some.ensures.image c.in_ok-some.ensures.sorted c.in-Ok.ensures
     c.in_ok-map.ensures.read
-    (λ e. never_shown c.in_ok-is_shown_as.field-0 c.if-branch.false (c.in_ok-is_shown_as.ensures.1 (e ∙ ap (λ (l : Map (List ℕ) ℤ). text_of (replies.Pairs l)) (sym listed))))
+    (λ e. never_shown c.in-Ok-false.field-0 c.in-Ok-false.field-0-test (c.in-Ok-false.ensures.1 (e ∙ ap (λ (l : Map (List ℕ) ℤ). text_of (replies.Pairs l)) (sym listed))))

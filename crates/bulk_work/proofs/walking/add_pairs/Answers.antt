@@ -12,7 +12,7 @@ pub loop-key-init : goal.loop-key-init
 loop-key-init g c =
     let R = g.K.Ord.cmp in
     let path = g.K.PathKey.path_of in
-    let answers = g.B.Bulk.answers c.args.bulk.now in
+    let answers = g.B.BulkIn.answers c.args.bulk.now in
     let all = part path c.args.piece.now.map c.args.piece.now.interval in
     let laws = c.walk_lists_map.ensures in
     let walk : c.into_iter-key-iterator.result ≡ walked R path all = c.into_iter-key-iterator.ensures.into_iter_gives ∙ c.bunched_pairs-key-items.ensures.walk in
@@ -26,8 +26,8 @@ loop-key-init g c =
 pub add-requires-clause-apart : goal.add-requires-clause-apart
 add-requires-clause-apart g c =
     let R = g.K.Ord.cmp in
-    let answers = g.B.Bulk.answers c.args.bulk.now in
-    let pair : g.row.K.Denot × g.row.V.Denot = (c.in-Some.key.now.value, c.in-Some.value.now.value) in
+    let answers = g.B.BulkIn.answers c.args.bulk.now in
+    let pair : g.row.K.Denot × g.row.V.Denot = (g.S.KeySlots.key_of c.in-Some.key.now, g.S.ValueSlots.value_of c.in-Some.value.now) in
     let all = part g.K.PathKey.path_of c.args.piece.now.map c.args.piece.now.interval in
     let next : ((m : Map g.row.K.Denot g.row.V.Denot) × answers m c.args.begun × AreApart R m all) → (m : Map g.row.K.Denot g.row.V.Denot) × answers m c.loop-key.made × AreApart R (pair ∷ []) m = λ x.
     let work = subst (λ rest. Working R answers rest (union R x.0 all) c.loop-key.made) c.in-Some.ensures.steps (c.loop-key.invariant.working x.0 x.1 x.2) in
@@ -38,8 +38,8 @@ add-requires-clause-apart g c =
 pub returns-then-settled : goal.returns-then-settled
 returns-then-settled g c = λ m is apart.
     let R = g.K.Ord.cmp in
-    let answers = g.B.Bulk.answers c.args.bulk.now in
-    let pair : g.row.K.Denot × g.row.V.Denot = (c.in-Some.key.now.value, c.in-Some.value.now.value) in
+    let answers = g.B.BulkIn.answers c.args.bulk.now in
+    let pair : g.row.K.Denot × g.row.V.Denot = (g.S.KeySlots.key_of c.in-Some.key.now, g.S.ValueSlots.value_of c.in-Some.value.now) in
     let both = union R m (part g.K.PathKey.path_of c.args.piece.now.map c.args.piece.now.interval) in
     let work = subst (λ rest. Working R answers rest both c.loop-key.made) c.in-Some.ensures.steps (c.loop-key.invariant.working m is apart) in
     let next = worked R g.met.K.Ord.total answers pair c.next.new.self both c.loop-key.made c.add.new.part work c.in-Ok.ensures.added in
@@ -48,8 +48,8 @@ returns-then-settled g c = λ m is apart.
 pub loop-key-preserved : goal.loop-key-preserved
 loop-key-preserved g c =
     let R = g.K.Ord.cmp in
-    let answers = g.B.Bulk.answers c.args.bulk.now in
-    let pair : g.row.K.Denot × g.row.V.Denot = (c.in-Some.key.now.value, c.in-Some.value.now.value) in
+    let answers = g.B.BulkIn.answers c.args.bulk.now in
+    let pair : g.row.K.Denot × g.row.V.Denot = (g.S.KeySlots.key_of c.in-Some.key.now, g.S.ValueSlots.value_of c.in-Some.value.now) in
     let all = part g.K.PathKey.path_of c.args.piece.now.map c.args.piece.now.interval in
     record {
       next = tt;
@@ -64,4 +64,4 @@ pub returns : goal.returns
 returns g c = λ m is apart.
     let R = g.K.Ord.cmp in
     let both = union R m (part g.K.PathKey.path_of c.args.piece.now.map c.args.piece.now.interval) in
-    ended R g.met.K.Ord.total (g.B.Bulk.answers c.args.bulk.now) both c.loop-key.made c.loop-key.key-iterator c.in-None.ensures.steps.0 (c.loop-key.invariant.working m is apart)
+    ended R g.met.K.Ord.total (g.B.BulkIn.answers c.args.bulk.now) both c.loop-key.made c.loop-key.key-iterator c.in-None.ensures.steps.0 (c.loop-key.invariant.working m is apart)

@@ -5,8 +5,8 @@ use Rattle.c_map.specs.Pages.{spelled}
 use Rattle.c_map.proofs.page.fill_pairs.Given as goal
 
 -- the page with the pairs so far
-abbrev pub invariant-loop-key : goal.invariant-loop-key
-invariant-loop-key g l = record {
-  filled : (l.at, l.buffer) ≡ filled (spelled g.V.Shown.number g.V.Shown.bytes) (l.initial.at, l.initial.buffer) (map pair_values (take l.key-index l.pairs));
+abbrev pub invariant-loop-pair : goal.invariant-loop-pair
+invariant-loop-pair g l = record {
+  filled : (l.at, l.buffer) ≡ filled (spelled g.V.Shown.number g.V.Shown.bytes) (l.initial.at, l.initial.buffer) (map pair_values (take l.pair-index l.pairs));
   few : l.at.pairs ≤ l.at.used;
 }

@@ -17,7 +17,7 @@ count_own-count-requires g t c κs within =
     let below : c.loop-n.n < length (children whole) = omega (arith, long) in
     let fewer = fewer_below whole c.loop-n.n child below c.child.ensures in
     let fits = c.bitmap_counts_children.ensures.below whole child c.loop-n.n c.requires.fits below c.child.ensures in
-    (omega (arith, fewer), (search rules, (search rules, (fits, omega (arith, fewer, c.requires.few)))))
+    (omega (arith, fewer), (search rules, (search rules, (search rules, (search rules, (search rules, (fits, omega (arith, fewer, c.requires.few))))))))
 
 pub overflow_add-count : goal.overflow_add-count
 overflow_add-count g t c =

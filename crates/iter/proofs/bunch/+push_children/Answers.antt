@@ -25,7 +25,7 @@ push_children-requires g t c κs within =
     let pairs = pairs_opened (tree child) below c.in-Branch.ensures in
     let nodes = nodes_opened (tree child) below c.in-Branch.ensures in
     let fewer = node_within row child n c.loop-child-test.true c.child-item.is in
-    (omega (arith, nodes, fewer), (search rules, (search rules, (search rules, omega (arith, room, ap length pairs, c.requires.room)))))
+    (omega (arith, nodes, fewer), (search rules, (search rules, (search rules, (search rules, (search rules, (search rules, omega (arith, room, ap length pairs, c.requires.room))))))))
 
 pub loop-child-preserved : goal.loop-child-preserved
 loop-child-preserved g t c =

@@ -6,7 +6,7 @@ use Rattle.many_writes.proofs.puts.put_behind.Given as goal
 -- all have gone on
 abbrev pub invariant-loop-next : goal.invariant-loop-next
 invariant-loop-next g l = record {
-  goes : AllZip (Goes (λ pair found. IfSome found (λ value. g.P.Keeps.holds pair.0 value.value))) l.fn.turns l.turns;
+  goes : AllZip (Goes (λ pair found. IfSome found (λ value. g.P.Keeps.holds pair.0 (g.S.ValueSlots.value_of value)))) l.fn.turns l.turns;
   digit : l.stripe.digit ≡ l.fn.stripe.digit;
 }
 

@@ -1,6 +1,5 @@
-use Rattle.std.proofs.Common.{◌≡◌, Global, Option, IfSome, length, drop, take_at, ap, sym, ◌∙◌, subst, arith, All}
+use Rattle.std.proofs.Common.{◌≡◌, Option, IfSome, length, drop, take_at, ap, sym, ◌∙◌, subst, arith, All}
 use Rattle.std.specs.List.{AllZip}
-use Rattle.std.specs.declared.sync.Arc.{Arc}
 use Rattle.many_writes.specs.Parts.{IsParted}
 use Rattle.many_writes.specs.Turns.{Goes, IsDone, IsSound, Stands, answers_in, done_from, left_in}
 use Rattle.many_writes.proofs.Moves.{all_stand_sound, answers_stand, turns_part}
@@ -9,14 +8,14 @@ use Rattle.many_writes.proofs.puts.put_in.Goals as goal
 
 pub put_turns-requires : goal.put_turns-requires
 put_turns-requires g c =
-    let R = λ (item : g.row.K.Denot × g.row.V.Denot) (found : Option (Arc g.row.V.Denot Global)). IfSome found (λ value. g.P.Keeps.holds item.0 value.value) in
+    let R = λ (item : g.row.K.Denot × g.row.V.Denot) (found : Option g.row.S-Value.Denot). IfSome found (λ value. g.P.Keeps.holds item.0 (g.S.ValueSlots.value_of value)) in
     let path = λ (item : g.row.K.Denot × g.row.V.Denot). g.K.PathKey.path_of item.0 in
     let G = λ (item : g.row.K.Denot × g.row.V.Denot). g.P.Keeps.holds item.0 item.1 in
     record { sound = subst (All (IsSound path G)) (sym c.deref_mut.ensures.value) (all_stand_sound path G c.args.pairs.items c.line_up.new.turns.items c.line_up.ensures.turns c.requires.rule) }
 
 pub answers_of-requires-clause-room : goal.answers_of-requires-clause-room
 answers_of-requires-clause-room g c =
-    let R = λ (item : g.row.K.Denot × g.row.V.Denot) (found : Option (Arc g.row.V.Denot Global)). IfSome found (λ value. g.P.Keeps.holds item.0 value.value) in
+    let R = λ (item : g.row.K.Denot × g.row.V.Denot) (found : Option g.row.S-Value.Denot). IfSome found (λ value. g.P.Keeps.holds item.0 (g.S.ValueSlots.value_of value)) in
     let path = λ (item : g.row.K.Denot × g.row.V.Denot). g.K.PathKey.path_of item.0 in
     let long : length c.put_turns.new.turns ≡ c.line_up.new.turns.len = omega (arith, AllZip-long (Goes R) c.deref_mut.result.now c.put_turns.new.turns c.put_turns.ensures.goes, c.deref_mut.ensures.len) in
     let same = take_at c.put_turns.new.turns (drop (length c.put_turns.new.turns) c.line_up.new.turns.items) c.line_up.new.turns.len long in
@@ -25,7 +24,7 @@ answers_of-requires-clause-room g c =
 
 pub returns-in-Ok-clause-done : goal.returns-in-Ok-clause-done
 returns-in-Ok-clause-done g c =
-    let R = λ (item : g.row.K.Denot × g.row.V.Denot) (found : Option (Arc g.row.V.Denot Global)). IfSome found (λ value. g.P.Keeps.holds item.0 value.value) in
+    let R = λ (item : g.row.K.Denot × g.row.V.Denot) (found : Option g.row.S-Value.Denot). IfSome found (λ value. g.P.Keeps.holds item.0 (g.S.ValueSlots.value_of value)) in
     let path = λ (item : g.row.K.Denot × g.row.V.Denot). g.K.PathKey.path_of item.0 in
     let long : length c.put_turns.new.turns ≡ c.line_up.new.turns.len = omega (arith, AllZip-long (Goes R) c.deref_mut.result.now c.put_turns.new.turns c.put_turns.ensures.goes, c.deref_mut.ensures.len) in
     let same = take_at c.put_turns.new.turns (drop (length c.put_turns.new.turns) c.line_up.new.turns.items) c.line_up.new.turns.len long in
@@ -33,7 +32,7 @@ returns-in-Ok-clause-done g c =
 
 pub answers_of-requires-clause-done : goal.answers_of-requires-clause-done
 answers_of-requires-clause-done g c =
-    let R = λ (item : g.row.K.Denot × g.row.V.Denot) (found : Option (Arc g.row.V.Denot Global)). IfSome found (λ value. g.P.Keeps.holds item.0 value.value) in
+    let R = λ (item : g.row.K.Denot × g.row.V.Denot) (found : Option g.row.S-Value.Denot). IfSome found (λ value. g.P.Keeps.holds item.0 (g.S.ValueSlots.value_of value)) in
     let path = λ (item : g.row.K.Denot × g.row.V.Denot). g.K.PathKey.path_of item.0 in
     let long : length c.put_turns.new.turns ≡ c.line_up.new.turns.len = omega (arith, AllZip-long (Goes R) c.deref_mut.result.now c.put_turns.new.turns c.put_turns.ensures.goes, c.deref_mut.ensures.len) in
     let same = take_at c.put_turns.new.turns (drop (length c.put_turns.new.turns) c.line_up.new.turns.items) c.line_up.new.turns.len long in
@@ -41,7 +40,7 @@ answers_of-requires-clause-done g c =
 
 pub parted-put-requires-clause-room : goal.parted-put-requires-clause-room
 parted-put-requires-clause-room g c =
-    let R = λ (item : g.row.K.Denot × g.row.V.Denot) (found : Option (Arc g.row.V.Denot Global)). IfSome found (λ value. g.P.Keeps.holds item.0 value.value) in
+    let R = λ (item : g.row.K.Denot × g.row.V.Denot) (found : Option g.row.S-Value.Denot). IfSome found (λ value. g.P.Keeps.holds item.0 (g.S.ValueSlots.value_of value)) in
     let path = λ (item : g.row.K.Denot × g.row.V.Denot). g.K.PathKey.path_of item.0 in
     let long : length c.put_turns.new.turns ≡ c.line_up.new.turns.len = omega (arith, AllZip-long (Goes R) c.deref_mut.result.now c.put_turns.new.turns c.put_turns.ensures.goes, c.deref_mut.ensures.len) in
     let same = take_at c.put_turns.new.turns (drop (length c.put_turns.new.turns) c.line_up.new.turns.items) c.line_up.new.turns.len long in
@@ -50,7 +49,7 @@ parted-put-requires-clause-room g c =
 
 pub parted-put-requires-clause-room_of_rest : goal.parted-put-requires-clause-room_of_rest
 parted-put-requires-clause-room_of_rest g c =
-    let R = λ (item : g.row.K.Denot × g.row.V.Denot) (found : Option (Arc g.row.V.Denot Global)). IfSome found (λ value. g.P.Keeps.holds item.0 value.value) in
+    let R = λ (item : g.row.K.Denot × g.row.V.Denot) (found : Option g.row.S-Value.Denot). IfSome found (λ value. g.P.Keeps.holds item.0 (g.S.ValueSlots.value_of value)) in
     let path = λ (item : g.row.K.Denot × g.row.V.Denot). g.K.PathKey.path_of item.0 in
     let long : length c.put_turns.new.turns ≡ c.line_up.new.turns.len = omega (arith, AllZip-long (Goes R) c.deref_mut.result.now c.put_turns.new.turns c.put_turns.ensures.goes, c.deref_mut.ensures.len) in
     let same = take_at c.put_turns.new.turns (drop (length c.put_turns.new.turns) c.line_up.new.turns.items) c.line_up.new.turns.len long in
@@ -59,7 +58,7 @@ parted-put-requires-clause-room_of_rest g c =
 
 pub returns-clause-parted : goal.returns-clause-parted
 returns-clause-parted g c =
-    let R = λ (item : g.row.K.Denot × g.row.V.Denot) (found : Option (Arc g.row.V.Denot Global)). IfSome found (λ value. g.P.Keeps.holds item.0 value.value) in
+    let R = λ (item : g.row.K.Denot × g.row.V.Denot) (found : Option g.row.S-Value.Denot). IfSome found (λ value. g.P.Keeps.holds item.0 (g.S.ValueSlots.value_of value)) in
     let path = λ (item : g.row.K.Denot × g.row.V.Denot). g.K.PathKey.path_of item.0 in
     let long : length c.put_turns.new.turns ≡ c.line_up.new.turns.len = omega (arith, AllZip-long (Goes R) c.deref_mut.result.now c.put_turns.new.turns c.put_turns.ensures.goes, c.deref_mut.ensures.len) in
     let same = take_at c.put_turns.new.turns (drop (length c.put_turns.new.turns) c.line_up.new.turns.items) c.line_up.new.turns.len long in

@@ -1,7 +1,6 @@
-use Rattle.std.proofs.Common.{◌≡◌, Global, Option, IfSome, length, drop, take_at, ap, sym, ◌∙◌, subst, arith, All}
+use Rattle.std.proofs.Common.{◌≡◌, Option, IfSome, length, drop, take_at, ap, sym, ◌∙◌, subst, arith, All}
 use Rattle.std.specs.Prelude.{⊤}
 use Rattle.std.specs.List.{AllZip}
-use Rattle.std.specs.declared.sync.Arc.{Arc}
 use Rattle.many_writes.specs.Parts.{IsParted}
 use Rattle.many_writes.specs.Turns.{Goes, IsSound, Stands, answers_in, done_from, left_in}
 use Rattle.many_writes.proofs.Moves.{all_stand_sound, answers_stand, turns_part}
@@ -10,14 +9,14 @@ use Rattle.many_writes.proofs.removals.remove_in.Goals as goal
 
 pub remove_turns-requires : goal.remove_turns-requires
 remove_turns-requires g c =
-    let R = λ (item : g.row.Q.Denot) (found : Option (Arc g.row.V.Denot Global)). IfSome found (λ value. g.P.Keeps.holds (g.Q.Sought.key_of item) value.value) in
+    let R = λ (item : g.row.Q.Denot) (found : Option g.row.S-Value.Denot). IfSome found (λ value. g.P.Keeps.holds (g.Q.Sought.key_of item) (g.S.ValueSlots.value_of value)) in
     let path = λ (item : g.row.Q.Denot). g.K.PathKey.path_of (g.Q.Sought.key_of item) in
     let G = λ (item : g.row.Q.Denot). ⊤ in
     record { sound = subst (All (IsSound path G)) (sym c.deref_mut.ensures.value) (all_stand_sound path G c.args.keys.now c.line_up.new.turns.items c.line_up.ensures.turns (λ k d h. tt)) }
 
 pub answers_of-requires-clause-room : goal.answers_of-requires-clause-room
 answers_of-requires-clause-room g c =
-    let R = λ (item : g.row.Q.Denot) (found : Option (Arc g.row.V.Denot Global)). IfSome found (λ value. g.P.Keeps.holds (g.Q.Sought.key_of item) value.value) in
+    let R = λ (item : g.row.Q.Denot) (found : Option g.row.S-Value.Denot). IfSome found (λ value. g.P.Keeps.holds (g.Q.Sought.key_of item) (g.S.ValueSlots.value_of value)) in
     let path = λ (item : g.row.Q.Denot). g.K.PathKey.path_of (g.Q.Sought.key_of item) in
     let long : length c.remove_turns.new.turns ≡ c.line_up.new.turns.len = omega (arith, AllZip-long (Goes R) c.deref_mut.result.now c.remove_turns.new.turns c.remove_turns.ensures.goes, c.deref_mut.ensures.len) in
     let same = take_at c.remove_turns.new.turns (drop (length c.remove_turns.new.turns) c.line_up.new.turns.items) c.line_up.new.turns.len long in
@@ -26,7 +25,7 @@ answers_of-requires-clause-room g c =
 
 pub returns-in-Ok-clause-done : goal.returns-in-Ok-clause-done
 returns-in-Ok-clause-done g c =
-    let R = λ (item : g.row.Q.Denot) (found : Option (Arc g.row.V.Denot Global)). IfSome found (λ value. g.P.Keeps.holds (g.Q.Sought.key_of item) value.value) in
+    let R = λ (item : g.row.Q.Denot) (found : Option g.row.S-Value.Denot). IfSome found (λ value. g.P.Keeps.holds (g.Q.Sought.key_of item) (g.S.ValueSlots.value_of value)) in
     let path = λ (item : g.row.Q.Denot). g.K.PathKey.path_of (g.Q.Sought.key_of item) in
     let long : length c.remove_turns.new.turns ≡ c.line_up.new.turns.len = omega (arith, AllZip-long (Goes R) c.deref_mut.result.now c.remove_turns.new.turns c.remove_turns.ensures.goes, c.deref_mut.ensures.len) in
     let same = take_at c.remove_turns.new.turns (drop (length c.remove_turns.new.turns) c.line_up.new.turns.items) c.line_up.new.turns.len long in
@@ -34,7 +33,7 @@ returns-in-Ok-clause-done g c =
 
 pub done_of-requires-clause-room : goal.done_of-requires-clause-room
 done_of-requires-clause-room g c =
-    let R = λ (item : g.row.Q.Denot) (found : Option (Arc g.row.V.Denot Global)). IfSome found (λ value. g.P.Keeps.holds (g.Q.Sought.key_of item) value.value) in
+    let R = λ (item : g.row.Q.Denot) (found : Option g.row.S-Value.Denot). IfSome found (λ value. g.P.Keeps.holds (g.Q.Sought.key_of item) (g.S.ValueSlots.value_of value)) in
     let path = λ (item : g.row.Q.Denot). g.K.PathKey.path_of (g.Q.Sought.key_of item) in
     let long : length c.remove_turns.new.turns ≡ c.line_up.new.turns.len = omega (arith, AllZip-long (Goes R) c.deref_mut.result.now c.remove_turns.new.turns c.remove_turns.ensures.goes, c.deref_mut.ensures.len) in
     let same = take_at c.remove_turns.new.turns (drop (length c.remove_turns.new.turns) c.line_up.new.turns.items) c.line_up.new.turns.len long in
@@ -43,7 +42,7 @@ done_of-requires-clause-room g c =
 
 pub returns-clause-parted : goal.returns-clause-parted
 returns-clause-parted g c =
-    let R = λ (item : g.row.Q.Denot) (found : Option (Arc g.row.V.Denot Global)). IfSome found (λ value. g.P.Keeps.holds (g.Q.Sought.key_of item) value.value) in
+    let R = λ (item : g.row.Q.Denot) (found : Option g.row.S-Value.Denot). IfSome found (λ value. g.P.Keeps.holds (g.Q.Sought.key_of item) (g.S.ValueSlots.value_of value)) in
     let path = λ (item : g.row.Q.Denot). g.K.PathKey.path_of (g.Q.Sought.key_of item) in
     let long : length c.remove_turns.new.turns ≡ c.line_up.new.turns.len = omega (arith, AllZip-long (Goes R) c.deref_mut.result.now c.remove_turns.new.turns c.remove_turns.ensures.goes, c.deref_mut.ensures.len) in
     let same = take_at c.remove_turns.new.turns (drop (length c.remove_turns.new.turns) c.line_up.new.turns.items) c.line_up.new.turns.len long in

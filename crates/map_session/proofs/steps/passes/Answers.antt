@@ -4,5 +4,5 @@ use Rattle.map_session.proofs.steps.passes.Goals as goal
 
 pub returns-in-Some : goal.returns-in-Some
 returns-in-Some g c = record {
-  fails = λ is. (c.in-Some.value.now.value, search rules, subst (MayAnswer g.F.Fn c.args.test.now c.args.key.now.value c.in-Some.value.now.value) is c.answer_at.ensures);
+  fails = λ is. ((g.S.ValueSlots.value_of c.in-Some.value.now), search rules, subst (MayAnswer g.F.Fn c.args.test.now (g.S.KeySlots.key_of c.args.key.now) (g.S.ValueSlots.value_of c.in-Some.value.now)) is c.answer_in.ensures);
 }

@@ -1,7 +1,8 @@
 use Rattle.std.proofs.Common.{ℕ, ◌<◌, ◌∷◌, List, Some, drop, length, slice_get, rules, arith, ap, sym, ◌∙◌}
 use Rattle.std.specs.Sync.Mutex.{mutex_guard_value}
 use Rattle.hash_path.specs.Digits.{fan_out}
-use Rattle.stripes.specs.Stripes.{Content, up_to}
+use Rattle.stripe.specs.Contents.{Content}
+use Rattle.stripes.specs.Stripes.{up_to}
 use Rattle.stripes.proofs.Lending.{from_next, last_digit, length_snoc, one_longer, rest_digits}
 use Rattle.stripes.proofs.clearing.+clear_from.Goals as goal
 
@@ -20,7 +21,7 @@ clear_from-cleared-requires g t c κs within =
     let fewer = ap length c.in-Some-pop.ensures.items ∙ length_snoc c.pop-in-Some.new.self.items c.in-Some-pop.empty in
     let low : length rest < fan_out = omega (arith, longer, c.requires.few) in
     let digits = rest_digits mutex_guard_value c.args.held.items rest c.in-Some.stripe c.in-Some.ensures.items c.requires.digits in
-    (omega (arith, longer), (search rules, (search rules, (search rules, (search rules, (digits, (omega (arith, longer, c.requires.few), (omega (arith, longer, fewer, c.requires.maps), (λ named. c.clear.ensures.lent named ∙ (ap (λ (d : ℕ). d ∷ c.args.all.digits) at ∙ (ap (λ (ds : List ℕ). length rest ∷ ds) (c.requires.behind named ∙ ap (λ (k : ℕ). drop k (up_to fan_out)) longer) ∙ sym (from_next fan_out (length rest) low))))))))))))
+    (omega (arith, longer), (search rules, (search rules, (search rules, (search rules, (search rules, (search rules, (search rules, (digits, (omega (arith, longer, c.requires.few), (omega (arith, longer, fewer, c.requires.maps), (λ named. c.clear.ensures.lent named ∙ (ap (λ (d : ℕ). d ∷ c.args.all.digits) at ∙ (ap (λ (ds : List ℕ). length rest ∷ ds) (c.requires.behind named ∙ ap (λ (k : ℕ). drop k (up_to fan_out)) longer) ∙ sym (from_next fan_out (length rest) low)))))))))))))))
 
 pub settle-requires-clause-small : goal.settle-requires-clause-small
 settle-requires-clause-small g t c =

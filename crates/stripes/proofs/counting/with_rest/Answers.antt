@@ -1,5 +1,5 @@
 use Rattle.std.proofs.Common.{ℕ, ◌+◌, ap, subst}
-use Rattle.stripes.specs.Rules.{AllKeep, Belongs}
+use Rattle.stripe.specs.Rules.{AllKeep, Belongs}
 use Rattle.stripes.proofs.Tallies.{with_those}
 use Rattle.stripes.proofs.counting.with_rest.Goals as goal
 

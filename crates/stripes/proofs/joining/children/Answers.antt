@@ -2,7 +2,8 @@ use Rattle.std.proofs.Common.{◌≡◌, ◌+◌, ◌<◌, ◌∷◌, List, drop
 use Rattle.std.proofs.lemmas.List.{drop_more, drop_all}
 use Rattle.std.specs.Sync.Mutex.{mutex_guard_value}
 use Rattle.versions.specs.Map.{Map, union}
-use Rattle.stripes.specs.Stripes.{Content, maps_of, unions}
+use Rattle.stripe.specs.Contents.{Content}
+use Rattle.stripes.specs.Stripes.{maps_of, unions}
 use Rattle.stripes.proofs.Placing.{Joins, joined_unions, joins_more, unions_map}
 use Rattle.stripes.proofs.joining.children.Goals as goal
 

@@ -1,6 +1,6 @@
 use Rattle.std.proofs.Common.{◌≤◌, ◌*◌, drop, length, map}
 use Rattle.std.specs.Sync.Mutex.{mutex_guard_value}
-use Rattle.stripes.specs.declared.stripe.TheConstants.{MOST_PAIRS_OF_STRIPE}
+use Rattle.stripe.specs.declared.stripe.TheConstants.{MOST_PAIRS_OF_STRIPE}
 use Rattle.stripes.proofs.Placing.{Joins}
 use Rattle.stripes.proofs.joining.children.Given as goal
 

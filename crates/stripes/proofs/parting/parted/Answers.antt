@@ -1,7 +1,7 @@
 use Rattle.std.proofs.Common.{sym, subst}
 use Rattle.std.proofs.lemmas.List.Elements.{All-push}
 use Rattle.std.specs.Prelude.{All}
-use Rattle.stripes.specs.Stripes.{IsPart}
+use Rattle.stripe.specs.Contents.{IsPart}
 use Rattle.stripes.proofs.Lending.{digits_more}
 use Rattle.stripes.proofs.parting.parted.Goals as goal
 

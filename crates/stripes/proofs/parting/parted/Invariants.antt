@@ -1,6 +1,7 @@
 use Rattle.std.proofs.Common.{◌≡◌}
 use Rattle.std.specs.Prelude.{All}
-use Rattle.stripes.specs.Stripes.{IsPart, digits_of, up_to}
+use Rattle.stripe.specs.Contents.{IsPart}
+use Rattle.stripes.specs.Stripes.{digits_of, up_to}
 use Rattle.stripes.proofs.parting.parted.Given as goal
 
 -- those so far are parts, of the digits so far

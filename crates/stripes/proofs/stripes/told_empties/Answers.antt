@@ -1,4 +1,6 @@
-use Rattle.std.proofs.Common.{ℕ, ◌+◌, ap, ◌∙◌}
+use Rattle.std.proofs.Common.{◌≡◌, ℕ, ◌+◌, ap, arith, ◌∙◌, subst}
+use Rattle.hash_path.specs.Digits.{fan_out}
+use Rattle.stripes.specs.Stripes.{digits_of, up_to}
 use Rattle.stripes.proofs.Lending.{digits_more}
 use Rattle.stripes.proofs.stripes.told_empties.Goals as goal
 
@@ -8,3 +10,8 @@ loop-digit-preserved g c = record {
   next = c.take.ensures.next ∙ ap (λ (n : ℕ). n + 1) c.loop-digit.invariant.next;
   authors = c.take.ensures.authors ∙ c.loop-digit.invariant.authors;
 }
+
+pub returns-clause-digits : goal.returns-clause-digits
+returns-clause-digits g c =
+    let whole : c.loop-digit.digit ≡ fan_out = omega (arith, c.loop-digit-test.false, c.loop-digit.auto.digit-end) in
+    subst (λ (n : ℕ). digits_of c.loop-digit.stripes.items ≡ up_to n) whole c.loop-digit.invariant.digits

@@ -15,9 +15,9 @@ returns g c =
     let report = c.in_ok-report in
     let Asked = g.G.Gate.asked c.args.shared.now.gate.now in
     let mine : All (Asked c.args.workers) list.items = subst (All (Asked c.args.workers)) (sym c.in-Ok-list.ensures) (c.in_ok-all.ensures.asked (subst (All (Asked c.args.workers)) (sym c.in-Ok.ensures) (All-nil (Asked c.args.workers)))) in
-    made g.K.PathKey.path_of (g.G.Gate.asked c.args.shared.now.gate.now) (g.B.Bulk.answers c.args.bulk.now) (g.B.Bulk.decides c.args.bulk.now) g.C.OfView.map g.C.OfView.grain c.args.workers report.report.part _ all
+    made g.K.PathKey.path_of (g.G.Gate.asked c.args.shared.now.gate.now) (g.B.BulkIn.answers c.args.bulk.now) (g.B.BulkIn.decides c.args.bulk.now) g.C.OfView.map g.C.OfView.grain c.args.workers report.report.part _ all
     (listed (λ l. l.items) lists report.report.lists.items list [] report.ensures.lists c.in-Ok-empty_lists.ensures.none ∙ c.in-Ok-list.ensures)
     (counted (λ l. l.items) lists report.report.lists.items list c.args.workers report.ensures.lists c.in-Ok-empty_lists.ensures.len)
-    (subst (g.B.Bulk.answers c.args.bulk.now g.C.OfView.map) (sym report.ensures.part) (c.whole_part-part.ensures c.args.bulk.now c.requires.bulk)) c.law.ensures.apart c.law.ensures.uncut
+    (subst (g.B.BulkIn.answers c.args.bulk.now g.C.OfView.map) (sym report.ensures.part) (c.whole_part-part.ensures c.args.bulk.now c.requires.bulk)) c.law.ensures.apart c.law.ensures.uncut
     (asked_last (g.G.Gate.asked c.args.shared.now.gate.now) (λ l. l.items) lists report.report.lists.items list c.args.workers report.ensures.lists c.in-Ok-empty_lists.ensures.len
     (none_asked (g.G.Gate.asked c.args.shared.now.gate.now) _ c.in-Ok-empty_lists.ensures.none) mine) (inl tile)

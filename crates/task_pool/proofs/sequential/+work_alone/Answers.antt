@@ -42,7 +42,7 @@ work_alone-requires g t c κs within =
     let lower = c.in-Ok.lower in
     let h : Halved task lower c.in-Some.upper = halved path c.law_of_cuts.ensures.divide m grain task lower c.in-Some.upper c.in-Ok.rest c.in-Some.is c.in-Ok.ensures in
     let short = h.first in
-    (omega (arith, short, c.decreases), (search rules, (search rules, (search rules, (search rules, (search rules, (search rules, (c.requires.grain, apart_lower c.args.partial task lower c.in-Some.upper h c.requires.apart))))))))
+    (omega (arith, short, c.decreases), (search rules, (search rules, (search rules, (search rules, (search rules, (search rules, (search rules, (search rules, (search rules, (c.requires.grain, apart_lower c.args.partial task lower c.in-Some.upper h c.requires.apart)))))))))))
 
 pub work_alone-requires-in-Ok-work_alone : goal.work_alone-requires-in-Ok-work_alone
 work_alone-requires-in-Ok-work_alone g t c κs within =
@@ -53,7 +53,7 @@ work_alone-requires-in-Ok-work_alone g t c κs within =
     let lower = c.in-Ok.lower in
     let h : Halved task lower c.in-Some.upper = halved path c.law_of_cuts.ensures.divide m grain task lower c.in-Some.upper c.in-Ok.rest c.in-Some.is c.in-Ok.ensures in
     let short = h.second in
-    (omega (arith, short, c.decreases), (search rules, (search rules, (search rules, (search rules, (search rules, (search rules, (c.requires.grain, apart_upper c.args.partial c.in-Ok-work_alone.partial task lower c.in-Some.upper h c.requires.apart c.in-Ok-work_alone.ensures.did))))))))
+    (omega (arith, short, c.decreases), (search rules, (search rules, (search rules, (search rules, (search rules, (search rules, (search rules, (search rules, (search rules, (c.requires.grain, apart_upper c.args.partial c.in-Ok-work_alone.partial task lower c.in-Some.upper h c.requires.apart c.in-Ok-work_alone.ensures.did)))))))))))
 
 pub returns-in-Ok-work_alone-clause-did : goal.returns-in-Ok-work_alone-clause-did
 returns-in-Ok-work_alone-clause-did g t c =

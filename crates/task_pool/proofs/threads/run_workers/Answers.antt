@@ -30,10 +30,10 @@ pub map_vec-requires-send-W-Job : goal.map_vec-requires-send-W-Job
 map_vec-requires-send-W-Job g c κs within =
     let b = c.type_bounds in
     let worked : NamedLft = record { mir = named 8; lft = κs.1.1.1.1.1.1.1.1.0 } in
-    param_send 2 _ (arg_send _ no _ (worker_send (param 0 g.row.C) (param 1 g.row.K) (param 2 g.row.V) (param 3 g.row.B) (param 7 g.row.B-Part) (param 4 g.row.D) g.C.OfView g.K.PathKey g.K.Ord g.K.PartialEq g.K.PartialOrd g.K.Eq g.D.Deques worked g.C.OfBulk g.B.Bulk b.send-C b.send-K b.sync-K b.send-V b.sync-V b.sync-B b.send-B-Part b.send-D))
+    param_send 2 _ (arg_send _ no _ (worker_send (param 0 g.row.C) (param 1 g.row.K) (param 2 g.row.V) (param 3 g.row.S) (param 4 g.row.B) (param 8 g.row.S-Key) (param 9 g.row.S-Value) (param 10 g.row.B-Part) (param 5 g.row.D) g.C.OfView g.K.PathKey g.K.Ord g.K.PartialEq g.K.PartialOrd g.K.Eq g.S.KeySlots g.S.ValueSlots g.D.Deques worked g.C.OfBulk g.B.BulkIn b.send-C b.send-K b.send-V b.send-S-Key b.sync-S-Key b.send-S-Value b.sync-S-Value b.sync-B b.send-B-Part b.send-D))
 
 pub map_vec-requires-send-W-Out : goal.map_vec-requires-send-W-Out
 map_vec-requires-send-W-Out g c κs within =
     let b = c.type_bounds in
     let worked : NamedLft = record { mir = named 8; lft = κs.1.1.1.1.1.1.1.1.0 } in
-    param_send 3 _ (arg_send _ no _ (came_send _ (worker_send (param 0 g.row.C) (param 1 g.row.K) (param 2 g.row.V) (param 3 g.row.B) (param 7 g.row.B-Part) (param 4 g.row.D) g.C.OfView g.K.PathKey g.K.Ord g.K.PartialEq g.K.PartialOrd g.K.Eq g.D.Deques worked g.C.OfBulk g.B.Bulk b.send-C b.send-K b.sync-K b.send-V b.sync-V b.sync-B b.send-B-Part b.send-D)))
+    param_send 3 _ (arg_send _ no _ (came_send _ (worker_send (param 0 g.row.C) (param 1 g.row.K) (param 2 g.row.V) (param 3 g.row.S) (param 4 g.row.B) (param 8 g.row.S-Key) (param 9 g.row.S-Value) (param 10 g.row.B-Part) (param 5 g.row.D) g.C.OfView g.K.PathKey g.K.Ord g.K.PartialEq g.K.PartialOrd g.K.Eq g.S.KeySlots g.S.ValueSlots g.D.Deques worked g.C.OfBulk g.B.BulkIn b.send-C b.send-K b.send-V b.send-S-Key b.sync-S-Key b.send-S-Value b.sync-S-Value b.sync-B b.send-B-Part b.send-D)))

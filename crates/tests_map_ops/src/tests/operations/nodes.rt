@@ -1,16 +1,16 @@
 //! Which nodes operations copy.
 use super::{Answer, Call, answer_of};
-use crate::tests::{Texts, assert_is, assert_put, assert_sizes, clear, fork, sizes};
+use crate::tests::{
+    Texts, assert_is, assert_put, assert_sizes, clear, empty_at, fork, next, sizes,
+};
 use generation::Source;
 use std::alloc::Global;
-use std::panic::Expect;
 use std::process::Abort;
-use versions::Version;
 
 // A map that maps a to 1 and b to 2, and a fork of it.
 fn forked(rt: &impl Abort, alloc: Global) -> (Texts, Texts) {
     let mut source = Source::new();
-    let mut map = Version::empty(alloc, 10, source.next()).expect(rt, "no map");
+    let mut map = empty_at(rt, alloc, 10, next(rt, &mut source));
     assert_put(rt, alloc, &mut map, ("a", 1), Ok(None));
     assert_put(rt, alloc, &mut map, ("b", 2), Ok(None));
     let fork = fork(rt, &mut map, &mut source);

@@ -6,5 +6,5 @@ use Rattle.top_pairs.proofs.ranked.merged.Given as goal
 abbrev pub invariant-loop : goal.invariant-loop
 invariant-loop g l = record {
   within : l.counter ≤ l.most;
-  told : l.both.items ++ highest g.S.Ord.cmp (l.most - l.counter) l.first l.second ≡ highest g.S.Ord.cmp l.most l.left l.right;
+  told : l.both.items ++ highest g.N.Ord.cmp (l.most - l.counter) l.first l.second ≡ highest g.N.Ord.cmp l.most l.left l.right;
 }

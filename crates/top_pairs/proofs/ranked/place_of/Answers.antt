@@ -8,7 +8,7 @@ use Rattle.top_pairs.proofs.ranked.place_of.Goals as goal
 pub loop-low-preserved-then-is_lt : goal.loop-low-preserved-then-is_lt
 loop-low-preserved-then-is_lt g c =
     let at = c.index-items-middle.result in
-    let R = g.S.Ord.cmp in
+    let R = g.N.Ord.cmp in
     let s = c.args.score.now in
     let middle = c.loop-low.low + (c.loop-low.high - c.loop-low.low) / 2 in
     let inside : middle < length c.args.items.now = omega (arith, c.loop-low.invariant.bound, c.loop-low-test.true) in
@@ -17,13 +17,13 @@ loop-low-preserved-then-is_lt g c =
       ordered = omega (arith, c.loop-low-test.true);
       bound = omega (arith, inside);
       before = c.loop-low.invariant.before;
-      behind = below_from R g.met.S.Ord.total s middle c.args.items.now at inside (subst (λ x. R x.score s ≡ Less) c.index-items-middle.is less);
+      behind = below_from R g.met.N.Ord.total s middle c.args.items.now at inside (subst (λ x. R x.score s ≡ Less) c.index-items-middle.is less);
     }
 
 pub loop-low-preserved : goal.loop-low-preserved
 loop-low-preserved g c =
     let at = c.index-items-middle.result in
-    let R = g.S.Ord.cmp in
+    let R = g.N.Ord.cmp in
     let s = c.args.score.now in
     let middle = c.loop-low.low + (c.loop-low.high - c.loop-low.low) / 2 in
     let inside : middle < length c.args.items.now = omega (arith, c.loop-low.invariant.bound, c.loop-low-test.true) in
@@ -33,6 +33,6 @@ loop-low-preserved g c =
       ordered = omega (arith, c.loop-low-test.true);
       bound = c.loop-low.invariant.bound;
       before = λ falls. subst (λ n. AllByRecursion (AtLeast R s) (take n c.args.items.now)) (sym next)
-          (at_least_up_to R g.met.S.Ord.total s middle c.args.items.now at inside (subst (λ x. R x.score s ≢ Less) c.index-items-middle.is not) falls);
+          (at_least_up_to R g.met.N.Ord.total s middle c.args.items.now at inside (subst (λ x. R x.score s ≢ Less) c.index-items-middle.is not) falls);
       behind = c.loop-low.invariant.behind;
     }

@@ -9,8 +9,8 @@ abbrev pub invariant-loop-low : goal.invariant-loop-low
 invariant-loop-low g l = record {
   ordered : l.low ≤ l.high;
   bound : l.high ≤ length l.items;
-  before : Falls g.S.Ord.cmp l.items → AllByRecursion (AtLeast g.S.Ord.cmp l.score) (take l.low l.items);
-  behind : Falls g.S.Ord.cmp l.items → AllByRecursion (Below g.S.Ord.cmp l.score) (drop l.high l.items);
+  before : Falls g.N.Ord.cmp l.items → AllByRecursion (AtLeast g.N.Ord.cmp l.score) (take l.low l.items);
+  behind : Falls g.N.Ord.cmp l.items → AllByRecursion (Below g.N.Ord.cmp l.score) (drop l.high l.items);
 }
 
 abbrev pub decreases-loop-low : goal.decreases-loop-low

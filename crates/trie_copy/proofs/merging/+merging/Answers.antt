@@ -5,6 +5,7 @@ use Rattle.trie_copy.specs.Merges.{child_at}
 use Rattle.trie_shape.specs.Tree.{branch, entries, entries_of_all, trees, IsTrie}
 use Rattle.trie_shape.specs.View.{tree}
 use Rattle.trie_shape.proofs.Divides.{trie_fits}
+use Rattle.trie_copy.proofs.MergedPairs.{can_put_right, can_put_left, merges_right, merges_left}
 use Rattle.trie_copy.proofs.MergedRows.{IsRow, side, can_same, can_below, merges_same, row_kept, row_more, row_counted, row_done, length_row, room_row}
 use Rattle.trie_shape.proofs.Views.{on_ok}
 use Rattle.trie_copy.proofs.merging.+merging.Goals as goal
@@ -28,7 +29,7 @@ merge_branches-merge_children-requires g t c κs within =
     let r = side R path exact a.level a.right_bitmap rt c.requires.right c.requires.both.right_trie in
     let k = c.loop-digit.digit in
     let can = can_below R path exact a.level a.left_bitmap a.right_bitmap lt rt l r c.requires.both k in
-    (omega (arith, l.level_in), (search rules, (search rules, can_same R path (a.level + 1) _ _ (child_at lt k) (child_at rt k) c.child_of-left_child.ensures c.child_of-right_child.ensures can)))
+    (omega (arith, l.level_in), (search rules, (search rules, (search rules, (search rules, (search rules, can_same R path (a.level + 1) _ _ (child_at lt k) (child_at rt k) c.child_of-left_child.ensures c.child_of-right_child.ensures can))))))
 
 pub merge_branches-overflow_add-pairs : goal.merge_branches-overflow_add-pairs
 merge_branches-overflow_add-pairs g t c =
@@ -114,3 +115,36 @@ merge_branches-returns g t c =
     let row = map tree c.loop-digit.children.items in
     let whole = subst (λ k. IsRow R path a.level a.stamp.0 (bit_or a.left_bitmap a.right_bitmap) lt rt k row) {x = c.loop-digit.digit} {y = fan_out} (omega (arith, c.loop-digit-test.false)) c.loop-digit.invariant.row in
     on_ok c.make_branch.result _ _ (λ n made. row_done R path exact a.level a.left_bitmap a.right_bitmap lt rt l r c.requires.both a.stamp.0 row whole c.loop-digit.pairs c.loop-digit.invariant.counted (tree n) (made ∙ ap (λ xs. branch a.stamp.0 c.loop-digit.pairs (bit_or a.left_bitmap a.right_bitmap) (trees (map tree xs))) c.as_mut_slice.ensures.value)) c.make_branch.ensures
+
+pub merge_at-put_each-requires : goal.merge_at-put_each-requires
+merge_at-put_each-requires g t c =
+    let a = c.args in
+    can_put_right g.K.Ord.cmp g.K.PathKey.path_of a.level a.stamp.0 c.in-Pairs-look.pairs.now (tree a.left.now) (tree a.right.now) c.in-Pairs-look.ensures c.requires
+
+pub merge_at-put_each-requires-in-Pairs-look-2 : goal.merge_at-put_each-requires-in-Pairs-look-2
+merge_at-put_each-requires-in-Pairs-look-2 g t c =
+    let a = c.args in
+    can_put_right g.K.Ord.cmp g.K.PathKey.path_of a.level a.stamp.0 c.in-Pairs-look-2.fewer.now (tree a.left.now) (tree a.right.now) c.in-Pairs-look-2.ensures c.requires
+
+pub merge_at-put_each-requires-in_default : goal.merge_at-put_each-requires-in_default
+merge_at-put_each-requires-in_default g t c =
+    let a = c.args in
+    can_put_left g.K.Ord.cmp g.K.PathKey.path_of a.level a.stamp.0 c.in-Pairs.pairs.now (tree a.left.now) (tree a.right.now) c.in-Pairs.ensures c.requires
+
+pub merge_at-returns-in-Pairs-look : goal.merge_at-returns-in-Pairs-look
+merge_at-returns-in-Pairs-look g t c =
+    let a = c.args in
+    let merges = merges_right g.K.Ord.cmp g.K.PathKey.path_of a.level a.stamp.0 c.in-Pairs-look.pairs.now (tree a.left.now) (tree a.right.now) in
+    on_ok c.put_each.result _ _ (λ n h. merges (tree n) c.in-Pairs-look.ensures h) c.put_each.ensures
+
+pub merge_at-returns-in-Pairs-look-2 : goal.merge_at-returns-in-Pairs-look-2
+merge_at-returns-in-Pairs-look-2 g t c =
+    let a = c.args in
+    let merges = merges_right g.K.Ord.cmp g.K.PathKey.path_of a.level a.stamp.0 c.in-Pairs-look-2.fewer.now (tree a.left.now) (tree a.right.now) in
+    on_ok c.put_each-in-Pairs-look-2.result _ _ (λ n h. merges (tree n) c.in-Pairs-look-2.ensures h) c.put_each-in-Pairs-look-2.ensures
+
+pub merge_at-returns-in_default : goal.merge_at-returns-in_default
+merge_at-returns-in_default g t c =
+    let a = c.args in
+    let merges = merges_left g.K.Ord.cmp g.K.PathKey.path_of a.level a.stamp.0 c.in-Pairs.pairs.now (tree a.left.now) (tree a.right.now) in
+    on_ok c.put_each-in_default.result _ _ (λ n h. merges (tree n) c.in-Pairs.ensures h) c.put_each-in_default.ensures

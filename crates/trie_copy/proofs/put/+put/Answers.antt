@@ -37,8 +37,8 @@ put_below-returns-then-not-has_digit-clause-ok g t c before =
     let a = c.args in
     let d = c.digit-digit in
     let b = lent a.below in
-    let k = a.entry.key.value in
-    let v = a.entry.value.value in
+    let k = a.entry.pair.0 in
+    let v = a.entry.pair.1 in
     let s = a.entry.stamp.0 in
     let holds = g.C.Condition.holds a.condition.now in
     let made = c.in_ok-put_beside in
@@ -66,7 +66,7 @@ put_below-put_at-requires g t c κs inside =
     let d = c.digit-digit in
     let u = turn g.K.Ord.cmp g.K.PathKey.path_of a.level (lent a.below) c.requires.trie c.requires.path d.ensures.value d.ensures.small in
     let w = way u g.met.K.PathKey.exact (sym c.has_digit.ensures ∙ c.if-not-has_digit.false) c.place-at.ensures c.nth-old.ensures in
-    (omega (arith, w.above), (search rules, (search rules, (search rules, (w.trie, (c.requires.path, (agree_below w c.requires.path c.requires.agree, omega (arith, w.fewer, w.counted, c.requires.room))))))))
+    (omega (arith, w.above), (search rules, (search rules, (search rules, (search rules, (search rules, (search rules, (w.trie, (c.requires.path, (agree_below w c.requires.path c.requires.agree, omega (arith, w.fewer, w.counted, c.requires.room)))))))))))
 
 pub put_below-overflow_add-level : goal.put_below-overflow_add-level
 put_below-overflow_add-level g t c = omega (arith, c.requires.trie.0)
@@ -81,8 +81,8 @@ put_below-returns-in_default-clause-ok g t c before =
     let old = c.nth-old.result.now in
     let u = turn R path a.level (lent a.below) c.requires.trie c.requires.path d.ensures.value d.ensures.small in
     let w = way u g.met.K.PathKey.exact (sym c.has_digit.ensures ∙ c.if-not-has_digit.false) c.place-at.ensures c.nth-old.ensures in
-    nothing_raised R path a.level a.entry.stamp.0 a.entry.key.value (Some a.entry.value.value) (g.C.Condition.holds a.condition.now) (branch_of before (lent a.below)) (a.level + 1) (tree old) w.found
-    (option_map (λ v. v.now.value) found.field-0.previous) (option_map tree found.field-0.root) found.ensures.ok (ap (option_map tree) c.in_default.is)
+    nothing_raised R path a.level a.entry.stamp.0 a.entry.pair.0 (Some a.entry.pair.1) (g.C.Condition.holds a.condition.now) (branch_of before (lent a.below)) (a.level + 1) (tree old) w.found
+    (option_map (λ p. p.now.1) found.field-0.previous) (option_map tree found.field-0.root) found.ensures.ok (ap (option_map tree) c.in_default.is)
 
 pub put_below-overflow_add-size : goal.put_below-overflow_add-size
 put_below-overflow_add-size g t c =
@@ -95,8 +95,8 @@ put_below-overflow_add-size g t c =
     let new = c.in-Some.child in
     let u = turn R path a.level (lent a.below) c.requires.trie c.requires.path d.ensures.value d.ensures.small in
     let w = way u g.met.K.PathKey.exact (sym c.has_digit.ensures ∙ c.if-not-has_digit.false) c.place-at.ensures c.nth-old.ensures in
-    let given = written_below R path a.level a.entry.stamp.0 a.entry.key.value (Some a.entry.value.value) (g.C.Condition.holds a.condition.now) (branch_of 0 (lent a.below)) (a.level + 1) (tree old) w.found
-    (option_map (λ v. v.now.value) found.field-0.previous) (option_map tree found.field-0.root) found.ensures.ok (tree new) (ap (option_map tree) c.in-Some.is) in
+    let given = written_below R path a.level a.entry.stamp.0 a.entry.pair.0 (Some a.entry.pair.1) (g.C.Condition.holds a.condition.now) (branch_of 0 (lent a.below)) (a.level + 1) (tree old) w.found
+    (option_map (λ p. p.now.1) found.field-0.previous) (option_map tree found.field-0.root) found.ensures.ok (tree new) (ap (option_map tree) c.in-Some.is) in
     let more : c.size.result ≡ length (entries (tree new)) = c.size.ensures (trie_fits R path (a.level + 1) (tree new) given.trie) in
     omega (arith, w.counted, more, given.most, w.fewer, c.requires.room)
 
@@ -131,13 +131,13 @@ put_below-returns-clause-ok g t c before =
     let found = c.in_ok-root in
     let old = c.nth-old.result.now in
     let b = lent a.below in
-    let k = a.entry.key.value in
-    let v = a.entry.value.value in
+    let k = a.entry.pair.0 in
+    let v = a.entry.pair.1 in
     let s = a.entry.stamp.0 in
     let holds = g.C.Condition.holds a.condition.now in
     let new = c.in-Some.child in
     let node = c.in_ok-root-2.root in
-    let previous = option_map (λ v. v.now.value) found.field-0.previous in
+    let previous = option_map (λ p. p.now.1) found.field-0.previous in
     let made = option_map tree found.field-0.root in
     let some = ap (option_map tree) c.in-Some.is in
     let u = turn R path a.level (lent a.below) c.requires.trie c.requires.path d.ensures.value d.ensures.small in
@@ -183,7 +183,7 @@ put_at-put_below-requires g t c κs inside =
     let path = g.K.PathKey.path_of in
     let a = c.args in
     let is = c.in-Branch.ensures in
-    (omega arith, (search rules, (search rules, (search rules, (subst (IsTrie R path a.level) is c.requires.trie, (c.requires.path, (subst (λ x. KeysAgree R path a.level a.entry.path.0 (entries x)) is c.requires.agree, subst (λ x. length (entries x) < 2 ^ 63) is c.requires.room)))))))
+    (omega arith, (search rules, (search rules, (search rules, (search rules, (search rules, (search rules, (subst (IsTrie R path a.level) is c.requires.trie, (c.requires.path, (subst (λ x. KeysAgree R path a.level a.entry.path.0 (entries x)) is c.requires.agree, subst (λ x. length (entries x) < 2 ^ 63) is c.requires.room))))))))))
 
 pub put_at-returns-in-Branch-clause-ok : goal.put_at-returns-in-Branch-clause-ok
 put_at-returns-in-Branch-clause-ok g t c =
@@ -192,10 +192,10 @@ put_at-returns-in-Branch-clause-ok g t c =
     let a = c.args in
     let b = c.in-Branch.below in
     let is = c.in-Branch.ensures in
-    on_ok c.put_below.result _ _ (λ w h. subst (λ x. WritesWhere R path a.level a.entry.stamp.0 a.entry.key.value (Some a.entry.value.value) (g.C.Condition.holds a.condition.now) x (option_map (λ v. v.now.value) w.previous) (option_map tree w.root)) (sym is) (h b.stamp.0)) c.put_below.ensures.ok
+    on_ok c.put_below.result _ _ (λ w h. subst (λ x. WritesWhere R path a.level a.entry.stamp.0 a.entry.pair.0 (Some a.entry.pair.1) (g.C.Condition.holds a.condition.now) x (option_map (λ p. p.now.1) w.previous) (option_map tree w.root)) (sym is) (h b.stamp.0)) c.put_below.ensures.ok
 
 pub put_at-returns-in-Branch-clause-due : goal.put_at-returns-in-Branch-clause-due
 put_at-returns-in-Branch-clause-due g t c =
     let a = c.args in
     let is = c.in-Branch.ensures in
-    on_err_weaker c.put_below.result (λ e. ap (λ x. g.C.Condition.holds a.condition.now (find g.K.Ord.cmp a.entry.key.value (entries x))) is ∙ e) c.put_below.ensures.due
+    on_err_weaker c.put_below.result (λ e. ap (λ x. g.C.Condition.holds a.condition.now (find g.K.Ord.cmp a.entry.pair.0 (entries x))) is ∙ e) c.put_below.ensures.due

@@ -22,7 +22,7 @@ digit-digit-requires g t c =
     let t0 = tree a.old.now in
     let trie = subst (IsTrie R path a.level) c.requires.bucket c.requires.trie in
     let w_small = word_is_small R path g.met.K.Ord.total g.met.K.PathKey.exact g.met.K.PathKey.small a.old_path.0 (entries t0) trie.1 c.requires.word in
-    let k_small : a.entry.path.0 < 2 ^ word_bits = let P : ℕ → Type 0 = λ n. n < 2 ^ word_bits in subst P (sym c.requires.path) (g.met.K.PathKey.small a.entry.key.value) in
+    let k_small : a.entry.path.0 < 2 ^ word_bits = let P : ℕ → Type 0 = λ n. n < 2 ^ word_bits in subst P (sym c.requires.path) (g.met.K.PathKey.small a.entry.pair.0) in
     let within = level_within a.old_path.0 a.entry.path.0 a.level w_small k_small c.requires.apart c.requires.agree in
     within
 
@@ -34,7 +34,7 @@ digit-old_digit-requires g t c =
     let t0 = tree a.old.now in
     let trie = subst (IsTrie R path a.level) c.requires.bucket c.requires.trie in
     let w_small = word_is_small R path g.met.K.Ord.total g.met.K.PathKey.exact g.met.K.PathKey.small a.old_path.0 (entries t0) trie.1 c.requires.word in
-    let k_small : a.entry.path.0 < 2 ^ word_bits = let P : ℕ → Type 0 = λ n. n < 2 ^ word_bits in subst P (sym c.requires.path) (g.met.K.PathKey.small a.entry.key.value) in
+    let k_small : a.entry.path.0 < 2 ^ word_bits = let P : ℕ → Type 0 = λ n. n < 2 ^ word_bits in subst P (sym c.requires.path) (g.met.K.PathKey.small a.entry.pair.0) in
     let within = level_within a.old_path.0 a.entry.path.0 a.level w_small k_small c.requires.apart c.requires.agree in
     within
 
@@ -46,7 +46,7 @@ overflow_add-level g t c =
     let t0 = tree a.old.now in
     let trie = subst (IsTrie R path a.level) c.requires.bucket c.requires.trie in
     let w_small = word_is_small R path g.met.K.Ord.total g.met.K.PathKey.exact g.met.K.PathKey.small a.old_path.0 (entries t0) trie.1 c.requires.word in
-    let k_small : a.entry.path.0 < 2 ^ word_bits = let P : ℕ → Type 0 = λ n. n < 2 ^ word_bits in subst P (sym c.requires.path) (g.met.K.PathKey.small a.entry.key.value) in
+    let k_small : a.entry.path.0 < 2 ^ word_bits = let P : ℕ → Type 0 = λ n. n < 2 ^ word_bits in subst P (sym c.requires.path) (g.met.K.PathKey.small a.entry.pair.0) in
     let within = level_within a.old_path.0 a.entry.path.0 a.level w_small k_small c.requires.apart c.requires.agree in
     omega (arith, within)
 
@@ -58,12 +58,12 @@ split-requires g t c κs inside =
     let t0 = tree a.old.now in
     let trie = subst (IsTrie R path a.level) c.requires.bucket c.requires.trie in
     let w_small = word_is_small R path g.met.K.Ord.total g.met.K.PathKey.exact g.met.K.PathKey.small a.old_path.0 (entries t0) trie.1 c.requires.word in
-    let k_small : a.entry.path.0 < 2 ^ word_bits = let P : ℕ → Type 0 = λ n. n < 2 ^ word_bits in subst P (sym c.requires.path) (g.met.K.PathKey.small a.entry.key.value) in
+    let k_small : a.entry.path.0 < 2 ^ word_bits = let P : ℕ → Type 0 = λ n. n < 2 ^ word_bits in subst P (sym c.requires.path) (g.met.K.PathKey.small a.entry.pair.0) in
     let within = level_within a.old_path.0 a.entry.path.0 a.level w_small k_small c.requires.apart c.requires.agree in
     let below : IsTrie R path (a.level + 1) t0 = subst (IsTrie R path (a.level + 1)) (sym c.requires.bucket) (omega arith, trie.1, trie.2, trie.3) in
     let same : digit a.old_path.0 a.level ≡ digit a.entry.path.0 a.level = sym c.digit-old_digit.ensures.value ∙ c.if-old_digit-digit.true ∙ c.digit-digit.ensures.value in
     let agree = subst (λ n. a.old_path.0 % 2 ^ n ≡ a.entry.path.0 % 2 ^ n) {x = digit_bits + digit_bits * a.level} {y = digit_bits * (a.level + 1)} (omega arith) (agree_more a.old_path.0 a.entry.path.0 a.level c.requires.agree same) in
-    (omega (arith, within), (search rules, (search rules, (c.requires.bucket, (below, (c.requires.word, (c.requires.path, (c.requires.apart, (agree, (c.requires.size, c.requires.room))))))))))
+    (omega (arith, within), (search rules, (search rules, (search rules, (search rules, (search rules, (c.requires.bucket, (below, (c.requires.word, (c.requires.path, (c.requires.apart, (agree, (c.requires.size, c.requires.room)))))))))))))
 
 pub with_child-requires-clause-count : goal.with_child-requires-clause-count
 with_child-requires-clause-count g t c =
@@ -85,10 +85,10 @@ add_leaf-requires-clause-place g t c =
     let t0 = tree a.old.now in
     let trie = subst (IsTrie R path a.level) c.requires.bucket c.requires.trie in
     let w_small = word_is_small R path g.met.K.Ord.total g.met.K.PathKey.exact g.met.K.PathKey.small a.old_path.0 (entries t0) trie.1 c.requires.word in
-    let k_small : a.entry.path.0 < 2 ^ word_bits = let P : ℕ → Type 0 = λ n. n < 2 ^ word_bits in subst P (sym c.requires.path) (g.met.K.PathKey.small a.entry.key.value) in
+    let k_small : a.entry.path.0 < 2 ^ word_bits = let P : ℕ → Type 0 = λ n. n < 2 ^ word_bits in subst P (sym c.requires.path) (g.met.K.PathKey.small a.entry.pair.0) in
     let within = level_within a.old_path.0 a.entry.path.0 a.level w_small k_small c.requires.apart c.requires.agree in
-    let k = a.entry.key.value in
-    let v = a.entry.value.value in
+    let k = a.entry.pair.0 in
+    let v = a.entry.pair.1 in
     let s = a.entry.stamp.0 in
     let d = c.digit-old_digit in
     let e = c.digit-digit in
@@ -107,10 +107,10 @@ returns-in_ok-child g t c =
     let t0 = tree a.old.now in
     let trie = subst (IsTrie R path a.level) c.requires.bucket c.requires.trie in
     let w_small = word_is_small R path g.met.K.Ord.total g.met.K.PathKey.exact g.met.K.PathKey.small a.old_path.0 (entries t0) trie.1 c.requires.word in
-    let k_small : a.entry.path.0 < 2 ^ word_bits = let P : ℕ → Type 0 = λ n. n < 2 ^ word_bits in subst P (sym c.requires.path) (g.met.K.PathKey.small a.entry.key.value) in
+    let k_small : a.entry.path.0 < 2 ^ word_bits = let P : ℕ → Type 0 = λ n. n < 2 ^ word_bits in subst P (sym c.requires.path) (g.met.K.PathKey.small a.entry.pair.0) in
     let within = level_within a.old_path.0 a.entry.path.0 a.level w_small k_small c.requires.apart c.requires.agree in
-    let k = a.entry.key.value in
-    let v = a.entry.value.value in
+    let k = a.entry.pair.0 in
+    let v = a.entry.pair.1 in
     let s = a.entry.stamp.0 in
     let d = c.digit-old_digit in
     let e = c.digit-digit in
@@ -135,10 +135,10 @@ returns-else-old_digit-digit g t c =
     let t0 = tree a.old.now in
     let trie = subst (IsTrie R path a.level) c.requires.bucket c.requires.trie in
     let w_small = word_is_small R path g.met.K.Ord.total g.met.K.PathKey.exact g.met.K.PathKey.small a.old_path.0 (entries t0) trie.1 c.requires.word in
-    let k_small : a.entry.path.0 < 2 ^ word_bits = let P : ℕ → Type 0 = λ n. n < 2 ^ word_bits in subst P (sym c.requires.path) (g.met.K.PathKey.small a.entry.key.value) in
+    let k_small : a.entry.path.0 < 2 ^ word_bits = let P : ℕ → Type 0 = λ n. n < 2 ^ word_bits in subst P (sym c.requires.path) (g.met.K.PathKey.small a.entry.pair.0) in
     let within = level_within a.old_path.0 a.entry.path.0 a.level w_small k_small c.requires.apart c.requires.agree in
-    let k = a.entry.key.value in
-    let v = a.entry.value.value in
+    let k = a.entry.pair.0 in
+    let v = a.entry.pair.1 in
     let s = a.entry.stamp.0 in
     let d = c.digit-old_digit in
     let e = c.digit-digit in

@@ -35,7 +35,7 @@ remove_below-remove_at-requires g t c κs inside =
     let d = c.digit-digit in
     let u = turn g.K.Ord.cmp g.K.PathKey.path_of a.level (lent a.below) c.requires.trie c.requires.path d.ensures.value d.ensures.small in
     let w = way u g.met.K.PathKey.exact (sym c.has_digit.ensures ∙ c.if-not-has_digit.false) c.place-at.ensures c.nth-child.ensures in
-    (omega (arith, w.above), (search rules, (search rules, (search rules, (search rules, (c.requires.path, w.trie))))))
+    (omega (arith, w.above), (search rules, (search rules, (search rules, (search rules, (search rules, (search rules, (search rules, (c.requires.path, w.trie)))))))))
 
 pub remove_below-returns-in-Nothing-clause-ok : goal.remove_below-returns-in-Nothing-clause-ok
 remove_below-returns-in-Nothing-clause-ok g t c before =
@@ -129,7 +129,7 @@ remove_below-returns-in_err-rest-in-Left-clause-due g t c =
 pub remove_at-remove_below-requires : goal.remove_at-remove_below-requires
 remove_at-remove_below-requires g t c κs inside =
     let a = c.args in
-    (omega arith, (search rules, (search rules, (search rules, (search rules, (c.requires.path, subst (IsTrie g.K.Ord.cmp g.K.PathKey.path_of a.level) c.in-Branch.ensures c.requires.trie))))))
+    (omega arith, (search rules, (search rules, (search rules, (search rules, (search rules, (search rules, (search rules, (c.requires.path, subst (IsTrie g.K.Ord.cmp g.K.PathKey.path_of a.level) c.in-Branch.ensures c.requires.trie)))))))))
 
 pub remove_at-returns-in-Branch-clause-ok : goal.remove_at-returns-in-Branch-clause-ok
 remove_at-returns-in-Branch-clause-ok g t c =

@@ -10,7 +10,7 @@ use Rattle.trie_values.specs.Values.{MayAnswer}
 use Rattle.trie_filter.proofs.Left.{branch_depth, drawn_left, pairs_left, row_counted}
 use Rattle.trie_filter.proofs.Underway.{IsUnderway, next_trie, rest_more, room, underway_done, underway_gone, underway_kept, underway_start}
 use Rattle.trie_filter.proofs.passing.+passing.Goals as goal
-use Rattle.trie_filter.proofs.passing.+passing.Goals.{pass_children-in-Some+in_ok-row, pass_children-in_default}
+use Rattle.trie_filter.proofs.passing.+passing.Goals.{pass_children-in-Some+in_ok-row, pass_children-in_default-left}
 
 pub pass_children-loop-n-init : goal.pass_children-loop-n-init
 pass_children-loop-n-init g t c = record {
@@ -43,14 +43,14 @@ pass_children-pass_subtrie-requires g t c κs inside =
     let within : l.n < length (children whole) = omega (arith, long, c.loop-n-test.true) in
     let depth = branch_depth R path g.met.K.Ord.total g.met.K.PathKey.exact a.level whole a.bitmap c.requires.branch c.requires.trie in
     let trie = next_trie R path (MayAnswer g.F.Fn a.test.now) a.level a.stamp.0 whole (tree c.child.result.now) l.n l.rest l.row.bitmap l.row.size (map tree (items_of l.row.children)) l.invariant.underway within c.child.ensures in
-    (omega (arith, depth), (search rules, (search rules, (search rules, (trie, (omega arith, c.requires.callable))))))
+    (omega (arith, depth), (search rules, (search rules, (search rules, (search rules, (search rules, (search rules, (trie, (omega arith, c.requires.callable)))))))))
 
 pub pass_children-with-requires-clause-fits : goal.pass_children-with-requires-clause-fits
 pass_children-with-requires-clause-fits g t c =
     let R = g.K.Ord.cmp in
     let path = g.K.PathKey.path_of in
     let a = c.args in
-    let left = subst (IsLeft R path (MayAnswer g.F.Fn a.test.now) (a.level + 1) a.stamp.0 (tree c.child.result.now)) (ap (option_map tree) c.in-Some.is) c.in_ok-left.ensures in
+    let left = subst (IsLeft R path (MayAnswer g.F.Fn a.test.now) (a.level + 1) a.stamp.0 (tree c.child.result.now)) (ap (option_map tree) c.in-Some.is) c.in-Ok.ensures in
     trie_fits R path (a.level + 1) (tree c.in-Some.left) left.1.0
 
 pub pass_children-with-requires-clause-size : goal.pass_children-with-requires-clause-size
@@ -65,7 +65,7 @@ pass_children-with-requires-clause-size g t c =
     let fits = trie_fits R path a.level whole c.requires.trie in
     let long = c.bitmap_counts_children.ensures.count whole a.bitmap fits c.requires.branch in
     let within : l.n < length (children whole) = omega (arith, long, c.loop-n-test.true) in
-    let left = subst (IsLeft R path gives (a.level + 1) a.stamp.0 child) (ap (option_map tree) c.in-Some.is) c.in_ok-left.ensures in
+    let left = subst (IsLeft R path gives (a.level + 1) a.stamp.0 child) (ap (option_map tree) c.in-Some.is) c.in-Ok.ensures in
     let sized = c.size-few.ensures fits in
     let enough = room R path gives a.level a.stamp.0 whole child l.n l.rest l.row.bitmap l.row.size (map tree (items_of l.row.children)) l.invariant.underway within c.child.ensures a.bitmap c.requires.branch (tree c.in-Some.left) left.0 in
     omega (arith, sized, enough)
@@ -87,15 +87,15 @@ pass_children-loop-n-preserved g t c =
     let rest = bit_and l.rest (bit_not w32 (1 * 2 ^ digit.result % 2 ^ 32)) in
     elim c.match-left.branch [
       | pass_children-in-Some+in_ok-row w ↦
-          let left = subst (IsLeft R path gives (a.level + 1) a.stamp.0 child) (ap (option_map tree) w.in-Some.is) c.in_ok-left.ensures in
+          let left = subst (IsLeft R path gives (a.level + 1) a.stamp.0 child) (ap (option_map tree) w.in-Some.is) c.in-Ok.ensures in
           let made = w.in_ok-row.ensures in
           record {
             underway = subst (λ r. IsUnderway R path gives a.level a.stamp.0 whole (l.n + 1) rest r.bitmap r.size (map tree (items_of r.children))) (sym w.row-is)
                 (underway_kept R path gives a.level a.stamp.0 whole child l.n l.rest l.row.bitmap l.row.size row l.invariant.underway within c.child.ensures digit.result rest digit.ensures.small digit.ensures.first (tree w.in-Some.left) left _ _ _ made.bitmap made.size made.children);
             few = subst (λ r. IsFew r.children) (sym w.row-is) made.few;
           }
-      | pass_children-in_default w ↦
-          let left = subst (IsLeft R path gives (a.level + 1) a.stamp.0 child) (ap (option_map tree) w.in_default.is) c.in_ok-left.ensures in
+      | pass_children-in_default-left w ↦
+          let left = subst (IsLeft R path gives (a.level + 1) a.stamp.0 child) (ap (option_map tree) w.in_default-left.is) c.in-Ok.ensures in
           record {
             underway = subst (λ r. IsUnderway R path gives a.level a.stamp.0 whole (l.n + 1) rest r.bitmap r.size (map tree (items_of r.children))) (sym w.row-is)
                 (underway_gone R path gives a.level a.stamp.0 whole child l.n l.rest l.row.bitmap l.row.size row l.invariant.underway within c.child.ensures digit.result rest digit.ensures.small digit.ensures.first left.0);

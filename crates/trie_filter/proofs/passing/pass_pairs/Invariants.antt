@@ -6,8 +6,8 @@ use Rattle.trie_values.specs.Values.{MayAnswer}
 use Rattle.trie_filter.proofs.passing.pass_pairs.Given as goal
 
 -- the pairs so far
-abbrev pub invariant-loop-key : goal.invariant-loop-key
-invariant-loop-key g l = record {
-  chosen : AreChosen (MayAnswer g.F.Fn l.test) (map pair_values (take l.key-index l.pairs)) (map pair_values (items_of l.left));
+abbrev pub invariant-loop-pair : goal.invariant-loop-pair
+invariant-loop-pair g l = record {
+  chosen : AreChosen (MayAnswer g.F.Fn l.test) (map pair_values (take l.pair-index l.pairs)) (map pair_values (items_of l.left));
   few : IsFew l.left;
 }

@@ -12,31 +12,31 @@ remove_in_at-requires-clause-trie g c = root_is_trie g.K.Ord.cmp g.K.PathKey.pat
 pub returns-in-Nothing-clause-previous : goal.returns-in-Nothing-clause-previous
 returns-in-Nothing-clause-previous g c =
     let a = c.args in
-    let h = subst (λ r. TakesOut g.K.Ord.cmp g.K.PathKey.path_of 0 a.stamp.0 (g.Q.Sought.key_of a.key) (g.C.Condition.holds a.condition.now) (tree a.node.now) r (tree c.remove_in_at.new.node)) c.in-Nothing.is c.in_ok-previous.ensures.ok in
+    let h = subst (λ r. TakesOut g.S.ValueSlots.value_of g.K.Ord.cmp g.K.PathKey.path_of 0 a.stamp.0 (g.Q.Sought.key_of a.key) (g.C.Condition.holds a.condition.now) (tree a.node.now) r (tree c.remove_in_at.new.node)) c.in-Nothing.is c.in_ok-previous.ensures.ok in
     h.0 ∙ find_entries g.K.Ord.cmp g.K.PathKey.path_of g.met.K.Ord.total (tree a.node.now) (g.Q.Sought.key_of a.key)
 
 pub returns-in-Nothing-clause-written : goal.returns-in-Nothing-clause-written
 returns-in-Nothing-clause-written g c =
     let a = c.args in
-    let h = subst (λ r. TakesOut g.K.Ord.cmp g.K.PathKey.path_of 0 a.stamp.0 (g.Q.Sought.key_of a.key) (g.C.Condition.holds a.condition.now) (tree a.node.now) r (tree c.remove_in_at.new.node)) c.in-Nothing.is c.in_ok-previous.ensures.ok in
+    let h = subst (λ r. TakesOut g.S.ValueSlots.value_of g.K.Ord.cmp g.K.PathKey.path_of 0 a.stamp.0 (g.Q.Sought.key_of a.key) (g.C.Condition.holds a.condition.now) (tree a.node.now) r (tree c.remove_in_at.new.node)) c.in-Nothing.is c.in_ok-previous.ensures.ok in
     sym h.1 ∙ ap (λ o. is_some o && g.C.Condition.holds a.condition.now o) (find_entries g.K.Ord.cmp g.K.PathKey.path_of g.met.K.Ord.total (tree a.node.now) (g.Q.Sought.key_of a.key))
 
 pub returns-in-Left-clause-previous : goal.returns-in-Left-clause-previous
 returns-in-Left-clause-previous g c =
     let a = c.args in
-    let h = subst (λ r. TakesOut g.K.Ord.cmp g.K.PathKey.path_of 0 a.stamp.0 (g.Q.Sought.key_of a.key) (g.C.Condition.holds a.condition.now) (tree a.node.now) r (tree c.remove_in_at.new.node)) c.in-Left.is c.in_ok-previous.ensures.ok in
+    let h = subst (λ r. TakesOut g.S.ValueSlots.value_of g.K.Ord.cmp g.K.PathKey.path_of 0 a.stamp.0 (g.Q.Sought.key_of a.key) (g.C.Condition.holds a.condition.now) (tree a.node.now) r (tree c.remove_in_at.new.node)) c.in-Left.is c.in_ok-previous.ensures.ok in
     sym h.taken.0 ∙ find_entries g.K.Ord.cmp g.K.PathKey.path_of g.met.K.Ord.total (tree a.node.now) (g.Q.Sought.key_of a.key)
 
 pub returns-in-Left-clause-written : goal.returns-in-Left-clause-written
 returns-in-Left-clause-written g c =
     let a = c.args in
-    let h = subst (λ r. TakesOut g.K.Ord.cmp g.K.PathKey.path_of 0 a.stamp.0 (g.Q.Sought.key_of a.key) (g.C.Condition.holds a.condition.now) (tree a.node.now) r (tree c.remove_in_at.new.node)) c.in-Left.is c.in_ok-previous.ensures.ok in
+    let h = subst (λ r. TakesOut g.S.ValueSlots.value_of g.K.Ord.cmp g.K.PathKey.path_of 0 a.stamp.0 (g.Q.Sought.key_of a.key) (g.C.Condition.holds a.condition.now) (tree a.node.now) r (tree c.remove_in_at.new.node)) c.in-Left.is c.in_ok-previous.ensures.ok in
     sym h.taken.1 ∙ ap (λ o. is_some o && g.C.Condition.holds a.condition.now o) (sym h.taken.0 ∙ find_entries g.K.Ord.cmp g.K.PathKey.path_of g.met.K.Ord.total (tree a.node.now) (g.Q.Sought.key_of a.key))
 
 pub returns-in-Left-clause-removed : goal.returns-in-Left-clause-removed
 returns-in-Left-clause-removed g c =
     let a = c.args in
-    let h = subst (λ r. TakesOut g.K.Ord.cmp g.K.PathKey.path_of 0 a.stamp.0 (g.Q.Sought.key_of a.key) (g.C.Condition.holds a.condition.now) (tree a.node.now) r (tree c.remove_in_at.new.node)) c.in-Left.is c.in_ok-previous.ensures.ok in
+    let h = subst (λ r. TakesOut g.S.ValueSlots.value_of g.K.Ord.cmp g.K.PathKey.path_of 0 a.stamp.0 (g.Q.Sought.key_of a.key) (g.C.Condition.holds a.condition.now) (tree a.node.now) r (tree c.remove_in_at.new.node)) c.in-Left.is c.in_ok-previous.ensures.ok in
     λ e. write_removes g.K.Ord.cmp g.K.PathKey.path_of g.met.K.Ord.total g.met.K.PathKey.exact g.met.K.PathKey.small a.stamp.0 (g.Q.Sought.key_of a.key) (tree a.node.now) (tree c.remove_in_at.new.node) h.writes
 
 pub returns-in_err-previous-clause-due : goal.returns-in_err-previous-clause-due

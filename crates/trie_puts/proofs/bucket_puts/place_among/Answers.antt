@@ -11,7 +11,7 @@ returns-in-Less g c =
     let pairs = c.args.pairs.now in
     let i = c.loop-i.i in
     let x = c.index-pairs-i.result in
-    let tie = ap (λ p. R k p.0) (get_or-map pair_values pairs i x (pair_values x) c.loop-i-test.true) ∙ ap (R k) (sym c.deref.ensures) ∙ sym c.cmp.ensures ∙ c.in-Less.is in
+    let tie = ap (λ p. R k p.0) (get_or-map pair_values pairs i x (pair_values x) c.loop-i-test.true ∙ ap pair_values (sym c.index-pairs-i.is)) ∙ ap (R k) (sym c.key.ensures) ∙ sym c.cmp.ensures ∙ c.in-Less.is in
     let within : i < length (map pair_values pairs) = omega (arith, length-map pairs pair_values, c.loop-i-test.true) in
     record {
       within = omega (arith, length-map pairs pair_values, c.loop-i-test.true);
@@ -26,7 +26,7 @@ returns-in-Equal g c =
     let pairs = c.args.pairs.now in
     let i = c.loop-i.i in
     let x = c.index-pairs-i.result in
-    let tie = ap (λ p. R k p.0) (get_or-map pair_values pairs i x (pair_values x) c.loop-i-test.true) ∙ ap (R k) (sym c.deref.ensures) ∙ sym c.cmp.ensures ∙ c.in-Equal.is in
+    let tie = ap (λ p. R k p.0) (get_or-map pair_values pairs i x (pair_values x) c.loop-i-test.true ∙ ap pair_values (sym c.index-pairs-i.is)) ∙ ap (R k) (sym c.key.ensures) ∙ sym c.cmp.ensures ∙ c.in-Equal.is in
     stands_at R g.met.K.Ord.total g.K.PathKey.path_of g.met.K.PathKey.exact k i (map pair_values pairs) (pair_values x) c.loop-i.invariant (omega (arith, length-map pairs pair_values, c.loop-i-test.true)) tie
 
 pub loop-i-preserved : goal.loop-i-preserved
@@ -36,7 +36,7 @@ loop-i-preserved g c =
     let pairs = c.args.pairs.now in
     let i = c.loop-i.i in
     let x = c.index-pairs-i.result in
-    let tie = ap (λ p. R k p.0) (get_or-map pair_values pairs i x (pair_values x) c.loop-i-test.true) ∙ ap (R k) (sym c.deref.ensures) ∙ sym c.cmp.ensures ∙ c.in-Greater.is in
+    let tie = ap (λ p. R k p.0) (get_or-map pair_values pairs i x (pair_values x) c.loop-i-test.true ∙ ap pair_values (sym c.index-pairs-i.is)) ∙ ap (R k) (sym c.key.ensures) ∙ sym c.cmp.ensures ∙ c.in-Greater.is in
     subst (λ n. ComesAfter R k n (map pair_values pairs)) (sym (add-one i))
     (after_next R k i (map pair_values pairs) (pair_values x) c.loop-i.invariant (omega (arith, length-map pairs pair_values, c.loop-i-test.true)) tie)
 

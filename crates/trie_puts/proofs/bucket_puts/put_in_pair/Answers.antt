@@ -1,5 +1,4 @@
-use Rattle.std.proofs.Common.{Some, sym, ap, ◌∙◌, subst, true≢false, set}
-use Rattle.std.specs.Arc.{arc_value}
+use Rattle.std.proofs.Common.{◌≡◌, Some, sym, ap, ◌∙◌, subst, true≢false, set}
 use Rattle.trie_shape.specs.Tree.{bucket}
 use Rattle.trie_shape.specs.View.{pair_values}
 use Rattle.trie_copy.specs.Writes.{Writes}
@@ -11,13 +10,14 @@ returns-clause-ok g c level es i at here trie =
     let R = g.K.Ord.cmp in
     let path = g.K.PathKey.path_of in
     let a = c.args in
-    let k = a.entry.key.value in
+    let k = a.entry.pair.0 in
     let s = a.entry.stamp.0 in
     let found = at.value (pair_values a.pair.now) ∙ ap (λ p. Some p.1) here in
+    let same : k ≡ a.pair.now.0 = at.key a.pair.now ∙ ap (λ p. p.0) here in
     record {
-      previous_is = ap (λ v. Some (arc_value v)) c.replace-previous.ensures.value ∙ sym found;
-      written_is = sym c.if-not-holds_of.false ∙ c.holds_of.ensures ∙ ap (g.C.Condition.holds a.condition.now) (sym found);
-      writes = λ e. subst (λ v. Writes R path level s k (Some a.entry.value.value) (bucket a.stamp.now.0 es) (bucket s (set es i (k, arc_value v)))) (sym c.replace-previous.ensures.after)
-          (writes_there R g.met.K.Ord.total path g.met.K.PathKey.exact level s a.stamp.now.0 k a.entry.value.value es i trie at);
+      previous_is = ap Some c.exchange-previous.ensures.before ∙ sym found;
+      written_is = sym c.if-not-holds_of.false ∙ c.holds_of.ensures ∙ ap (λ v. g.C.Condition.holds a.condition.now (Some v)) c.value.ensures ∙ ap (g.C.Condition.holds a.condition.now) (sym found);
+      writes = λ e. subst (λ x. Writes R path level s k (Some a.entry.pair.1) (bucket a.stamp.now.0 es) (bucket s (set es i x))) ((λ j. (same j, (sym c.into_value.ensures) j)) ∙ sym c.exchange-previous.ensures.after)
+          (writes_there R g.met.K.Ord.total path g.met.K.PathKey.exact level s a.stamp.now.0 k a.entry.pair.1 es i trie at);
       kept = λ e. absurd (true≢false e);
     }

@@ -3,6 +3,7 @@ use Rattle.std.specs.Arc.{arc_value}
 use Rattle.std.specs.FinMap.{find}
 use Rattle.std.specs.Int.RustNames.{count_ones}
 use Rattle.std.proofs.lemmas.Result.{on_err_weaker}
+use Rattle.slots.specs.Rows.{node_size}
 use Rattle.trie_shape.specs.Tree.{IsTrie, KeysHaveWord, branch, bucket, trees, entries}
 use Rattle.trie_shape.specs.View.{tree, branch_of, in_row, pair_values}
 use Rattle.trie_shape.proofs.Divides.{trie_fits}
@@ -10,11 +11,11 @@ use Rattle.trie_shape.proofs.Views.{on_ok, tree-Two, tree-Four, tree-Eight, tree
 use Rattle.trie_shape.proofs.Ways.{turn, gap_within, absent, children_long}
 use Rattle.trie_puts.specs.PutInPlace.{is_refusable}
 use Rattle.trie_copy.specs.Writes.{KeysAgree}
-use Rattle.trie_copy.proofs.InRows.{row_has, place_used, place_in_row, way_in_row, held_there, set_in_row, same_in_row}
+use Rattle.trie_copy.proofs.InRows.{place_fits, row_has, place_used, place_in_row, way_in_row, held_there, set_in_row, same_in_row}
 use Rattle.trie_puts.proofs.Placing.{puts_leaf}
 use Rattle.trie_copy.proofs.PutsBelow.{agree_below, child_put}
 use Rattle.trie_puts.proofs.PuttingInPlace.{leaf_inside, inside_equal, refusable_absent}
-use Rattle.trie_copy.proofs.Cases.{at_err, when_not, when_not_not}
+use Rattle.trie_copy.proofs.Cases.{at_err}
 use Rattle.trie_puts.proofs.Standing.{puts_equal}
 use Rattle.trie_copy.proofs.Taken.{equal_of_index}
 use Rattle.trie_puts.proofs.put_in_place.+put_in.Goals as goal
@@ -46,7 +47,7 @@ put_in_branch-returns-then-not-has_digit-clause-ok g t c =
     let b = in_row a.size.now a.bitmap.now a.row.now in
     let u = turn g.K.Ord.cmp g.K.PathKey.path_of a.level b c.requires.trie c.requires.path d.ensures.value d.ensures.small in
     let lacks = sym c.has_digit.ensures ∙ c.if-not-has_digit.true in
-    leaf_inside u g.met.K.Ord.total g.met.K.PathKey.exact lacks c.place-at.ensures a.stamp.now.0 a.entry refl (g.C.Condition.holds a.condition.now) c.put_leaf.result _ c.put_leaf.ensures.ok
+    leaf_inside g.S.ValueSlots.value_of u g.met.K.Ord.total g.met.K.PathKey.exact lacks c.place-at.ensures a.stamp.now.0 a.entry refl (g.C.Condition.holds a.condition.now) c.put_leaf.result _ c.put_leaf.ensures.ok
 
 pub put_in_branch-returns-then-not-has_digit-clause-due : goal.put_in_branch-returns-then-not-has_digit-clause-due
 put_in_branch-returns-then-not-has_digit-clause-due g t c =
@@ -70,7 +71,7 @@ put_in_branch-put_in_at-requires g t c κs inside =
     let u = turn g.K.Ord.cmp g.K.PathKey.path_of a.level (in_row a.size.now a.bitmap.now a.row.now) c.requires.trie c.requires.path d.ensures.value d.ensures.small in
     let there = (held_there a.row.now c.place-at.result c.index-row-at.result (place_in_row a.size.now a.bitmap.now a.row.now u (sym c.has_digit.ensures ∙ c.if-not-has_digit.false) c.place-at.ensures)) in
     let w = way_in_row a.size.now a.bitmap.now a.row.now u g.met.K.PathKey.exact (sym c.has_digit.ensures ∙ c.if-not-has_digit.false) c.place-at.ensures there in
-    (omega (arith, w.above), (search rules, (search rules, (search rules, (w.trie, (c.requires.path, (agree_below w c.requires.path c.requires.agree, omega (arith, w.fewer, w.counted, c.requires.room))))))))
+    (omega (arith, w.above), (search rules, (search rules, (search rules, (search rules, (search rules, (search rules, (w.trie, (c.requires.path, (agree_below w c.requires.path c.requires.agree, omega (arith, w.fewer, w.counted, c.requires.room)))))))))))
 
 pub put_in_branch-returns-in_err-done-clause-err :
     goal.put_in_branch-returns-in_err-done-clause-err
@@ -105,7 +106,7 @@ put_in_branch-returns-then-not-done-clause-ok g t c =
     record {
       previous_is = done.previous_is ∙ sym w.found;
       written_is = done.written_is ∙ ap (g.C.Condition.holds a.condition.now) (sym w.found);
-      writes = λ e. absurd (true≢false (sym e ∙ when_not c.in_ok-done.done.written c.if-not-done.true));
+      writes = λ e. absurd (true≢false (sym e ∙ c.if-not-done.true));
       kept = λ e. ap (λ xs. branch a.stamp.now.0 b.size b.bitmap (trees xs)) (same_in_row (count_ones a.bitmap.now) a.row.now c.place-at.result (place_used a.size.now a.bitmap.now a.row.now u (sym c.has_digit.ensures ∙ c.if-not-has_digit.false) c.place-at.ensures) c.put_in_at.new.node child (held_there a.row.now c.place-at.result c.index-row-at.result (place_in_row a.size.now a.bitmap.now a.row.now u (sym c.has_digit.ensures ∙ c.if-not-has_digit.false) c.place-at.ensures)) (done.kept e));
     }
 
@@ -119,7 +120,7 @@ put_in_branch-overflow_add-size g t c =
     let there = (held_there a.row.now c.place-at.result c.index-row-at.result (place_in_row a.size.now a.bitmap.now a.row.now u (sym c.has_digit.ensures ∙ c.if-not-has_digit.false) c.place-at.ensures)) in
     let w = way_in_row a.size.now a.bitmap.now a.row.now u g.met.K.PathKey.exact (sym c.has_digit.ensures ∙ c.if-not-has_digit.false) c.place-at.ensures there in
     let node = c.put_in_at.new.node in
-    let given = c.in_ok-done.ensures.ok.writes (when_not_not c.in_ok-done.done.written c.if-not-done.false) in
+    let given = c.in_ok-done.ensures.ok.writes c.if-not-done.false in
     let after : c.size.result ≡ length (entries (tree node)) = c.size.ensures (trie_fits R path (a.level + 1) (tree node) given.trie) in
     omega (arith, w.counted, after, given.most, w.fewer, c.requires.room)
 
@@ -150,15 +151,15 @@ put_in_branch-returns-clause-ok g t c =
     let there = (held_there a.row.now c.place-at.result c.index-row-at.result (place_in_row a.size.now a.bitmap.now a.row.now u (sym c.has_digit.ensures ∙ c.if-not-has_digit.false) c.place-at.ensures)) in
     let w = way_in_row a.size.now a.bitmap.now a.row.now u g.met.K.PathKey.exact (sym c.has_digit.ensures ∙ c.if-not-has_digit.false) c.place-at.ensures there in
     let done = c.in_ok-done.ensures.ok in
-    let given = done.writes (when_not_not c.in_ok-done.done.written c.if-not-done.false) in
+    let given = done.writes c.if-not-done.false in
     let after : c.size.result ≡ length (entries (tree node)) = c.size.ensures (trie_fits R path (a.level + 1) (tree node) given.trie) in
     let before : c.size-before.result ≡ length (entries (tree child)) = c.size-before.ensures (trie_fits R path (a.level + 1) (tree child) w.trie) in
     record {
       previous_is = done.previous_is ∙ sym w.found;
       written_is = done.written_is ∙ ap (g.C.Condition.holds a.condition.now) (sym w.found);
-      writes = λ e. child_put w g.met.K.Ord.total g.met.K.PathKey.exact a.stamp.now.0 s a.entry.value.value (tree node) given after before _
+      writes = λ e. child_put w g.met.K.Ord.total g.met.K.PathKey.exact a.stamp.now.0 s a.entry.pair.1 (tree node) given after before _
           (ap (λ xs. branch s (b.size + c.size.result - c.size-before.result) b.bitmap (trees xs)) (set_in_row (count_ones a.bitmap.now) a.row.now c.place-at.result (place_used a.size.now a.bitmap.now a.row.now u (sym c.has_digit.ensures ∙ c.if-not-has_digit.false) c.place-at.ensures) node));
-      kept = λ e. absurd (true≢false (sym (when_not_not c.in_ok-done.done.written c.if-not-done.false) ∙ e));
+      kept = λ e. absurd (true≢false (sym c.if-not-done.false ∙ e));
     }
 
 pub put_in_node-returns-then-eq-clause-ok : goal.put_in_node-returns-then-eq-clause-ok
@@ -168,9 +169,9 @@ put_in_node-returns-then-eq-clause-ok g t c =
     let a = c.args in
     let m = c.in-Leaf in
     let opened = (λ i. bucket (m.stamp-is i).0 (pair_values (m.pair-is i) ∷ [])) ∙ sym (ap tree m.is) in
-    let tie = sym c.cmp.ensures ∙ equal_of_index c.cmp.result (sym c.eq.ensures ∙ c.if-eq.true) in
+    let tie = sym c.compare_keys.ensures ∙ equal_of_index c.compare_keys.result (sym c.eq.ensures ∙ c.if-eq.true) in
     let r = c.in_ok-put_in_pair-in-Leaf.field-0 in
-    puts_leaf R g.met.K.Ord.total path g.met.K.PathKey.exact a.level a.entry.stamp.0 a.entry.key.value a.entry.value.value (g.C.Condition.holds a.condition.now) (tree a.node.now) _ _ _ _ (option_map arc_value r.previous) r.written
+    puts_leaf R g.met.K.Ord.total path g.met.K.PathKey.exact a.level a.entry.stamp.0 a.entry.pair.0 a.entry.pair.1 (g.C.Condition.holds a.condition.now) (tree a.node.now) _ _ _ _ (option_map g.S.ValueSlots.value_of r.previous) r.written
     opened tie c.requires.trie c.in_ok-put_in_pair-in-Leaf.ensures.ok
 
 pub put_in_node-put_in_pairs-requires-clause-word : goal.put_in_node-put_in_pairs-requires-clause-word
@@ -186,7 +187,7 @@ put_in_node-put_in_pairs-requires-clause-word g t c =
     let same : held ≡ items = c.as_slice.ensures.value ∙ ap (λ v. v.items) (c.deref.ensures ∙ sym c.in-Some.ensures.value) in
     let trie = subst (IsTrie R path a.level) (sym opened) c.requires.trie in
     let words = subst (λ xs. KeysHaveWord R path trie.2.0 (map pair_values xs)) (sym same) trie.2.1 in
-    subst (λ xs. KeysHaveWord R path (path a.entry.key.value) (map pair_values xs)) same
+    subst (λ xs. KeysHaveWord R path (path a.entry.pair.0) (map pair_values xs)) same
     (subst (λ w. KeysHaveWord R path w (map pair_values held)) c.requires.path (c.have_path.ensures trie.2.0 words c.if-have_path.true))
 
 pub put_in_node-returns-in-Some-clause-ok : goal.put_in_node-returns-in-Some-clause-ok
@@ -198,7 +199,7 @@ put_in_node-returns-in-Some-clause-ok g t c =
     let is = c.in-Some.ensures.value ∙ ap arc_value m.pairs-is in
     let opened = (λ i. bucket (m.stamp-is i).0 (map pair_values (is i).items)) ∙ sym (ap tree m.is) in
     let r = c.in_ok-put_in_pairs-in-Bucket.field-0 in
-    puts_equal R path a.level a.entry.stamp.0 a.entry.key.value a.entry.value.value (g.C.Condition.holds a.condition.now) _ _ _ _ (option_map arc_value r.previous) r.written
+    puts_equal R path a.level a.entry.stamp.0 a.entry.pair.0 a.entry.pair.1 (g.C.Condition.holds a.condition.now) _ _ _ _ (option_map g.S.ValueSlots.value_of r.previous) r.written
     opened refl (c.in_ok-put_in_pairs-in-Bucket.ensures.ok a.level (subst (IsTrie R path a.level) (sym opened) c.requires.trie))
 
 pub put_in_row-put_in_two-requires : goal.put_in_row-put_in_two-requires
@@ -209,7 +210,7 @@ put_in_row-put_in_two-requires g t c κs inside =
     let m = c.in-Two in
     let row = c.in-Some.ensures.value ∙ ap arc_value m.row-is in
     let opened = (λ i. branch_of (m.stamp-is i).0 (in_row (m.size-is i) (m.bitmap-is i) (row i))) ∙ sym (ap tree m.is ∙ tree-Two m.bitmap m.stamp m.size m.row) in
-    (omega arith, (search rules, (search rules, (search rules, (omega arith, (subst (IsTrie R path a.level) (sym opened) c.requires.trie, (c.requires.path, (subst (λ x. KeysAgree R path a.level a.entry.path.0 (entries x)) (sym opened) c.requires.agree, subst (λ x. length (entries x) < 2 ^ 63) (sym opened) c.requires.room))))))))
+    (omega arith, (search rules, (search rules, (search rules, (search rules, (search rules, (search rules, (g.met.S.Slots.rows.0, (subst (IsTrie R path a.level) (sym opened) c.requires.trie, (c.requires.path, (subst (λ x. KeysAgree R path a.level a.entry.path.0 (entries x)) (sym opened) c.requires.agree, subst (λ x. length (entries x) < 2 ^ 63) (sym opened) c.requires.room)))))))))))
 
 pub put_in_row-returns-in-Some-clause-ok : goal.put_in_row-returns-in-Some-clause-ok
 put_in_row-returns-in-Some-clause-ok g t c =
@@ -220,7 +221,7 @@ put_in_row-returns-in-Some-clause-ok g t c =
     let row = c.in-Some.ensures.value ∙ ap arc_value m.row-is in
     let opened = (λ i. branch_of (m.stamp-is i).0 (in_row (m.size-is i) (m.bitmap-is i) (row i))) ∙ sym (ap tree m.is ∙ tree-Two m.bitmap m.stamp m.size m.row) in
     let n = c.put_in_two.new in
-    on_ok c.put_in_two.result _ _ (λ r h. inside_equal R path a.level a.entry (g.C.Condition.holds a.condition.now) r opened (tree-Two n.bitmap n.stamp n.size (record m.row { value = n.row })) h) c.put_in_two.ensures.ok
+    on_ok c.put_in_two.result _ _ (λ r h. inside_equal g.S.ValueSlots.value_of R path a.level a.entry (g.C.Condition.holds a.condition.now) r opened (tree-Two n.bitmap n.stamp n.size (record m.row { value = n.row })) h) c.put_in_two.ensures.ok
 
 pub put_in_row-returns-in-Some-clause-due : goal.put_in_row-returns-in-Some-clause-due
 put_in_row-returns-in-Some-clause-due g t c =
@@ -228,7 +229,7 @@ put_in_row-returns-in-Some-clause-due g t c =
     let m = c.in-Two in
     let row = c.in-Some.ensures.value ∙ ap arc_value m.row-is in
     let opened = (λ i. branch_of (m.stamp-is i).0 (in_row (m.size-is i) (m.bitmap-is i) (row i))) ∙ sym (ap tree m.is ∙ tree-Two m.bitmap m.stamp m.size m.row) in
-    on_err_weaker c.put_in_two.result (λ e. ap (λ x. is_refusable (g.C.Condition.holds a.condition.now) (find g.K.Ord.cmp a.entry.key.value (entries x))) (sym opened) ∙ e) c.put_in_two.ensures.due
+    on_err_weaker c.put_in_two.result (λ e. ap (λ x. is_refusable (g.C.Condition.holds a.condition.now) (find g.K.Ord.cmp a.entry.pair.0 (entries x))) (sym opened) ∙ e) c.put_in_two.ensures.due
 
 pub put_in_row-returns-in-Some-clause-err : goal.put_in_row-returns-in-Some-clause-err
 put_in_row-returns-in-Some-clause-err g t c =
@@ -246,7 +247,7 @@ put_in_row-put_in_four-requires g t c κs inside =
     let m = c.in-Four in
     let row = c.in-Some-get_mut.ensures.value ∙ ap arc_value m.row-is in
     let opened = (λ i. branch_of (m.stamp-is i).0 (in_row (m.size-is i) (m.bitmap-is i) (row i))) ∙ sym (ap tree m.is ∙ tree-Four m.bitmap m.stamp m.size m.row) in
-    (omega arith, (search rules, (search rules, (search rules, (omega arith, (subst (IsTrie R path a.level) (sym opened) c.requires.trie, (c.requires.path, (subst (λ x. KeysAgree R path a.level a.entry.path.0 (entries x)) (sym opened) c.requires.agree, subst (λ x. length (entries x) < 2 ^ 63) (sym opened) c.requires.room))))))))
+    (omega arith, (search rules, (search rules, (search rules, (search rules, (search rules, (search rules, (g.met.S.Slots.rows.1, (subst (IsTrie R path a.level) (sym opened) c.requires.trie, (c.requires.path, (subst (λ x. KeysAgree R path a.level a.entry.path.0 (entries x)) (sym opened) c.requires.agree, subst (λ x. length (entries x) < 2 ^ 63) (sym opened) c.requires.room)))))))))))
 
 pub put_in_row-returns-in-Some-get_mut-clause-ok : goal.put_in_row-returns-in-Some-get_mut-clause-ok
 put_in_row-returns-in-Some-get_mut-clause-ok g t c =
@@ -257,7 +258,7 @@ put_in_row-returns-in-Some-get_mut-clause-ok g t c =
     let row = c.in-Some-get_mut.ensures.value ∙ ap arc_value m.row-is in
     let opened = (λ i. branch_of (m.stamp-is i).0 (in_row (m.size-is i) (m.bitmap-is i) (row i))) ∙ sym (ap tree m.is ∙ tree-Four m.bitmap m.stamp m.size m.row) in
     let n = c.put_in_four.new in
-    on_ok c.put_in_four.result _ _ (λ r h. inside_equal R path a.level a.entry (g.C.Condition.holds a.condition.now) r opened (tree-Four n.bitmap n.stamp n.size (record m.row { value = n.row })) h) c.put_in_four.ensures.ok
+    on_ok c.put_in_four.result _ _ (λ r h. inside_equal g.S.ValueSlots.value_of R path a.level a.entry (g.C.Condition.holds a.condition.now) r opened (tree-Four n.bitmap n.stamp n.size (record m.row { value = n.row })) h) c.put_in_four.ensures.ok
 
 pub put_in_row-returns-in-Some-get_mut-clause-due : goal.put_in_row-returns-in-Some-get_mut-clause-due
 put_in_row-returns-in-Some-get_mut-clause-due g t c =
@@ -265,7 +266,7 @@ put_in_row-returns-in-Some-get_mut-clause-due g t c =
     let m = c.in-Four in
     let row = c.in-Some-get_mut.ensures.value ∙ ap arc_value m.row-is in
     let opened = (λ i. branch_of (m.stamp-is i).0 (in_row (m.size-is i) (m.bitmap-is i) (row i))) ∙ sym (ap tree m.is ∙ tree-Four m.bitmap m.stamp m.size m.row) in
-    on_err_weaker c.put_in_four.result (λ e. ap (λ x. is_refusable (g.C.Condition.holds a.condition.now) (find g.K.Ord.cmp a.entry.key.value (entries x))) (sym opened) ∙ e) c.put_in_four.ensures.due
+    on_err_weaker c.put_in_four.result (λ e. ap (λ x. is_refusable (g.C.Condition.holds a.condition.now) (find g.K.Ord.cmp a.entry.pair.0 (entries x))) (sym opened) ∙ e) c.put_in_four.ensures.due
 
 pub put_in_row-returns-in-Some-get_mut-clause-err : goal.put_in_row-returns-in-Some-get_mut-clause-err
 put_in_row-returns-in-Some-get_mut-clause-err g t c =
@@ -283,7 +284,7 @@ put_in_row-put_in_eight-requires g t c κs inside =
     let m = c.in-Eight in
     let row = c.in-Some-get_mut-2.ensures.value ∙ ap arc_value m.row-is in
     let opened = (λ i. branch_of (m.stamp-is i).0 (in_row (m.size-is i) (m.bitmap-is i) (row i))) ∙ sym (ap tree m.is ∙ tree-Eight m.bitmap m.stamp m.size m.row) in
-    (omega arith, (search rules, (search rules, (search rules, (omega arith, (subst (IsTrie R path a.level) (sym opened) c.requires.trie, (c.requires.path, (subst (λ x. KeysAgree R path a.level a.entry.path.0 (entries x)) (sym opened) c.requires.agree, subst (λ x. length (entries x) < 2 ^ 63) (sym opened) c.requires.room))))))))
+    (omega arith, (search rules, (search rules, (search rules, (search rules, (search rules, (search rules, (g.met.S.Slots.rows.2, (subst (IsTrie R path a.level) (sym opened) c.requires.trie, (c.requires.path, (subst (λ x. KeysAgree R path a.level a.entry.path.0 (entries x)) (sym opened) c.requires.agree, subst (λ x. length (entries x) < 2 ^ 63) (sym opened) c.requires.room)))))))))))
 
 pub put_in_row-returns-in-Some-get_mut-2-clause-ok : goal.put_in_row-returns-in-Some-get_mut-2-clause-ok
 put_in_row-returns-in-Some-get_mut-2-clause-ok g t c =
@@ -294,7 +295,7 @@ put_in_row-returns-in-Some-get_mut-2-clause-ok g t c =
     let row = c.in-Some-get_mut-2.ensures.value ∙ ap arc_value m.row-is in
     let opened = (λ i. branch_of (m.stamp-is i).0 (in_row (m.size-is i) (m.bitmap-is i) (row i))) ∙ sym (ap tree m.is ∙ tree-Eight m.bitmap m.stamp m.size m.row) in
     let n = c.put_in_eight.new in
-    on_ok c.put_in_eight.result _ _ (λ r h. inside_equal R path a.level a.entry (g.C.Condition.holds a.condition.now) r opened (tree-Eight n.bitmap n.stamp n.size (record m.row { value = n.row })) h) c.put_in_eight.ensures.ok
+    on_ok c.put_in_eight.result _ _ (λ r h. inside_equal g.S.ValueSlots.value_of R path a.level a.entry (g.C.Condition.holds a.condition.now) r opened (tree-Eight n.bitmap n.stamp n.size (record m.row { value = n.row })) h) c.put_in_eight.ensures.ok
 
 pub put_in_row-returns-in-Some-get_mut-2-clause-due : goal.put_in_row-returns-in-Some-get_mut-2-clause-due
 put_in_row-returns-in-Some-get_mut-2-clause-due g t c =
@@ -302,7 +303,7 @@ put_in_row-returns-in-Some-get_mut-2-clause-due g t c =
     let m = c.in-Eight in
     let row = c.in-Some-get_mut-2.ensures.value ∙ ap arc_value m.row-is in
     let opened = (λ i. branch_of (m.stamp-is i).0 (in_row (m.size-is i) (m.bitmap-is i) (row i))) ∙ sym (ap tree m.is ∙ tree-Eight m.bitmap m.stamp m.size m.row) in
-    on_err_weaker c.put_in_eight.result (λ e. ap (λ x. is_refusable (g.C.Condition.holds a.condition.now) (find g.K.Ord.cmp a.entry.key.value (entries x))) (sym opened) ∙ e) c.put_in_eight.ensures.due
+    on_err_weaker c.put_in_eight.result (λ e. ap (λ x. is_refusable (g.C.Condition.holds a.condition.now) (find g.K.Ord.cmp a.entry.pair.0 (entries x))) (sym opened) ∙ e) c.put_in_eight.ensures.due
 
 pub put_in_row-returns-in-Some-get_mut-2-clause-err : goal.put_in_row-returns-in-Some-get_mut-2-clause-err
 put_in_row-returns-in-Some-get_mut-2-clause-err g t c =
@@ -312,76 +313,83 @@ put_in_row-returns-in-Some-get_mut-2-clause-err g t c =
     let n = c.put_in_eight.new in
     on_err_weaker c.put_in_eight.result (λ e. tree-Eight n.bitmap n.stamp n.size (record m.row { value = n.row }) ∙ e ∙ opened) c.put_in_eight.ensures.err
 
-pub put_in_row-put_in_sixteen-requires : goal.put_in_row-put_in_sixteen-requires
-put_in_row-put_in_sixteen-requires g t c κs inside =
+pub put_in_long_row-put_in_sixteen-requires : goal.put_in_long_row-put_in_sixteen-requires
+put_in_long_row-put_in_sixteen-requires g t c κs inside =
     let R = g.K.Ord.cmp in
     let path = g.K.PathKey.path_of in
     let a = c.args in
     let m = c.in-Sixteen in
-    let row = c.in-Some-get_mut-3.ensures.value ∙ ap arc_value m.row-is in
+    let row = c.in-Some.ensures.value ∙ ap arc_value m.row-is in
     let opened = (λ i. branch_of (m.stamp-is i).0 (in_row (m.size-is i) (m.bitmap-is i) (row i))) ∙ sym (ap tree m.is ∙ tree-Sixteen m.bitmap m.stamp m.size m.row) in
-    (omega arith, (search rules, (search rules, (search rules, (omega arith, (subst (IsTrie R path a.level) (sym opened) c.requires.trie, (c.requires.path, (subst (λ x. KeysAgree R path a.level a.entry.path.0 (entries x)) (sym opened) c.requires.agree, subst (λ x. length (entries x) < 2 ^ 63) (sym opened) c.requires.room))))))))
+    (omega arith, (search rules, (search rules, (search rules, (search rules, (search rules, (search rules, (g.met.S.Slots.rows.3, (subst (IsTrie R path a.level) (sym opened) c.requires.trie, (c.requires.path, (subst (λ x. KeysAgree R path a.level a.entry.path.0 (entries x)) (sym opened) c.requires.agree, subst (λ x. length (entries x) < 2 ^ 63) (sym opened) c.requires.room)))))))))))
 
-pub put_in_row-returns-in-Some-get_mut-3-clause-ok : goal.put_in_row-returns-in-Some-get_mut-3-clause-ok
-put_in_row-returns-in-Some-get_mut-3-clause-ok g t c =
+pub put_in_long_row-returns-in-Some-clause-ok : goal.put_in_long_row-returns-in-Some-clause-ok
+put_in_long_row-returns-in-Some-clause-ok g t c =
     let R = g.K.Ord.cmp in
     let path = g.K.PathKey.path_of in
     let a = c.args in
     let m = c.in-Sixteen in
-    let row = c.in-Some-get_mut-3.ensures.value ∙ ap arc_value m.row-is in
+    let row = c.in-Some.ensures.value ∙ ap arc_value m.row-is in
     let opened = (λ i. branch_of (m.stamp-is i).0 (in_row (m.size-is i) (m.bitmap-is i) (row i))) ∙ sym (ap tree m.is ∙ tree-Sixteen m.bitmap m.stamp m.size m.row) in
     let n = c.put_in_sixteen.new in
-    on_ok c.put_in_sixteen.result _ _ (λ r h. inside_equal R path a.level a.entry (g.C.Condition.holds a.condition.now) r opened (tree-Sixteen n.bitmap n.stamp n.size (record m.row { value = n.row })) h) c.put_in_sixteen.ensures.ok
+    on_ok c.put_in_sixteen.result _ _ (λ r h. inside_equal g.S.ValueSlots.value_of R path a.level a.entry (g.C.Condition.holds a.condition.now) r opened (tree-Sixteen n.bitmap n.stamp n.size (record m.row { value = n.row })) h) c.put_in_sixteen.ensures.ok
 
-pub put_in_row-returns-in-Some-get_mut-3-clause-due : goal.put_in_row-returns-in-Some-get_mut-3-clause-due
-put_in_row-returns-in-Some-get_mut-3-clause-due g t c =
+pub put_in_long_row-returns-in-Some-clause-due : goal.put_in_long_row-returns-in-Some-clause-due
+put_in_long_row-returns-in-Some-clause-due g t c =
     let a = c.args in
     let m = c.in-Sixteen in
-    let row = c.in-Some-get_mut-3.ensures.value ∙ ap arc_value m.row-is in
+    let row = c.in-Some.ensures.value ∙ ap arc_value m.row-is in
     let opened = (λ i. branch_of (m.stamp-is i).0 (in_row (m.size-is i) (m.bitmap-is i) (row i))) ∙ sym (ap tree m.is ∙ tree-Sixteen m.bitmap m.stamp m.size m.row) in
-    on_err_weaker c.put_in_sixteen.result (λ e. ap (λ x. is_refusable (g.C.Condition.holds a.condition.now) (find g.K.Ord.cmp a.entry.key.value (entries x))) (sym opened) ∙ e) c.put_in_sixteen.ensures.due
+    on_err_weaker c.put_in_sixteen.result (λ e. ap (λ x. is_refusable (g.C.Condition.holds a.condition.now) (find g.K.Ord.cmp a.entry.pair.0 (entries x))) (sym opened) ∙ e) c.put_in_sixteen.ensures.due
 
-pub put_in_row-returns-in-Some-get_mut-3-clause-err : goal.put_in_row-returns-in-Some-get_mut-3-clause-err
-put_in_row-returns-in-Some-get_mut-3-clause-err g t c =
+pub put_in_long_row-returns-in-Some-clause-err : goal.put_in_long_row-returns-in-Some-clause-err
+put_in_long_row-returns-in-Some-clause-err g t c =
     let m = c.in-Sixteen in
-    let row = c.in-Some-get_mut-3.ensures.value ∙ ap arc_value m.row-is in
+    let row = c.in-Some.ensures.value ∙ ap arc_value m.row-is in
     let opened = (λ i. branch_of (m.stamp-is i).0 (in_row (m.size-is i) (m.bitmap-is i) (row i))) ∙ sym (ap tree m.is ∙ tree-Sixteen m.bitmap m.stamp m.size m.row) in
     let n = c.put_in_sixteen.new in
     on_err_weaker c.put_in_sixteen.result (λ e. tree-Sixteen n.bitmap n.stamp n.size (record m.row { value = n.row }) ∙ e ∙ opened) c.put_in_sixteen.ensures.err
 
-pub put_in_row-put_in_all-requires : goal.put_in_row-put_in_all-requires
-put_in_row-put_in_all-requires g t c κs inside =
+pub put_in_long_row-put_in_all-requires : goal.put_in_long_row-put_in_all-requires
+put_in_long_row-put_in_all-requires g t c κs inside =
     let R = g.K.Ord.cmp in
     let path = g.K.PathKey.path_of in
     let a = c.args in
     let m = c.in-All in
-    let row = c.in-Some-get_mut-4.ensures.value ∙ ap arc_value m.row-is in
+    let row = c.in-Some-get_mut.ensures.value ∙ ap arc_value m.row-is in
     let opened = (λ i. branch_of (m.stamp-is i).0 (in_row (m.size-is i) (m.bitmap-is i) (row i))) ∙ sym (ap tree m.is ∙ tree-All m.bitmap m.stamp m.size m.row) in
-    (omega arith, (search rules, (search rules, (search rules, (omega arith, (subst (IsTrie R path a.level) (sym opened) c.requires.trie, (c.requires.path, (subst (λ x. KeysAgree R path a.level a.entry.path.0 (entries x)) (sym opened) c.requires.agree, subst (λ x. length (entries x) < 2 ^ 63) (sym opened) c.requires.room))))))))
+    (omega arith, (search rules, (search rules, (search rules, (search rules, (search rules, (search rules, (g.met.S.Slots.rows.4, (subst (IsTrie R path a.level) (sym opened) c.requires.trie, (c.requires.path, (subst (λ x. KeysAgree R path a.level a.entry.path.0 (entries x)) (sym opened) c.requires.agree, subst (λ x. length (entries x) < 2 ^ 63) (sym opened) c.requires.room)))))))))))
 
-pub put_in_row-returns-in-Some-get_mut-4-clause-ok : goal.put_in_row-returns-in-Some-get_mut-4-clause-ok
-put_in_row-returns-in-Some-get_mut-4-clause-ok g t c =
+pub put_in_long_row-returns-in-Some-get_mut-clause-ok : goal.put_in_long_row-returns-in-Some-get_mut-clause-ok
+put_in_long_row-returns-in-Some-get_mut-clause-ok g t c =
     let R = g.K.Ord.cmp in
     let path = g.K.PathKey.path_of in
     let a = c.args in
     let m = c.in-All in
-    let row = c.in-Some-get_mut-4.ensures.value ∙ ap arc_value m.row-is in
+    let row = c.in-Some-get_mut.ensures.value ∙ ap arc_value m.row-is in
     let opened = (λ i. branch_of (m.stamp-is i).0 (in_row (m.size-is i) (m.bitmap-is i) (row i))) ∙ sym (ap tree m.is ∙ tree-All m.bitmap m.stamp m.size m.row) in
     let n = c.put_in_all.new in
-    on_ok c.put_in_all.result _ _ (λ r h. inside_equal R path a.level a.entry (g.C.Condition.holds a.condition.now) r opened (tree-All n.bitmap n.stamp n.size (record m.row { value = n.row })) h) c.put_in_all.ensures.ok
+    on_ok c.put_in_all.result _ _ (λ r h. inside_equal g.S.ValueSlots.value_of R path a.level a.entry (g.C.Condition.holds a.condition.now) r opened (tree-All n.bitmap n.stamp n.size (record m.row { value = n.row })) h) c.put_in_all.ensures.ok
 
-pub put_in_row-returns-in-Some-get_mut-4-clause-due : goal.put_in_row-returns-in-Some-get_mut-4-clause-due
-put_in_row-returns-in-Some-get_mut-4-clause-due g t c =
+pub put_in_long_row-returns-in-Some-get_mut-clause-due : goal.put_in_long_row-returns-in-Some-get_mut-clause-due
+put_in_long_row-returns-in-Some-get_mut-clause-due g t c =
     let a = c.args in
     let m = c.in-All in
-    let row = c.in-Some-get_mut-4.ensures.value ∙ ap arc_value m.row-is in
+    let row = c.in-Some-get_mut.ensures.value ∙ ap arc_value m.row-is in
     let opened = (λ i. branch_of (m.stamp-is i).0 (in_row (m.size-is i) (m.bitmap-is i) (row i))) ∙ sym (ap tree m.is ∙ tree-All m.bitmap m.stamp m.size m.row) in
-    on_err_weaker c.put_in_all.result (λ e. ap (λ x. is_refusable (g.C.Condition.holds a.condition.now) (find g.K.Ord.cmp a.entry.key.value (entries x))) (sym opened) ∙ e) c.put_in_all.ensures.due
+    on_err_weaker c.put_in_all.result (λ e. ap (λ x. is_refusable (g.C.Condition.holds a.condition.now) (find g.K.Ord.cmp a.entry.pair.0 (entries x))) (sym opened) ∙ e) c.put_in_all.ensures.due
 
-pub put_in_row-returns-in-Some-get_mut-4-clause-err : goal.put_in_row-returns-in-Some-get_mut-4-clause-err
-put_in_row-returns-in-Some-get_mut-4-clause-err g t c =
+pub put_in_long_row-returns-in-Some-get_mut-clause-err : goal.put_in_long_row-returns-in-Some-get_mut-clause-err
+put_in_long_row-returns-in-Some-get_mut-clause-err g t c =
     let m = c.in-All in
-    let row = c.in-Some-get_mut-4.ensures.value ∙ ap arc_value m.row-is in
+    let row = c.in-Some-get_mut.ensures.value ∙ ap arc_value m.row-is in
     let opened = (λ i. branch_of (m.stamp-is i).0 (in_row (m.size-is i) (m.bitmap-is i) (row i))) ∙ sym (ap tree m.is ∙ tree-All m.bitmap m.stamp m.size m.row) in
     let n = c.put_in_all.new in
     on_err_weaker c.put_in_all.result (λ e. tree-All n.bitmap n.stamp n.size (record m.row { value = n.row }) ∙ e ∙ opened) c.put_in_all.ensures.err
+
+pub put_in_branch-offset_bounds-row-at : goal.put_in_branch-offset_bounds-row-at
+put_in_branch-offset_bounds-row-at g t c =
+    let a = c.args in
+    let d = c.digit-digit in
+    let u = turn g.K.Ord.cmp g.K.PathKey.path_of a.level (in_row a.size.now a.bitmap.now a.row.now) c.requires.trie c.requires.path d.ensures.value d.ensures.small in
+    omega (arith, place_fits a.bitmap.now c.place-at.result (node_size g.row.S-Key g.row.S-Value) c.requires.trie.1 (place_used a.size.now a.bitmap.now a.row.now u (sym c.has_digit.ensures ∙ c.if-not-has_digit.false) c.place-at.ensures) g.met.S.Slots.rows.4)

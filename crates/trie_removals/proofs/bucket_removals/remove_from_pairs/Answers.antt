@@ -29,7 +29,7 @@ returns-then-not-holds_of-clause-ok g c level trie =
     let again = c.index-then-not-holds_of.result.now in
     let found = at.value (pair_values pair) ∙ ap (λ p. Some p.1) (get_or-map pair_values items i pair (pair_values pair) within ∙ ap pair_values (sym c.index.ensures)) in
     let told = at.value (pair_values again) ∙ ap (λ p. Some p.1) (get_or-map pair_values items i again (pair_values again) within ∙ ap pair_values (sym c.index-then-not-holds_of.ensures)) in
-    (ap Some c.in_ok-value.ensures ∙ sym told, ap (λ o. is_some o && g.C.Condition.holds c.args.condition.now o) found ∙ sym c.holds_of.ensures ∙ c.if-not-holds_of.true, refl)
+    (ap Some (c.in_ok-value.ensures ∙ c.value_slot.ensures) ∙ sym told, ap (λ o. is_some o && g.C.Condition.holds c.args.condition.now o) found ∙ ap (λ v. g.C.Condition.holds c.args.condition.now (Some v)) (sym c.value.ensures) ∙ sym c.holds_of.ensures ∙ c.if-not-holds_of.true, refl)
 
 pub returns-clause-ok : goal.returns-clause-ok
 returns-clause-ok g c level trie =
@@ -45,12 +45,12 @@ returns-clause-ok g c level trie =
     let at = subst (λ xs. IsAt R k i (map pair_values xs)) c.as_slice.ensures.value c.in-Some.ensures.there in
     let within : i < length items = omega (arith, at.within, length-map items pair_values) in
     let pair = c.index.result.now in
-    let gone = c.remove-key.result in
+    let gone = c.remove-pair.result in
     let found = at.value (pair_values pair) ∙ ap (λ p. Some p.1) (get_or-map pair_values items i pair (pair_values pair) within ∙ ap pair_values (sym c.index.ensures)) in
-    let given = at.value (pair_values gone) ∙ ap (λ p. Some p.1) (get_or-map pair_values items i gone (pair_values gone) within ∙ ap pair_values (sym c.remove-key.ensures.value)) in
-    let made = ap (λ xs. bucket s (map pair_values xs)) c.remove-key.ensures.items ∙ ap (bucket s) (map_remove pair_values items i within) in
+    let given = at.value (pair_values gone) ∙ ap (λ p. Some p.1) (get_or-map pair_values items i gone (pair_values gone) within ∙ ap pair_values (sym c.remove-pair.ensures.value)) in
+    let made = ap (λ xs. bucket s (map pair_values xs)) c.remove-pair.ensures.items ∙ ap (bucket s) (map_remove pair_values items i within) in
     record {
-      taken = (given, ap holds (sym given ∙ found) ∙ sym c.holds_of.ensures ∙ c.if-not-holds_of.false);
+      taken = (given ∙ ap Some (sym c.into_value.ensures), ap holds (ap Some c.into_value.ensures ∙ sym given ∙ found) ∙ ap (λ v. holds (Some v)) (sym c.value.ensures) ∙ sym c.holds_of.ensures ∙ c.if-not-holds_of.false);
       writes = subst (Writes R path level s k None (bucket before es)) (sym made)
           (removes_pair R path g.met.K.Ord.total g.met.K.PathKey.exact level s before k es i (pair_values pair) trie (omega (arith, length-map items pair_values, c.requires)) at);
       fewer = ap (λ t. length (entries t) + 1) made ∙ length-remove es i at.within;

@@ -1,3 +1,4 @@
+use Rattle.std.proofs.Common.{rules}
 use Rattle.trie_shape.proofs.Views.{tree-Two, tree-Four, tree-Eight, tree-Sixteen, tree-All}
 use Rattle.trie_shape.proofs.Places.{rowed}
 use Rattle.trie_shape.proofs.rows.branch_of_parts.Goals as goal
@@ -31,3 +32,6 @@ returns g c =
     let a = c.args in
     let row = c.in_ok-row_of_parts-5.field-0 in
     rowed _ a.stamp.0 a.size a.bitmap _ row.value _ (tree-All a.bitmap a.stamp a.size row) c.requires.count c.in_ok-row_of_parts-5.ensures
+
+pub row_of_parts-requires-2 : goal.row_of_parts-requires-2
+row_of_parts-requires-2 g c = let fit = g.met.S.Slots.rows in search (rules, fit)

@@ -17,7 +17,7 @@ map_subtrie-requires g t c κs within =
     let below : c.loop-n.n < length (children whole) = omega (arith, long) in
     let fewer = c.branch_is_its_children.ensures.fewer whole child c.loop-n.n below c.child.ensures in
     let fits = c.bitmap_counts_children.ensures.below whole child c.loop-n.n c.requires.fits below c.child.ensures in
-    (omega (arith, fewer), (search rules, (search rules, (search rules, (search rules, (fits, c.requires.callable))))))
+    (omega (arith, fewer), (search rules, (search rules, (search rules, (search rules, (search rules, (search rules, (search rules, (search rules, (fits, c.requires.callable))))))))))
 
 pub loop-n-preserved : goal.loop-n-preserved
 loop-n-preserved g t c =

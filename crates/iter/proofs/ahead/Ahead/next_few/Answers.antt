@@ -13,7 +13,7 @@ use Rattle.iter.proofs.ahead.Ahead.next_few.Goals as goal
 pub loop-node-smaller-in_default : goal.loop-node-smaller-in_default
 loop-node-smaller-in_default g c =
     let a = c.loop-node.self in
-    let b : Ahead _ _ = record { here = c.in_ok-self.field-0; above = c.pop.new.self; level = a.level - 1; entered = a.entered } in
+    let b : Ahead _ _ _ _ _ = record { here = c.in_ok-self.field-0; above = c.pop.new.self; level = a.level - 1; entered = a.entered } in
     let same = left_same a b c.in_default.ensures.first.0 c.in_ok-self.ensures.items in
     let long = ap length c.in_ok-self.ensures.items ∙ length-append b.above.items (b.here ∷ []) in
     omega (arith, ap nodes_of_all same, long)
@@ -21,7 +21,7 @@ loop-node-smaller-in_default g c =
 pub loop-node-preserved-in_default : goal.loop-node-preserved-in_default
 loop-node-preserved-in_default g c =
     let a = c.loop-node.self in
-    let b : Ahead _ _ = record { here = c.in_ok-self.field-0; above = c.pop.new.self; level = a.level - 1; entered = a.entered } in
+    let b : Ahead _ _ _ _ _ = record { here = c.in_ok-self.field-0; above = c.pop.new.self; level = a.level - 1; entered = a.entered } in
     let old = c.loop-node.invariant in
     let same = left_same a b c.in_default.ensures.first.0 c.in_ok-self.ensures.items in
     record {
@@ -34,7 +34,7 @@ returns-then-few-clause-sound g c =
     let R = g.K.Ord.cmp in
     let path = g.K.PathKey.path_of in
     let a = c.loop-node.self in
-    let b : Ahead _ _ = record { here = c.take_first.new.self; above = a.above; level = a.level; entered = a.entered } in
+    let b : Ahead _ _ _ _ _ = record { here = c.take_first.new.self; above = a.above; level = a.level; entered = a.entered } in
     let s = c.loop-node.invariant.sound in
     let stand = subst (AllStand R path a.level) c.in-Some.ensures.first s.here in
     stepped_sound R path a b s refl refl refl c.in-Some.ensures.within (stand_later R path a.level (tree c.in-Some.node.now) (trees_of b.here) stand)
@@ -59,7 +59,7 @@ returns-in-Pairs-clause-sound g c =
     let R = g.K.Ord.cmp in
     let path = g.K.PathKey.path_of in
     let a = c.loop-node.self in
-    let b : Ahead _ _ = record { here = c.take_first.new.self; above = a.above; level = a.level; entered = a.entered } in
+    let b : Ahead _ _ _ _ _ = record { here = c.take_first.new.self; above = a.above; level = a.level; entered = a.entered } in
     let s = c.loop-node.invariant.sound in
     let stand = subst (AllStand R path a.level) c.in-Some.ensures.first s.here in
     stepped_sound R path a b s refl refl refl c.in-Some.ensures.within (stand_later R path a.level (tree c.in-Some.node.now) (trees_of b.here) stand)
@@ -86,7 +86,7 @@ pub loop-node-smaller : goal.loop-node-smaller
 loop-node-smaller g c =
     let a = c.loop-node.self in
     let t = tree c.in-Some.node.now in
-    let b : Ahead _ _ = record { here = c.replace.new.dest; above = c.push_reserved.new.self; level = a.level + 1; entered = a.entered } in
+    let b : Ahead _ _ _ _ _ = record { here = c.replace.new.dest; above = c.push_reserved.new.self; level = a.level + 1; entered = a.entered } in
     let kept = c.replace.result in
     let first = c.in-Some.ensures.first ∙ ap (λ x. t ∷ trees_of x) (sym c.replace.ensures.value) in
     let stand = subst (AllStand g.K.Ord.cmp g.K.PathKey.path_of a.level) c.in-Some.ensures.first c.loop-node.invariant.sound.here in
@@ -103,7 +103,7 @@ loop-node-preserved g c =
     let path = g.K.PathKey.path_of in
     let a = c.loop-node.self in
     let t = tree c.in-Some.node.now in
-    let b : Ahead _ _ = record { here = c.replace.new.dest; above = c.push_reserved.new.self; level = a.level + 1; entered = a.entered } in
+    let b : Ahead _ _ _ _ _ = record { here = c.replace.new.dest; above = c.push_reserved.new.self; level = a.level + 1; entered = a.entered } in
     let kept = c.replace.result in
     let old = c.loop-node.invariant in
     let shown = c.in-Branch.ensures in

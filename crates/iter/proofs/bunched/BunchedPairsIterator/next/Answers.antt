@@ -4,8 +4,8 @@ use Rattle.iter.proofs.bunched.BunchedPairsIterator.next.Goals as goal
 use Rattle.iter.proofs.bunched.BunchedPairsIterator.next.Goals.{then-self-len, else-self-len}
 
 -- a bunch that was filled holds a pair at each place, as the one before did
-pub invariant_of-self-in_err-key : goal.invariant_of-self-in_err-key
-invariant_of-self-in_err-key g c =
+pub invariant_of-self-in_err-pair : goal.invariant_of-self-in_err-pair
+invariant_of-self-in_err-pair g c =
     let R = g.K.Ord.cmp in
     let path = g.K.PathKey.path_of in
     elim c.if-self-len.branch [
@@ -14,8 +14,8 @@ invariant_of-self-in_err-key g c =
     ]
 
 -- so no place has none
-pub returns-in_err-key-clause-steps : goal.returns-in_err-key-clause-steps
-returns-in_err-key-clause-steps g c =
+pub returns-in_err-pair-clause-steps : goal.returns-in_err-pair-clause-steps
+returns-in_err-pair-clause-steps g c =
     let a = c.if-self-len.self-inside in
     let place = c.in_ok-get.field-0.now in
     let held : All IsSome a.bunch.items = elim c.if-self-len.branch [

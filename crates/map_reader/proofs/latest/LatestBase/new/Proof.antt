@@ -45,18 +45,18 @@ and_tt true t = tt
 and_tt false t = absurd t
 
 pub new_spec : {M : Type 1} → statement M
-new_spec 𝓤 𝓛 𝓜 𝓡 wired K V P J S LK LV LP LJ LS gk dk go dr gq dq ge de gp dp gr ds gn dn gz dz _ _ _ _ _ _ _ _ =
-    let H = 𝓛.H in let 𝓣 = tables 𝓤 H 𝓜 𝓡 𝓡.env in let R : RattleType = param 0 K in let Z : RattleType = param 1 V in let Q : RattleType = param 2 P in let N : RattleType = param 3 J in let Y : RattleType = param 4 S in
-    let B : RattleType = Base.the_row R Z Q N Y gk go gq ge gp gr gn gz in let A : RattleType = Arc.the_row B Heap.the_row allocator.ghosts in let L : RattleType = Mutex.the_row (Option.the_row A) in
-    let base_laws : Laws B = kept.the_row_laws R Z Q N Y gk go gq ge gp gr gn gz (param_laws 0 K LK) (param_laws 1 V LV) (param_laws 2 P LP) (param_laws 3 J LJ) (param_laws 4 S LS) in
-    let laws : Laws L = mutex.the_row_laws (Option.the_row A) (option.the_row_laws A (arc.the_row_laws B Heap.the_row allocator.ghosts base_laws global.the_row_laws)) in
-    let En = ended K V P J S gk dk go dr gq dq ge de gp dp gr ds gn dn gz dz in let c = clauses K V P J S gk dk go dr gq dq ge de gp dp gr ds gn dn gz dz 𝓛 𝓜.mem 𝓡.returns in
-    let inst = bounded (a_type ∷ a_type ∷ a_type ∷ a_type ∷ a_type ∷ []) (K, (V, (P, (J, (S, tt))))) (dcons dk (dcons dr (dcons dq (dcons de (dcons dp (dcons ds (dcons dn (dcons dz dnil)))))))) in let fn = inst_fn inst code.function in
+new_spec 𝓤 𝓛 𝓜 𝓡 wired K V P J W S A B LK LV LP LJ LW LS LA LB gk dk go dr gq dq ge de gp dp gr ds gn dn gz dz gt dt gu du gv dv _ _ _ _ _ _ _ _ _ _ _ =
+    let H = 𝓛.H in let 𝓣 = tables 𝓤 H 𝓜 𝓡 𝓡.env in let R : RattleType = param 0 K in let Z : RattleType = param 1 V in let Q : RattleType = param 2 P in let N : RattleType = param 3 J in let Y : RattleType = param 4 W in let T : RattleType = param 5 S in let X : RattleType = param 6 A in let U : RattleType = param 7 B in
+    let G : RattleType = Base.the_row R Z Q N Y T X U gk go gq ge gp gr gn gz gu gv in let C : RattleType = Arc.the_row G Heap.the_row allocator.ghosts in let L : RattleType = Mutex.the_row (Option.the_row C) in
+    let base_laws : Laws G = kept.the_row_laws R Z Q N Y T X U gk go gq ge gp gr gn gz gu gv (param_laws 0 K LK) (param_laws 1 V LV) (param_laws 2 P LP) (param_laws 3 J LJ) (param_laws 4 W LW) (param_laws 5 S LS) (param_laws 6 A LA) (param_laws 7 B LB) in
+    let laws : Laws L = mutex.the_row_laws (Option.the_row C) (option.the_row_laws C (arc.the_row_laws G Heap.the_row allocator.ghosts base_laws global.the_row_laws)) in
+    let En = ended K V P J W S A B gk dk go dr gq dq ge de gp dp gr ds gn dn gz dz gt dt gu du gv dv in let c = clauses K V P J W S A B gk dk go dr gq dq ge de gp dp gr ds gn dn gz dz gt dt gu du gv dv 𝓛 𝓜.mem 𝓡.returns in
+    let inst = bounded (a_type ∷ a_type ∷ a_type ∷ a_type ∷ a_type ∷ a_type ∷ a_type ∷ a_type ∷ []) (K, (V, (P, (J, (W, (S, (A, (B, tt)))))))) (dcons dk (dcons dr (dcons dq (dcons de (dcons dp (dcons ds (dcons dn (dcons dz (dcons dt (dcons du (dcons dv dnil))))))))))) in let fn = inst_fn inst code.function in
     let hs : Stays En.signature.params En.kept = (stay_dropped (plain (λ _. L)) no, tt) in
-    proved_at 𝓛 En hs c 𝓜 𝓡 (Goes-blank 𝓛 5 (plain (λ _. L)) no (λ κs x f. tt), tt) (#self inst) fn (code.unfolded 𝓤 H 𝓜 𝓡 wired (K, (V, (P, (J, (S, tt))))) dk dr dq de dp ds dn dz) (λ z are.
+    proved_at 𝓛 En hs c 𝓜 𝓡 (Goes-blank 𝓛 8 (plain (λ _. L)) no (λ κs x f. tt), tt) (#self inst) fn (code.unfolded 𝓤 H 𝓜 𝓡 wired (K, (V, (P, (J, (W, (S, (A, (B, tt)))))))) dk dr dq de dp ds dn dz dt du dv) (λ z are.
     let Post : Val → SProp 𝓤 = (walk_of 𝓛 En hs c).post z in let a = z.0.3 in let vss = z.0.4 in let x = a.0 in
     let got = one (layout L) vss.0 ((laws.lawful 𝓛).typed x vss.0 are.0) in let w : Val = got.0 in let good = got.2 in let v : Val = vstruct (of_list (w ∷ [])) in
-    let I : RattleType = Inside.the_row R Z Q N Y gk go gq ge gp gr gn gz in let made : I.Denot = record { lock = x } in
+    let I : RattleType = Inside.the_row R Z Q N Y T X U gk go gq ge gp gr gn gz gu gv in let made : I.Denot = record { lock = x } in
     qed 𝓛 ((raw (alive 𝓛 En.signature z.0.0 z.0.1) ⊛ ‵ (owns (types_at En.signature.params z.0.0) a vss)) ∷ raw ((c z.0.0 a).requires z.1) ∷ []) ∵
     move ! (1 ∷ []) $ drop ! $ split ! $ move ! (1 ∷ []) $ fsplit ! $ move ! (1 ∷ []) $ drop ! $
     rewrite ! 0 (λ (us : List Val). ‵ (L.own_val x us)) got.1 refl $

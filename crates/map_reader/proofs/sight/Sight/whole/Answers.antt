@@ -6,6 +6,6 @@ use Rattle.map_reader.proofs.sight.Sight.whole.Goals as goal
 pub invariant_of-self : goal.invariant_of-self
 invariant_of-self g c =
     elim c.match-self.branch [
-      | in-Some w ↦ sees_more g.S.Since.since _ _ c.self.inside.front _ c.self.invariant (search rules) w.moment.ensures.seen (search rules)
-      | in-None w ↦ sees_same g.S.Since.since c.self.inside.front _ c.self.invariant (search rules)
+      | in-Some w ↦ sees_more g.W.Since.since _ _ c.self.inside.front _ c.self.invariant (search rules) w.moment.ensures.seen (search rules)
+      | in-None w ↦ sees_same g.W.Since.since c.self.inside.front _ c.self.invariant (search rules)
     ]

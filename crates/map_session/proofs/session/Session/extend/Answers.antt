@@ -8,8 +8,8 @@ use Rattle.map_session.proofs.session.Session.extend.Goals as goal
 
 pub loop-key-init : goal.loop-key-init
 loop-key-init g c = record {
-  kept = search rules;
-  put = ([], search rules, goes_on_self c.args.self.now);
+  kept = subst (All (λ (pair : g.row.K.Denot × g.row.V.Denot). g.P.Keeps.holds pair.0 pair.1)) (sym c.into_iter-key-iterator.ensures.into_iter_gives.0) c.requires;
+  put = ([], sym c.into_iter-key-iterator.ensures.into_iter_gives.0, goes_on_self c.args.self.now);
 }
 
 pub put-requires : goal.put-requires

@@ -1,7 +1,7 @@
 use Rattle.std.proofs.Common.{◌≡◌, false, subst}
-use Rattle.stripes.specs.Rules.{first_digit}
-use Rattle.stripes.specs.Told.{Finds}
-use Rattle.stripes.specs.declared.stripe.TheConstants.{MOST_PAIRS_OF_STRIPE}
+use Rattle.stripe.specs.Rules.{first_digit}
+use Rattle.stripe.specs.Told.{Finds}
+use Rattle.stripe.specs.declared.stripe.TheConstants.{MOST_PAIRS_OF_STRIPE}
 use Rattle.versions.specs.Commands.{is_full_for}
 use Rattle.map_session.proofs.session.Session.put_if_absent.Goals as goal
 

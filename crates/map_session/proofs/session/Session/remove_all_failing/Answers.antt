@@ -27,7 +27,7 @@ loop-key-preserved g c =
       finite = tt;
       callable = c.requires.callable;
       few = omega (arith, few, at_most_one c.in_ok-gone.gone c.from-removed.result c.from-removed.ensures);
-      told = one_more_removed g.K.Ord.cmp g.K.PathKey.path_of (λ (k : g.row.K.Denot) (v : g.row.V.Denot). g.P.Keeps.holds k v × MayAnswer g.F.Fn c.args.test.now k v false) c.in-Some.key.now.value c.args.self.now c.loop-key.self c.remove_if_both_fail.new.self c.in_ok-gone.gone c.loop-key.removed c.from-removed.result c.from-removed.ensures c.loop-key.invariant.told c.in_ok-gone.ensures.wrote;
+      told = one_more_removed g.K.Ord.cmp g.K.PathKey.path_of (λ (k : g.row.K.Denot) (v : g.row.V.Denot). g.P.Keeps.holds k v × MayAnswer g.F.Fn c.args.test.now k v false) (g.S.KeySlots.key_of c.in-Some.key.now) c.args.self.now c.loop-key.self c.remove_if_both_fail.new.self c.in_ok-gone.gone c.loop-key.removed c.from-removed.result c.from-removed.ensures c.loop-key.invariant.told c.in_ok-gone.ensures.wrote;
     }
 
 pub returns-in_err-gone : goal.returns-in_err-gone

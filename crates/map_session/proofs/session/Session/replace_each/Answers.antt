@@ -26,7 +26,7 @@ loop-key-preserved g c =
       next = tt;
       finite = tt;
       few = omega (arith, few, at_most_one c.is_some.result c.from-given.result c.from-given.ensures);
-      told = one_more_replaced g.K.Ord.cmp g.K.PathKey.path_of may c.in-Some.key.now.value c.args.self.now c.loop-key.self c.replace_by.new.self (is_some c.in_ok-before.before) c.loop-key.given c.from-given.result (c.from-given.ensures ∙ ap bool_byte c.is_some.ensures) c.loop-key.invariant.told c.in_ok-before.ensures.wrote;
+      told = one_more_replaced g.K.Ord.cmp g.K.PathKey.path_of may (g.S.KeySlots.key_of c.in-Some.key.now) c.args.self.now c.loop-key.self c.replace_by.new.self (is_some c.in_ok-before.before) c.loop-key.given c.from-given.result (c.from-given.ensures ∙ ap bool_byte c.is_some.ensures) c.loop-key.invariant.told c.in_ok-before.ensures.wrote;
     }
 
 pub loop-key-preserved-in_ok-before : goal.loop-key-preserved-in_ok-before
@@ -37,7 +37,7 @@ loop-key-preserved-in_ok-before g c =
       next = tt;
       finite = tt;
       few = omega (arith, few, at_most_one c.is_some.result c.from-given.result c.from-given.ensures);
-      told = one_more_replaced g.K.Ord.cmp g.K.PathKey.path_of may c.in-Some.key.now.value c.args.self.now c.loop-key.self c.replace_by.new.self (is_some c.in_ok-before.before) c.loop-key.given c.from-given.result (c.from-given.ensures ∙ ap bool_byte c.is_some.ensures) c.loop-key.invariant.told c.in_ok-before.ensures.wrote;
+      told = one_more_replaced g.K.Ord.cmp g.K.PathKey.path_of may (g.S.KeySlots.key_of c.in-Some.key.now) c.args.self.now c.loop-key.self c.replace_by.new.self (is_some c.in_ok-before.before) c.loop-key.given c.from-given.result (c.from-given.ensures ∙ ap bool_byte c.is_some.ensures) c.loop-key.invariant.told c.in_ok-before.ensures.wrote;
     }
 
 pub returns-in_err-before : goal.returns-in_err-before

@@ -1,15 +1,10 @@
-use Rattle.std.proofs.Common.{◌≡◌, ◌&&◌, ℕ, false, true, is_some, ap, ◌∙◌, subst}
+use Rattle.std.proofs.Common.{◌≡◌, ℕ, ap, ◌∙◌}
 use Rattle.hash_path.specs.Digits.{digit}
-use Rattle.stripes.specs.Rules.{first_digit}
-use Rattle.stripes.specs.Stripes.{Content}
-use Rattle.stripes.specs.Updates.{MayMake}
-use Rattle.stripes.specs.declared.stripe.TheConstants.{MOST_PAIRS_OF_STRIPE}
-use Rattle.versions.specs.Commands.{is_full_for}
-use Rattle.versions.specs.Map.{value_at}
+use Rattle.stripe.specs.Rules.{first_digit}
+use Rattle.stripe.specs.Contents.{Content}
 use Rattle.map_session.specs.Sessions.{Seen}
 use Rattle.map_session.proofs.Refusals.{found_there, is_full, says_full}
 use Rattle.map_session.proofs.Updated.{told_of}
-use Rattle.std.specs.Arc.{arc_value}
 use Rattle.std.specs.Prelude.{option_map}
 use Rattle.map_session.proofs.session.Session.update_with.Goals as goal
 
@@ -18,25 +13,23 @@ returns-in-Ok-clause-full g c =
     let R = g.K.Ord.cmp in
     let path = g.K.PathKey.path_of in
     let told = c.in-Ok.ensures.full in
-    let key = c.in_ok-key.ensures.ok in
     let here : c.deref_mut.result.now.digit ≡ first_digit path c.args.key = ap (λ (x : Content _ _). x.digit) c.deref_mut.ensures.value ∙ (c.stripe_at-stripe.ensures ∙ ap (λ (n : ℕ). digit n 0) c.path-path.ensures) in
     let log : c.self.inside.front ≡ c.args.self.now.log = ap (λ (x : Seen _ _). x.log) c.self.view_is in
-    (told.0, told.1, found_there R path _ _ _ _ _ _ here log (λ pairs holds. subst (λ (k : g.row.K.Denot). MayMake g.F.FnOnce c.args.change (value_at R pairs k) (told.0, told.1) × (is_some told.0 && is_full_for R MOST_PAIRS_OF_STRIPE pairs k ≡ false)) key holds) told.2)
+    (told.0, told.1, found_there R path _ _ _ _ _ _ here log (λ pairs holds. holds) told.2)
 
 pub returns-clause-full : goal.returns-clause-full
 returns-clause-full g c =
     let R = g.K.Ord.cmp in
     let path = g.K.PathKey.path_of in
     let told = c.in-Err.ensures.full in
-    let key = c.in_ok-key.ensures.ok in
     let here : c.deref_mut.result.now.digit ≡ first_digit path c.args.key = ap (λ (x : Content _ _). x.digit) c.deref_mut.ensures.value ∙ (c.stripe_at-stripe.ensures ∙ ap (λ (n : ℕ). digit n 0) c.path-path.ensures) in
     let log : c.self.inside.front ≡ c.args.self.now.log = ap (λ (x : Seen _ _). x.log) c.self.view_is in
     says_full c.update_with_behind-done.result c.of.result c.in-Err.refusal _ c.of.ensures.full.0
-    (λ is. (told.0, told.1, found_there R path _ _ _ _ _ _ here log (λ pairs holds. subst (λ (k : g.row.K.Denot). MayMake g.F.FnOnce c.args.change (value_at R pairs k) (told.0, told.1) × (is_some told.0 && is_full_for R MOST_PAIRS_OF_STRIPE pairs k ≡ true)) key (holds.0, is_full c.update_with_behind-done.result c.in-Err.refusal _ holds.1 is)) told.2))
+    (λ is. (told.0, told.1, found_there R path _ _ _ _ _ _ here log (λ pairs holds. (holds.0, is_full c.update_with_behind-done.result c.in-Err.refusal _ holds.1 is)) told.2))
 
 pub returns-in-Ok-clause-wrote : goal.returns-in-Ok-clause-wrote
 returns-in-Ok-clause-wrote g c =
     let told = c.in-Ok.ensures.made in
     let now : Seen g.row.K.Denot g.row.V.Denot = record { log = c.update_with_behind-done.new.front; signer = c.update_with_behind-done.new.author } in
-    let all = told_of g.K.Ord.cmp g.K.PathKey.path_of _ c.args.key c.self.inside.author c.self.inside.front c.args.self.now now c.in_ok-key.ensures.ok c.self.view_is arc_value told.0 c.in-Ok.field-0-0 told.2 told.3 in
-    (option_map arc_value c.in-Ok.field-0-0, told.0, told.1, all.0, all.1)
+    let all = told_of g.K.Ord.cmp g.K.PathKey.path_of c.args.key c.self.inside.author c.self.inside.front c.args.self.now now c.self.view_is g.S.ValueSlots.value_of told.0 c.in-Ok.field-0-0 told.2 told.3 in
+    (option_map g.S.ValueSlots.value_of c.in-Ok.field-0-0, told.0, told.1, all.0, all.1)

@@ -18,14 +18,14 @@ loop-key-init g c =
 
 pub loop-key-preserved : goal.loop-key-preserved
 loop-key-preserved g c =
-    let pair : g.row.K.Denot × g.row.V.Denot = (c.in-Some.key.now.value, c.in-Some.value.now.value) in
+    let pair : g.row.K.Denot × g.row.V.Denot = (g.S.KeySlots.key_of c.in-Some.key.now, g.S.ValueSlots.value_of c.in-Some.value.now) in
     let few = subst (λ (rest : List (g.row.K.Denot × g.row.V.Denot)). c.loop-key.count + length rest ≤ length c.args.self.now) c.in-Some.ensures.steps c.loop-key.invariant.few in
     record {
       next = tt;
       finite = tt;
       callable = c.requires.callable;
-      few = omega (arith, few, at_most_one c.answer_at.result c.from-count.result c.from-count.ensures);
+      few = omega (arith, few, at_most_one c.answer_in.result c.from-count.result c.from-count.ensures);
       count = λ p means.
           let before = subst (λ (rest : List (g.row.K.Denot × g.row.V.Denot)). c.loop-key.count + length (passing p rest) ≡ length (passing p c.args.self.now)) c.in-Some.ensures.steps (c.loop-key.invariant.count p means) in
-          count_step p pair c.next.new.self c.loop-key.count c.from-count.result _ c.answer_at.result before c.from-count.ensures (means _ _ _ c.answer_at.ensures);
+          count_step p pair c.next.new.self c.loop-key.count c.from-count.result _ c.answer_in.result before c.from-count.ensures (means _ _ _ c.answer_in.ensures);
     }

@@ -19,7 +19,7 @@ loop-key-init g c =
 
 pub loop-key-preserved : goal.loop-key-preserved
 loop-key-preserved g c =
-    let pair : g.row.K.Denot × g.row.V.Denot = (c.in-Some.key.now.value, c.in-Some.value.now.value) in
+    let pair : g.row.K.Denot × g.row.V.Denot = (g.S.KeySlots.key_of c.in-Some.key.now, g.S.ValueSlots.value_of c.in-Some.value.now) in
     let combine = g.M.Monoid.combine c.args.monoid.now in
     record {
       next = tt;
@@ -27,7 +27,7 @@ loop-key-preserved g c =
       callable = c.requires.callable;
       all = λ i means.
           let before = subst (λ (rest : List (g.row.K.Denot × g.row.V.Denot)). folded combine c.loop-key.all (items_of i rest) ≡ folded combine (g.M.Monoid.unit_of c.args.monoid.now) (items_of i c.args.self.now)) c.in-Some.ensures.steps (c.loop-key.invariant.all i means) in
-          ap (λ all. folded combine all (items_of i c.next.new.self)) (c.op-all.ensures.combined ∙ ap (λ item. combine item c.loop-key.all) (means _ _ _ c.answer_at.ensures))
+          ap (λ all. folded combine all (items_of i c.next.new.self)) (c.op-all.ensures.combined ∙ ap (λ item. combine item c.loop-key.all) (means _ _ _ c.answer_in.ensures))
           ∙ fold_step combine (g.met.M.Monoid.associative c.args.monoid.now) (g.met.M.Monoid.commutative c.args.monoid.now) (i pair.0 pair.1) c.loop-key.all (items_of i c.next.new.self)
           ∙ before;
     }

@@ -3,7 +3,7 @@ use Rattle.std.specs.List.Sorted.{IsPermutation}
 use Rattle.std.proofs.lemmas.List.Sorted.{IsPermutation-sym}
 use Rattle.trie_shape.specs.Order.{walked}
 use Rattle.versions.specs.Map.{IsMap}
-use Rattle.stripes.specs.Rules.{AllKeep}
+use Rattle.stripe.specs.Rules.{AllKeep}
 use Rattle.map_view.proofs.Keeping.{kept_listing}
 use Rattle.map_view.proofs.Walks.{listing_permutes}
 use Rattle.map_view.proofs.view.View.law.Goals as goal

@@ -3,7 +3,7 @@ use Rattle.std.specs.Prelude.{All, Contains, IfSome, option_map}
 use Rattle.std.proofs.lemmas.List.Elements.{All-contains}
 use Rattle.std.proofs.lemmas.List.Sorted.{All-permutation, IsPermutation-sym}
 use Rattle.std.proofs.lemmas.Result.{IfOk-weaker}
-use Rattle.bulk_work.specs.Pairs.{pair_of}
+use Rattle.map_view.specs.Questions.{pair_of}
 use Rattle.trie_shape.specs.Order.{walked}
 use Rattle.map_view.proofs.view.View.par_find.Goals as goal
 
@@ -17,4 +17,4 @@ returns-clause-kept g c =
     let m = c.args.self.now in
     let walk = walked g.K.Ord.cmp g.K.PathKey.path_of m in
     let all : All (λ (x : g.row.K.Denot × g.row.V.Denot). g.P.Keeps.holds x.0 x.1) m = All-permutation (λ (x : g.row.K.Denot × g.row.V.Denot). g.P.Keeps.holds x.0 x.1) walk m (IsPermutation-sym m walk c.law.ensures.once) c.law.ensures.walked in
-    IfOk-weaker c.worked_by.result _ _ (λ found told. one_of pair_of (λ (x : g.row.K.Denot × g.row.V.Denot). g.P.Keeps.holds x.0 x.1) m all found told.there) c.worked_by.ensures
+    IfOk-weaker c.worked_by.result _ _ (λ found told. one_of (pair_of g.S.KeySlots.key_of g.S.ValueSlots.value_of) (λ (x : g.row.K.Denot × g.row.V.Denot). g.P.Keeps.holds x.0 x.1) m all found told.there) c.worked_by.ensures

@@ -7,11 +7,11 @@ use Rattle.map_view.proofs.view.equality.same_pairs.Goals as goal
 pub loop-pair-init : goal.loop-pair-init
 loop-pair-init g c = record { next = tt; finite = tt; left = ap (λ xs. pointwise (same_pair g.K.PartialEq.eq g.V.PartialEq.eq) xs c.args.theirs) c.into_iter-pair-iterator.ensures.into_iter_gives }
 
-pub returns-then-ne : goal.returns-then-ne
-returns-then-ne g c = apart (same_pair g.K.PartialEq.eq g.V.PartialEq.eq) c.ne.result c.in-Some.ensures.steps c.in-Some-next.ensures.steps c.loop-pair.invariant.left c.ne.ensures c.if-ne.true
+pub returns-then-not-are_same : goal.returns-then-not-are_same
+returns-then-not-are_same g c = apart (same_pair g.K.PartialEq.eq g.V.PartialEq.eq) c.are_same.result c.in-Some.ensures.steps c.in-Some-next.ensures.steps c.loop-pair.invariant.left c.are_same.ensures c.if-not-are_same.true
 
 pub loop-pair-preserved : goal.loop-pair-preserved
-loop-pair-preserved g c = record { next = tt; finite = tt; left = alike (same_pair g.K.PartialEq.eq g.V.PartialEq.eq) c.ne.result c.in-Some.ensures.steps c.in-Some-next.ensures.steps c.loop-pair.invariant.left c.ne.ensures c.if-ne.false }
+loop-pair-preserved g c = record { next = tt; finite = tt; left = alike (same_pair g.K.PartialEq.eq g.V.PartialEq.eq) c.are_same.result c.in-Some.ensures.steps c.in-Some-next.ensures.steps c.loop-pair.invariant.left c.are_same.ensures c.if-not-are_same.false }
 
 pub returns-in-None-next : goal.returns-in-None-next
 returns-in-None-next g c = longer (same_pair g.K.PartialEq.eq g.V.PartialEq.eq) c.in-Some.ensures.steps c.in-None-next.ensures.steps.0 c.loop-pair.invariant.left

@@ -8,8 +8,8 @@ pub join-requires : goal.join-requires
 join-requires g c =
     let R = g.K.Ord.cmp in
     let path = g.K.PathKey.path_of in
-    let answers = g.B.Bulk.answers in
-    let ready = g.B.Bulk.ready in
+    let answers = g.B.BulkIn.answers in
+    let ready = g.B.BulkIn.ready in
     let m = g.C.OfView.map in
     let grain = g.C.OfView.grain in
     let named = g.C.OfBulk.bulk in
@@ -23,8 +23,8 @@ pub invariant_of-result : goal.invariant_of-result
 invariant_of-result g c =
     let R = g.K.Ord.cmp in
     let path = g.K.PathKey.path_of in
-    let answers = g.B.Bulk.answers in
-    let ready = g.B.Bulk.ready in
+    let answers = g.B.BulkIn.answers in
+    let ready = g.B.BulkIn.ready in
     let m = g.C.OfView.map in
     let grain = g.C.OfView.grain in
     let named = g.C.OfBulk.bulk in

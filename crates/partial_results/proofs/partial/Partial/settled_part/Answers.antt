@@ -13,7 +13,7 @@ returns-then-settled-clause-ok g c = λ b name.
     let all = c.settled.ensures.lasting c.if-settled.true some m c.self.invariant.answered (within path m c.self.inside.worked.items) in
     let whole_too = (c.settled.ensures.exact m all).0 c.if-settled.true in
     let yes = (c.settled.ensures.exact some c.self.invariant.answered).0 c.if-settled.true in (
-      subst (λ x. g.B.Bulk.answers x m c.self.inside.part) (sym same) all,
-      subst (λ x. g.B.Bulk.decides x (parts path m c.args.self)) (sym same) (subst (λ xs. g.B.Bulk.decides mine (parts path m xs)) c.self.view_is yes),
-      subst (λ x. g.B.Bulk.decides x m) (sym same) whole_too,
+      subst (λ x. g.B.BulkIn.answers x m c.self.inside.part) (sym same) all,
+      subst (λ x. g.B.BulkIn.decides x (parts path m c.args.self)) (sym same) (subst (λ xs. g.B.BulkIn.decides mine (parts path m xs)) c.self.view_is yes),
+      subst (λ x. g.B.BulkIn.decides x m) (sym same) whole_too,
     )

@@ -9,8 +9,8 @@ pub work_into-made-requires-clause-apart : goal.work_into-made-requires-clause-a
 work_into-made-requires-clause-apart g c =
     let R = g.K.Ord.cmp in
     let path = g.K.PathKey.path_of in
-    let answers = g.B.Bulk.answers in
-    let ready = g.B.Bulk.ready in
+    let answers = g.B.BulkIn.answers in
+    let ready = g.B.BulkIn.ready in
     let m = g.C.OfView.map in
     let grain = g.C.OfView.grain in
     let named = g.C.OfBulk.bulk in
@@ -23,8 +23,8 @@ pub invariant_of-result : goal.invariant_of-result
 invariant_of-result g c =
     let R = g.K.Ord.cmp in
     let path = g.K.PathKey.path_of in
-    let answers = g.B.Bulk.answers in
-    let ready = g.B.Bulk.ready in
+    let answers = g.B.BulkIn.answers in
+    let ready = g.B.BulkIn.ready in
     let m = g.C.OfView.map in
     let grain = g.C.OfView.grain in
     let named = g.C.OfBulk.bulk in

@@ -1,4 +1,4 @@
-use Rattle.stripes.proofs.Seeing.{prefix_self}
+use Rattle.stripes.proofs.Moments.{prefix_self}
 use Rattle.stripes.proofs.stripes.Stripes.+moment_from.Goals as goal
 
 pub returns-then-digit-eq-STRIPES-clause-seen : goal.returns-then-digit-eq-STRIPES-clause-seen

@@ -1,5 +1,5 @@
 use Rattle.std.proofs.Common.{◌≤◌, ◌*◌}
-use Rattle.stripes.specs.declared.stripe.TheConstants.{MOST_PAIRS_OF_STRIPE}
+use Rattle.stripe.specs.declared.stripe.TheConstants.{MOST_PAIRS_OF_STRIPE}
 use Rattle.stripes.proofs.stripes.Stripes.approx_len.Given as goal
 
 abbrev pub invariant-loop-digit : goal.invariant-loop-digit

@@ -99,3 +99,20 @@ invariant_of-result g c = record {
     )
   ];
 }
+
+pub returns-clause-place : goal.returns-clause-place
+returns-clause-place g c = elim c.loop-test.branch [
+  | else-loop-test w ↦ ap (λ s. s.ends.place) w.state-is ∙ c.loop.invariant.0
+  | then-loop-test+then-is_stopped w ↦ ap (λ s. s.ends.place) w.state-is ∙ c.loop.invariant.0
+  | then-loop-test+else-is_stopped+in-None+then-failed-shared w ↦ ap (λ s. s.ends.place) w.state-is ∙ w.in-None.ensures.same.0 ∙ c.loop.invariant.0
+]
+
+pub returns-clause-asked : goal.returns-clause-asked
+returns-clause-asked g c =
+    let Asked = g.G.Gate.asked c.args.shared.now.gate.now in
+    let first = c.args.self.state in
+    elim c.loop-test.branch [
+      | else-loop-test w ↦ subst (λ s. KeepsAsked Asked first.ends.place first.partial s.partial) (sym w.state-is) c.loop.invariant.2
+      | then-loop-test+then-is_stopped w ↦ subst (λ s. KeepsAsked Asked first.ends.place first.partial s.partial) (sym w.state-is) c.loop.invariant.2
+      | then-loop-test+else-is_stopped+in-None+then-failed-shared w ↦ subst (λ s. KeepsAsked Asked first.ends.place first.partial s.partial) (sym w.state-is) c.loop.invariant.2
+    ]

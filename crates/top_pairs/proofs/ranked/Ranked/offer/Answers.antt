@@ -8,7 +8,7 @@ use Rattle.top_pairs.proofs.ranked.Ranked.offer.Goals as goal
 
 pub returns-then-place-most-clause-added : goal.returns-then-place-most-clause-added
 returns-then-place-most-clause-added g c falls few =
-    let R = g.S.Ord.cmp in
+    let R = g.N.Ord.cmp in
     let old = c.args.self.now in
     let place = c.place_of-place.result in
     let same : c.deref.result.now ≡ old = c.deref.ensures.value ∙ c.self.view_is in
@@ -18,14 +18,14 @@ returns-then-place-most-clause-added g c falls few =
     let front : AllByRecursion (AtLeast R c.args.score) (take place old) =
     subst (λ l. AllByRecursion (AtLeast R c.args.score) (take place l)) same (c.place_of-place.ensures.before (subst (Falls R) (sym same) falls)) in
     let all : AllByRecursion (AtLeast R c.args.score) old = subst (AllByRecursion (AtLeast R c.args.score)) (ap (λ n. take n old) last ∙ take-length old) front in
-    sym (not_placed R c.args.most old (record { score = c.args.score; key = c.args.key.now.value; value = c.args.value.now.value }) full all)
+    sym (not_placed R c.args.most old (record { score = c.args.score; key = (g.S.KeySlots.key_of c.args.key.now); value = (g.S.ValueSlots.value_of c.args.value.now) }) full all)
 
 pub returns-clause-added : goal.returns-clause-added
 returns-clause-added g c falls few =
-    let R = g.S.Ord.cmp in
+    let R = g.N.Ord.cmp in
     let old = c.args.self.now in
     let place = c.place_of-place.result in
-    let x : Listed g.row.K.Denot g.row.V.Denot g.row.S.Denot = record { score = c.args.score; key = c.args.key.now.value; value = c.args.value.now.value } in
+    let x : Listed g.row.K.Denot g.row.V.Denot g.row.N.Denot = record { score = c.args.score; key = (g.S.KeySlots.key_of c.args.key.now); value = (g.S.ValueSlots.value_of c.args.value.now) } in
     let same : c.deref.result.now ≡ old = c.deref.ensures.value ∙ c.self.view_is in
     let there = subst (Falls R) (sym same) falls in
     let inserted : c.insert.new.self.items ≡ insert old place x =

@@ -3,4 +3,4 @@ use Rattle.trie_map.proofs.trie_map.TrieMap.par_group_fold.Goals as goal
 
 pub returns : goal.returns
 returns g c =
-    IfOk-weaker c.par_group_fold-2.result _ _ (λ sums fold. (c.in_ok-view.field-0, c.in_ok-view.ensures, fold)) c.par_group_fold-2.ensures
+    IfOk-weaker c.par_group_fold-answer.result _ _ (λ sums fold. (c.in_ok-view.view, c.in_ok-view.ensures, fold)) c.par_group_fold-answer.ensures

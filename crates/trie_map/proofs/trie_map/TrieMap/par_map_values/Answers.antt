@@ -3,4 +3,4 @@ use Rattle.trie_map.proofs.trie_map.TrieMap.par_map_values.Goals as goal
 
 pub returns-clause-entries : goal.returns-clause-entries
 returns-clause-entries g c =
-    if_ok_both c.par_map_values-2.result (λ made entries given. (c.in_ok-view.field-0, c.in_ok-view.ensures, entries, given)) c.par_map_values-2.ensures.entries c.par_map_values-2.ensures.given
+    if_ok_both c.par_map_values-answer.result (λ made entries given. (c.in_ok-view.view, c.in_ok-view.ensures, entries, given)) c.par_map_values-answer.ensures.entries c.par_map_values-answer.ensures.given

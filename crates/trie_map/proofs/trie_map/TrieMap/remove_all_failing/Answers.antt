@@ -22,7 +22,7 @@ loop-key-init g c =
 
 pub loop-key-preserved : goal.loop-key-preserved
 loop-key-preserved g c =
-    let pair : g.row.K.Denot × g.row.V.Denot = (c.in-Some.key.now.value, c.in-Some.value.now.value) in
+    let pair : g.row.K.Denot × g.row.V.Denot = (g.S.KeySlots.key_of c.in-Some.key.now, g.S.ValueSlots.value_of c.in-Some.value.now) in
     let few = subst (λ (rest : List (g.row.K.Denot × g.row.V.Denot)). c.loop-key.removed + length rest ≤ length c.args.view.now) c.in-Some.ensures.steps c.loop-key.invariant.few in
     record {
       next = tt;

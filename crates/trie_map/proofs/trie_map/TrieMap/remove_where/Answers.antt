@@ -1,9 +1,8 @@
 use Rattle.std.proofs.Common.{sym, ◌∙◌, subst}
 use Rattle.std.proofs.lemmas.Result.{IfOk-weaker}
-use Rattle.std.specs.Arc.{arc_value}
-use Rattle.stripes.specs.Rules.{AllKeep, Belongs}
-use Rattle.stripes.specs.Stripes.{Content}
-use Rattle.stripes.specs.Updates.{MayPass}
+use Rattle.stripe.specs.Rules.{AllKeep, Belongs}
+use Rattle.stripe.specs.Contents.{Content}
+use Rattle.stripe.specs.Updates.{MayPass}
 use Rattle.versions.specs.Map.{value_at}
 use Rattle.trie_map.proofs.Deciding.{removed_passes, removed_where}
 use Rattle.map_view.proofs.Keeping.{some_keeps}
@@ -21,11 +20,11 @@ returns-clause-tested g c =
     in
     let told = c.remove_passing.ensures.removed in
     IfOk-weaker c.remove_passing.result _ _
-    (λ removed is. (here, some_keeps (H key) here (λ v found. (law key v found).0), subst (MayPass g.F.FnOnce c.args.test here) (removed_where g.F.FnOnce c.args.test arc_value here told.0 removed told.1 is) told.1))
+    (λ removed is. (here, some_keeps (H key) here (λ v found. (law key v found).0), subst (MayPass g.F.FnOnce c.args.test here) (removed_where g.F.FnOnce c.args.test g.S.ValueSlots.value_of here told.0 removed told.1 is) told.1))
     told.3
 
 pub returns-clause-removed : goal.returns-clause-removed
 returns-clause-removed g c =
     let told = c.remove_passing.ensures.removed in
     let here = value_at g.K.Ord.cmp c.deref_mut.result.now.entries (g.Q.Sought.key_of c.args.key) in
-    IfOk-weaker c.remove_passing.result _ _ (λ removed is. removed_passes g.F.FnOnce c.args.test arc_value here told.0 removed told.1 is) told.3
+    IfOk-weaker c.remove_passing.result _ _ (λ removed is. removed_passes g.F.FnOnce c.args.test g.S.ValueSlots.value_of here told.0 removed told.1 is) told.3

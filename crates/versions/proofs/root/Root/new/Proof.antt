@@ -1,6 +1,6 @@
 -- The node goes into the struct. Assumes `Logic`.
 use lib.Dec.{T}
-use mir.Syntax.{a_type}
+use mir.Syntax.{a_type, dcons, dnil}
 use mir.Val.{Val, vstruct, of_list}
 use mir.MapTy.{inst_fn}
 use base.Logic.{SProp, emp}
@@ -18,7 +18,7 @@ use denote.Param.Mute.{blank}
 use denote.RattleType.{RattleType, owns, Valss}
 use denote.Signature.{types_at, plain}
 use denote.Steps.{nothing}
-use denote.Param.{param, layout, layouts}
+use denote.Param.{param, layout, bounded}
 use denote.Param.Laws.{param_laws}
 use denote.Triple.Entry.{alive}
 use denote.Triple.Walked.{Stays, stay_dropped, walk_of}
@@ -26,10 +26,12 @@ use Rattle.std.proofs.Common.{◌≡◌, Bool, true, false, ◌&&◌, List, [], 
 use Rattle.std.proofs.alloc.Calls.{Goes-blank}
 use Rattle.std.proofs.cell.Inside.{one}
 use Rattle.std.proofs.raw_atomic.Walks.{proved_at, leaves}
-use Rattle.trie_shape.proofs.node.Node.TheLaws as node
-use Rattle.trie_shape.specs.contracts.node.Node as Node
 use Rattle.trie_shape.specs.declared.node.Node.{out-Node, Vacant, Leaf, Bucket, Two', Four', Eight', Sixteen', All'}
+use Rattle.slots.specs.declared.storage.KeySlots as KeySlots
+use Rattle.slots.specs.declared.storage.ValueSlots as ValueSlots
+use Rattle.trie_shape.proofs.node.Node.TheLaws as node
 use Rattle.trie_shape.specs.View.{tree}
+use Rattle.trie_shape.specs.contracts.node.Node as Node
 use Rattle.versions.specs.contracts.root.Root.TheInside as Inside
 use Rattle.versions.specs.contracts.root.Root.new.{ended, clauses}
 use Rattle.versions.specs.contracts.root.Root.new.Key.{name as #self}
@@ -40,30 +42,33 @@ and_tt : (b : Bool) → T b → T (b && true)
 and_tt true t = tt
 and_tt false t = absurd t
 
+-- the row of a node of parameters
+abbrev of_params : (K V S A B : RattleType) (keys : KeySlots.Ghosts S.Denot K.Denot A.Denot) (values : ValueSlots.Ghosts S.Denot V.Denot B.Denot) → RattleType
+of_params K V S A B keys values = Node.the_row (param 0 K) (param 1 V) (param 2 S) (param 3 A) (param 4 B) keys values
+
 -- what is bound when a node is passed says nothing
-silent : (K V : RattleType) (x : (Node.the_row (param 0 K) (param 1 V)).Denot) (f : Last ((Node.the_row (param 0 K) (param 1 V)).exit no) x) → T (blank (left ((Node.the_row (param 0 K) (param 1 V)).exit no) x f))
+silent : (K V S A B : RattleType) (keys : KeySlots.Ghosts S.Denot K.Denot A.Denot) (values : ValueSlots.Ghosts S.Denot V.Denot B.Denot) (x : (of_params K V S A B keys values).Denot) (f : Last ((of_params K V S A B keys values).exit no) x) → T (blank (left ((of_params K V S A B keys values).exit no) x f))
 unfolding out-Node out
-silent K V Vacant f = tt
-silent K V (Leaf stamp pair) f = tt
-silent K V (Bucket stamp pairs) f = tt
-silent K V (Two' bitmap stamp size p shape row) f = tt
-silent K V (Four' bitmap stamp size p shape row) f = tt
-silent K V (Eight' bitmap stamp size p shape row) f = tt
-silent K V (Sixteen' bitmap stamp size p shape row) f = tt
-silent K V (All' bitmap stamp size p shape row) f = tt
+silent K V S A B keys values Vacant f = tt
+silent K V S A B keys values (Leaf stamp pair) f = tt
+silent K V S A B keys values (Bucket stamp pairs) f = tt
+silent K V S A B keys values (Two' bitmap stamp size p shape nodes) f = tt
+silent K V S A B keys values (Four' bitmap stamp size p shape nodes) f = tt
+silent K V S A B keys values (Eight' bitmap stamp size p shape nodes) f = tt
+silent K V S A B keys values (Sixteen' bitmap stamp size p shape nodes) f = tt
+silent K V S A B keys values (All' bitmap stamp size p shape nodes) f = tt
 
 pub new_spec : {M : Type 1} → statement M
-new_spec 𝓤 𝓛 𝓜 𝓡 wired K V LK LV =
-    let H = 𝓛.H in let 𝓣 = tables 𝓤 H 𝓜 𝓡 𝓡.env in let R : RattleType = param 0 K in let Z : RattleType = param 1 V in
-    let L : RattleType = Node.the_row R Z in
-    let laws = node.the_row_laws R Z (param_laws 0 K LK) (param_laws 1 V LV) in
-    let En = ended K V in let c = clauses K V 𝓛 𝓜.mem 𝓡.returns in
-    let inst = layouts (a_type ∷ a_type ∷ []) (K, (V, tt)) in let fn = inst_fn inst code.function in
+new_spec 𝓤 𝓛 𝓜 𝓡 wired K V S A B LK LV LS LA LB rows dr keys dk values dv _ _ _ =
+    let H = 𝓛.H in let 𝓣 = tables 𝓤 H 𝓜 𝓡 𝓡.env in let L : RattleType = of_params K V S A B keys values in
+    let laws = node.the_row_laws (param 0 K) (param 1 V) (param 2 S) (param 3 A) (param 4 B) keys values (param_laws 0 K LK) (param_laws 1 V LV) (param_laws 2 S LS) (param_laws 3 A LA) (param_laws 4 B LB) in
+    let En = ended K V S A B rows dr keys dk values dv in let c = clauses K V S A B rows dr keys dk values dv 𝓛 𝓜.mem 𝓡.returns in
+    let inst = bounded (a_type ∷ a_type ∷ a_type ∷ a_type ∷ a_type ∷ []) (K, (V, (S, (A, (B, tt))))) (dcons dr (dcons dk (dcons dv dnil))) in let fn = inst_fn inst code.function in
     let hs : Stays En.signature.params En.kept = (stay_dropped (plain (λ _. L)) no, tt) in
-    proved_at 𝓛 En hs c 𝓜 𝓡 (Goes-blank 𝓛 2 (plain (λ _. L)) no (λ κs x f. silent K V x f), tt) (#self inst) fn (code.unfolded 𝓤 H 𝓜 𝓡 wired (K, (V, tt))) (λ z are.
+    proved_at 𝓛 En hs c 𝓜 𝓡 (Goes-blank 𝓛 5 (plain (λ _. L)) no (λ κs x f. silent K V S A B keys values x f), tt) (#self inst) fn (code.unfolded 𝓤 H 𝓜 𝓡 wired (K, (V, (S, (A, (B, tt))))) dr dk dv) (λ z are.
     let Post : Val → SProp 𝓤 = (walk_of 𝓛 En hs c).post z in let a = z.0.3 in let vss = z.0.4 in let x = a.0 in let t = tree x in
     let got = one (layout L) vss.0 ((laws.lawful 𝓛).typed x vss.0 are.0) in let w : Val = got.0 in let good = got.2 in let v : Val = vstruct (of_list (w ∷ [])) in
-    let I : RattleType = Inside.the_row R Z in let made : I.Denot = record { node = x } in
+    let I : RattleType = Inside.the_row (param 0 K) (param 1 V) (param 2 S) (param 3 A) (param 4 B) keys values in let made : I.Denot = record { node = x } in
     qed 𝓛 ((raw (alive 𝓛 En.signature z.0.0 z.0.1) ⊛ ‵ (owns (types_at En.signature.params z.0.0) a vss)) ∷ raw ((c z.0.0 a).requires z.1) ∷ []) ∵
     move ! (1 ∷ []) $ drop ! $ split ! $ move ! (1 ∷ []) $ fsplit ! $ move ! (1 ∷ []) $ drop ! $
     rewrite ! 0 (λ (us : List Val). ‵ (L.own_val x us)) got.1 refl $

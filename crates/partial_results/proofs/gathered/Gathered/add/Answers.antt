@@ -1,0 +1,17 @@
+use Rattle.std.proofs.Common.{rules}
+use Rattle.partial_results.proofs.gathered.Gathered.add.Goals as goal
+use Rattle.partial_results.proofs.gathered.Gathered.add.Goals.{in-Ok-Ok, in_default, in_default-2}
+
+pub returns-clause-partials : goal.returns-clause-partials
+returns-clause-partials g c = elim c.match-partials.branch [
+  | in-Ok-Ok w ↦ search rules
+  | in_default w ↦ search rules
+  | in_default-2 w ↦ search rules
+]
+
+pub returns-clause-leftover : goal.returns-clause-leftover
+returns-clause-leftover g c = elim c.match-partials.branch [
+  | in-Ok-Ok w ↦ search rules
+  | in_default w ↦ search rules
+  | in_default-2 w ↦ search rules
+]

@@ -1,0 +1,4 @@
+pub mod Parts
+pub mod RowLaws
+pub mod Rows
+pub mod Small

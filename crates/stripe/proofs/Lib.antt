@@ -1,0 +1,4 @@
+pub mod Deciding
+pub mod Keeping
+pub mod Seeing
+pub mod Telling

@@ -1,0 +1,4 @@
+pub mod Contents
+pub mod Rules
+pub mod Told
+pub mod Updates

@@ -1,0 +1,5 @@
+use Rattle.test_queries.proofs.Ready.{always_ready}
+use Rattle.test_tables.proofs.steps.worked.Goals as goal
+
+pub work-requires : goal.work-requires
+work-requires c = always_ready (λ x. tt) (λ x. tt) (λ x. tt) (λ x. tt) c.args.query.now

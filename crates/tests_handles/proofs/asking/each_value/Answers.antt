@@ -1,5 +1,0 @@
-use Rattle.std.proofs.Common.{Some}
-use Rattle.tests_handles.proofs.asking.each_value.Goals as goal
-
-pub new-requires : goal.new-requires
-new-requires c = ((λ k v. (v, (Some v, Some v))), λ k v r is. is)

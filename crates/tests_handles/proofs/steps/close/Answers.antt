@@ -1,6 +1,0 @@
-use Rattle.handles.specs.Machine.{job_at}
-use Rattle.tests_handles.proofs.CallsKeep.{answers_job}
-use Rattle.tests_handles.proofs.steps.close.Goals as goal
-
-pub finish-requires : goal.finish-requires
-finish-requires g c = answers_job g.Q.Bulk.answers (job_at c.args.table.now c.args.job) c.args.part c.requires

@@ -1,5 +1,0 @@
-use Rattle.test_queries.proofs.Ready.{always_ready}
-use Rattle.tests_handles.proofs.steps.worked.Goals as goal
-
-pub work-requires : goal.work-requires
-work-requires c = always_ready (λ x. tt) (λ x. tt) (λ x. tt) (λ x. tt) c.args.query.now

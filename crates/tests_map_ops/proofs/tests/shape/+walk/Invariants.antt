@@ -1,6 +1,0 @@
-use Rattle.std.proofs.Common.{suc, ◌-◌}
-use Rattle.hash_path.specs.Digits.{word_digits}
-use Rattle.tests_map_ops.proofs.tests.shape.+walk.Given as goal
-
-abbrev pub decreases-walk : goal.decreases-walk
-decreases-walk l = suc word_digits - l.depth

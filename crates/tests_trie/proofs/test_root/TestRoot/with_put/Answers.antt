@@ -1,8 +1,0 @@
-use Rattle.trie_shape.specs.View.{tree}
-use Rattle.tests_trie.proofs.Bounds.{put_holds}
-use Rattle.tests_trie.proofs.test_root.TestRoot.with_put.Goals as goal
-
-pub invariant_of-result : goal.invariant_of-result
-invariant_of-result g c =
-    let a = c.args in
-    put_holds g.K.Ord.cmp g.K.PathKey.path_of g.met.K.Ord.total c.root_is_map.ensures.sorted c.self.inside.most a.stamp.0 a.key.value (tree c.self.inside.root) (tree c.in_ok-with_put.field-0) a.value.value c.in_ok-with_put.ensures c.self.invariant.1
