@@ -28,7 +28,7 @@ quick: ## Runs the tests with no proof; of one crate, with CRATE=NAME, and with 
 changed: ## Proves and tests what changed since BASE (origin/main), and what stands on it; DRY=1 only says what that is.
 	@tools/changed $(if $(DRY),--dry) $(BASE)
 
-test: ## The gate: every proof from nothing, the edits that must be refused, all tests and programs.
+test: ## The gate: every proof, the edits that must be refused, all tests and programs; with ANEW=1 also what was proved here before.
 	@tools/gate
 
 costs: ## Prints what an edit of each crate costs the gate, and the ten functions with the most steps.
