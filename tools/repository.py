@@ -16,6 +16,9 @@ TOP = pathlib.Path(__file__).resolve().parent.parent
 # The table of times. A row has a crate, and the seconds of its proof, of its tests and of its edits.
 TIMES = pathlib.Path("tools/times.tsv")
 ROW = re.compile(r"(\w+)\t(\d+)\t(\d+)\t(\d+)")
+PARTS = ["proof", "tests", "edits"]
+# The same, as a run of the gate has measured it.
+MEASURED = pathlib.Path("out/times.tsv")
 
 
 class Fault(Exception):

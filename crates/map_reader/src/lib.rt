@@ -16,6 +16,3 @@ mod since;
 pub use reader::Reader;
 pub use readers::Readers;
 pub use since::Since;
-
-#[cfg(test)]
-mod tests;

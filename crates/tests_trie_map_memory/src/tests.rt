@@ -5,6 +5,7 @@ mod halves;
 mod hashing;
 mod lists;
 mod memory;
+mod own_rows;
 mod queries;
 mod rows;
 mod shapes;

@@ -1,7 +1,7 @@
 //! Marks: none that is set is lost, though 64 groups share a word.
 use super::{assert_is, both, filled, put, with_base};
-use crate::Readers;
 use hash_path::PathKey;
+use map_reader::Readers;
 use std::process::Abort;
 use std::sync::Wait;
 use std::thread;

@@ -1,7 +1,7 @@
 //! How often a base is made, and who has it.
 use super::{TestStripes, assert_is, both, clear, filled, locked, miss, put, with_base};
-use crate::Readers;
 use hash_path::PathKey;
+use map_reader::Readers;
 use std::process::Abort;
 use std::sync::{Arc, Wait};
 

@@ -1,6 +1,6 @@
 //! Readers beside threads that write.
 use super::{TestStripes, assert_is, filled, put};
-use crate::Readers;
+use map_reader::Readers;
 use std::process::Abort;
 use std::sync::Wait;
 use std::sync::atomic::{AtomicU64, Ordering};
@@ -68,6 +68,7 @@ fn read<R: Wait>(rt: &R, readers: &Shared<'_>, signals: &AtomicU64) -> u64 {
 // How often what was read beside the writer was wrong.
 fn wrong_reads<R: AllocGlobal + Threads + Wait + Abort + Sync>(
     rt: &R,
+    row: &TestStripes,
     readers: &Shared<'_>,
 ) -> u64 {
     let signals = AtomicU64::new(0);
@@ -78,7 +79,7 @@ fn wrong_reads<R: AllocGlobal + Threads + Wait + Abort + Sync>(
         2,
         &|number: usize| {
             if number == 0 {
-                write(rt, readers.row(), told);
+                write(rt, row, told);
                 0
             } else {
                 read(rt, readers, told)
@@ -98,7 +99,7 @@ fn the_second_key_is_never_ahead_of_the_first(rt: HostRuntime) {
     put(&rt, &row, FIRST, 0);
     put(&rt, &row, SECOND, 0);
     let readers = Readers::new(rt.alloc(), &row);
-    assert_is(&rt, wrong_reads(&rt, &readers), 0);
+    assert_is(&rt, wrong_reads(&rt, &row, &readers), 0);
     assert!(&rt; readers.made() > 1, "no base was renewed");
 }
 

@@ -4,8 +4,8 @@ mod bases;
 mod marks;
 mod threads;
 
-use crate::{Reader, Readers};
 use hash_path::PathKey;
+use map_reader::{Reader, Readers};
 use std::fmt::Debug;
 use std::process::Abort;
 use std::sync::{Arc, MutexGuard, Wait};

@@ -3,7 +3,7 @@ use super::{
     TestStripes, assert_is, both, clear, empty, filled, locked, miss, put, remove, update,
     with_base,
 };
-use crate::Readers;
+use map_reader::Readers;
 use std::process::Abort;
 use std::sync::Wait;
 use stripes::{Stripes, forks, joined};
