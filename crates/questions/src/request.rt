@@ -7,6 +7,7 @@ ghost use Rattle.handles.specs.Machine.{freeze, is_freeze, job_of, on};
 ghost use Rattle.handles.specs.Views.{asked_of, command_of};
 
 use crate::query::ScriptQuery;
+use arguments::Key;
 use handles::{Call, Command, Request};
 use keys::ByteText;
 use script::Statement;
@@ -31,16 +32,16 @@ pub fn request_of(alloc: Global, statement: &Statement) -> Result<ScriptRequest,
             on(handle, Command::Get(key.text()?))
         }
         Statement::Put { handle, key, value } => {
-            on(handle, Command::Put(key.text()?, held(alloc, value)?))
+            let (key, value) = pair(alloc, key, value)?;
+            on(handle, Command::Put(key, value))
         }
         Statement::PutIfAbsent { handle, key, value } => {
-            on(
-                handle,
-                Command::PutIfAbsent(key.text()?, held(alloc, value)?),
-            )
+            let (key, value) = pair(alloc, key, value)?;
+            on(handle, Command::PutIfAbsent(key, value))
         }
         Statement::Replace { handle, key, value } => {
-            on(handle, Command::Replace(key.text()?, held(alloc, value)?))
+            let (key, value) = pair(alloc, key, value)?;
+            on(handle, Command::Replace(key, value))
         }
         Statement::ReplaceIf {
             handle,
@@ -48,12 +49,18 @@ pub fn request_of(alloc: Global, statement: &Statement) -> Result<ScriptRequest,
             old,
             new,
         } => {
-            let (old, new) = (held(alloc, old)?, held(alloc, new)?);
-            on(handle, Command::ReplaceIf(key.text()?, old, new))
+            let (key, old) = pair(alloc, key, old)?;
+            let Ok(new) = Arc::new(alloc, *new) else {
+                drop(key);
+                drop(old);
+                return Err(NoMemory);
+            };
+            on(handle, Command::ReplaceIf(key, old, new))
         }
         Statement::Remove { handle, key } => on(handle, Command::Remove(key.text()?)),
         Statement::RemoveIf { handle, key, value } => {
-            on(handle, Command::RemoveIf(key.text()?, held(alloc, value)?))
+            let (key, value) = pair(alloc, key, value)?;
+            on(handle, Command::RemoveIf(key, value))
         }
         Statement::Size { handle } => on(handle, Command::Size),
         Statement::Clear { handle } => on(handle, Command::Clear),
@@ -101,9 +108,17 @@ fn job(alloc: Global, handle: &u32, query: ScriptQuery) -> Result<ScriptRequest,
     Ok(Request::Freeze(*handle, Arc::new(alloc, query)?))
 }
 
-/// The value, to be a value of a map.
-fn held(alloc: Global, value: &i64) -> Result<Arc<i64>, AllocError>
-    ensures { IfOk result (λ held. arc_value held ≡ value.now) }
+/// The key and the value, to be a pair of a map.
+fn pair(alloc: Global, key: &Key, value: &i64) -> Result<(Arc<ByteText>, Arc<i64>), AllocError>
+    ensures key { IfOk result (λ pair. arc_value pair.0 ≡ key.now) }
+    ensures value { IfOk result (λ pair. arc_value pair.1 ≡ value.now) }
 {
-    Ok(Arc::new(alloc, *value)?)
+    let value = Arc::new(alloc, *value)?;
+    match key.text() {
+        Ok(key) => Ok((key, value)),
+        Err(wanting) => {
+            drop(value);
+            Err(wanting)
+        }
+    }
 }
