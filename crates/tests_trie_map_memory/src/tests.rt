@@ -5,7 +5,6 @@ mod halves;
 mod hashing;
 mod lists;
 mod memory;
-mod own_rows;
 mod queries;
 mod rows;
 mod shapes;
