@@ -16,9 +16,10 @@ TOP = pathlib.Path(__file__).resolve().parent.parent
 # The table of times. A row has a crate, and the seconds of its proof, of its tests and of its edits.
 TIMES = pathlib.Path("tools/times.tsv")
 ROW = re.compile(r"(\w+)\t(\d+)\t(\d+)\t(\d+)")
-PARTS = ["proof", "tests", "edits"]
-# The same, as a run of the gate has measured it.
+# The table that a run of the gate leaves of what it measured.
 MEASURED = pathlib.Path("out/times.tsv")
+# What the numbers of a row are of.
+PARTS = ["proof", "tests", "edits"]
 
 
 class Fault(Exception):

@@ -1,4 +1,4 @@
-//! What readers answer beside writers, and how often they have a new base.
+//! What readers return beside writers, and how often they have a new base.
 mod answers;
 mod bases;
 mod marks;
@@ -18,7 +18,7 @@ type TestStripes = Stripes<u64, u64, Anything>;
 // A key that no test writes.
 const ABSENT: u64 = u64::MAX;
 
-// What is seen is what is wanted. An assertion is proved wherever it is written out, so it stands here once.
+// What is seen is what is wanted.
 fn assert_is<T: PartialEq + Debug + Drop>(rt: &impl Abort, seen: T, want: T) {
     assert_eq!(rt; seen, want);
 }

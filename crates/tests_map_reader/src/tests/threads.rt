@@ -65,6 +65,15 @@ fn read<R: Wait>(rt: &R, readers: &Shared<'_>, signals: &AtomicU64) -> u64 {
     wrong
 }
 
+// How often all threads read what was wrong, by how often each did.
+fn in_all(counts: Vec<u64>) -> u64 {
+    let mut wrong = 0u64;
+    for reads in counts {
+        wrong = wrong.wrapping_add(reads);
+    }
+    wrong
+}
+
 // How often what was read beside the writer was wrong.
 fn wrong_reads<R: AllocGlobal + Threads + Wait + Abort + Sync>(
     rt: &R,
@@ -86,11 +95,7 @@ fn wrong_reads<R: AllocGlobal + Threads + Wait + Abort + Sync>(
             }
         },
     );
-    let mut wrong = 0u64;
-    for reads in all.expect(rt, "no threads") {
-        wrong = wrong.wrapping_add(reads);
-    }
-    wrong
+    in_all(all.expect(rt, "no threads"))
 }
 
 #[test]
@@ -144,11 +149,7 @@ fn lost<R: AllocGlobal + Threads + Wait + Abort + Sync>(
         THREADS,
         &|number: usize| { own(rt, row, readers, number as u64) },
     );
-    let mut wrong = 0u64;
-    for reads in all.expect(rt, "no threads") {
-        wrong = wrong.wrapping_add(reads);
-    }
-    wrong
+    in_all(all.expect(rt, "no threads"))
 }
 
 #[test]
