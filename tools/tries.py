@@ -193,7 +193,7 @@ class Tries:
     def start(self) -> None:
         work = self.left.pop(0)
         with open(self.logs / f"{work.name}.out", "wb") as out, open(self.logs / f"{work.name}.log", "wb") as log:
-            words = ["rt", "try", *work.words]
+            words = [str(TOP / "tools" / "try_alone"), *work.words]
             given = TOP / "crates" / work.crate / "stdin"
             with open(given if isinstance(work, Program) and given.is_file() else "/dev/null", "rb") as stdin:
                 how = {"stdin": stdin, "stdout": out, "stderr": log, "process_group": 0}

@@ -4,6 +4,7 @@ use crate::made::{no_pairs, pair_if};
 use combiner::{BulkIn, merge};
 use hash_path::PathKey;
 use std::alloc::Global;
+use std::mem;
 use trie_filter::with_passing;
 use trie_node::{KeySlots, NoMemory, Node, Slots, Stamp, ValueSlots};
 use versions::{MOST_PAIRS, Version};
@@ -81,7 +82,10 @@ impl<
         value: &B,
     ) -> Result<(), NoMemory> {
         let one = self.one(alloc, key, value)?;
-        *part = self.join(alloc, &one, part)?;
+        let all = self.join(alloc, &one, part);
+        // (a drop that is written out is proved once, and not at each return)
+        drop(one);
+        drop(mem::replace(part, all?));
         Ok(())
     }
 
@@ -91,9 +95,18 @@ impl<
         part: Version<K, V, S>,
         root: &Node<K, V, S>,
     ) -> Result<Result<Version<K, V, S>, Version<K, V, S>>, NoMemory> {
-        match self.of_root(alloc, root)? {
-            Some(made) => Ok(Ok(self.join(alloc, &part, &made)?)),
-            None => Ok(Err(part)),
+        match self.of_root(alloc, root) {
+            Ok(Some(made)) => {
+                let all = self.join(alloc, &part, &made);
+                drop(made);
+                drop(part);
+                Ok(Ok(all?))
+            }
+            Ok(None) => Ok(Err(part)),
+            Err(NoMemory) => {
+                drop(part);
+                Err(NoMemory)
+            }
         }
     }
 }

@@ -4,6 +4,7 @@ use crate::made::{no_pairs, one_pair};
 use combiner::{BulkIn, merge};
 use hash_path::PathKey;
 use std::alloc::Global;
+use std::mem;
 use trie_node::{KeySlots, NoMemory, Node, Slots, Stamp, ValueSlots};
 use trie_values::with_new_values;
 use versions::{MOST_PAIRS, Version};
@@ -88,7 +89,10 @@ where
         value: &B,
     ) -> Result<(), NoMemory> {
         let one = self.one(alloc, key, value)?;
-        *part = self.join(alloc, &one, part)?;
+        let all = self.join(alloc, &one, part);
+        // (a drop that is written out is proved once, and not at each return)
+        drop(one);
+        drop(mem::replace(part, all?));
         Ok(())
     }
 
@@ -98,9 +102,18 @@ where
         part: Version<K, W, S>,
         root: &Node<K, V, S>,
     ) -> Result<Result<Version<K, W, S>, Version<K, W, S>>, NoMemory> {
-        match self.of_root(alloc, root)? {
-            Some(made) => Ok(Ok(self.join(alloc, &part, &made)?)),
-            None => Ok(Err(part)),
+        match self.of_root(alloc, root) {
+            Ok(Some(made)) => {
+                let all = self.join(alloc, &part, &made);
+                drop(made);
+                drop(part);
+                Ok(Ok(all?))
+            }
+            Ok(None) => Ok(Err(part)),
+            Err(NoMemory) => {
+                drop(part);
+                Err(NoMemory)
+            }
         }
     }
 }

@@ -16,6 +16,3 @@ pub use group_counts::GroupCounts;
 pub use group_folds::GroupFolds;
 pub use groups::Groups;
 pub use try_group_counts::TryGroupCounts;
-
-#[cfg(test)]
-mod tests;

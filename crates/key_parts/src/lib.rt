@@ -2,7 +2,5 @@
 #![tactic(auto)]
 
 mod parts;
-#[cfg(test)]
-mod tests;
 
 pub use parts::{Parts, ThreeParts};

@@ -5,7 +5,7 @@ use std::cmp::Ordering;
 
 /// What stands for a pair of keys: what stands for the first, and what stands for the second.
 ///
-/// <!-- quoted from crates/key_parts/src/tests.rt -->
+/// <!-- quoted from crates/tests_keys/src/tests/parts.rt -->
 /// ```rust
 /// let flag = Parts("acme", "dark-mode");
 /// ```
@@ -33,7 +33,7 @@ impl<A: PathKey, B: PathKey, P: Sought<A>, Q: Sought<B>> Sought<(A, B)> for Part
 
 /// What stands for a triple of keys: what stands for each of the three.
 ///
-/// <!-- quoted from crates/key_parts/src/tests.rt -->
+/// <!-- quoted from crates/tests_keys/src/tests/parts.rt -->
 /// ```rust
 /// let sought = ThreeParts("acme", &7u32, "eu");
 /// ```

@@ -12,6 +12,3 @@ mod text;
 
 pub use short::MOST_IN_PLACE;
 pub use text::ByteText;
-
-#[cfg(test)]
-mod tests;

@@ -12,7 +12,7 @@ use std::{fmt, str};
 
 /// A key of any bytes, in the order of a dictionary. Its path word is the FNV-1a hash of the bytes.
 ///
-/// <!-- quoted from crates/keys/src/tests.rt -->
+/// <!-- quoted from crates/tests_keys/src/tests/texts.rt -->
 /// ```rust
 /// let plain = ByteText::from_text(rt.alloc(), "h\u{e9}llo")?;
 /// assert_eq!(rt; plain.as_str(), Some("h\u{e9}llo"));

@@ -5,8 +5,6 @@ mod inlined;
 mod seed;
 mod seeded;
 mod sought;
-#[cfg(test)]
-mod tests;
 
 pub use seed::Seed;
 pub use seeded::SeededText;

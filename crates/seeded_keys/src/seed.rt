@@ -15,7 +15,7 @@ use std::{fmt, io};
 /// The 128 bits with which a service makes the path words of its keys. Whoever knows them can make keys that share a
 /// word, so they are drawn anew for each run, and told to nobody.
 ///
-/// <!-- quoted from crates/seeded_keys/src/tests.rt -->
+/// <!-- quoted from crates/tests_keys/src/tests/seeded.rt -->
 /// ```rust
 /// let seed = Seed::random(&rt)?;
 /// let alice = seed.key(alloc, "alice")?;

@@ -12,7 +12,7 @@ use std::fmt;
 /// A key of any bytes, with its path word under the seed that made it. Keys are in the order of their bytes; those of
 /// two seeds are no equal keys, whatever their bytes.
 ///
-/// <!-- quoted from crates/seeded_keys/src/tests.rt -->
+/// <!-- quoted from crates/tests_keys/src/tests/seeded.rt -->
 /// ```rust
 /// assert_eq!(rt; found((&zeros, "alice"), &key), (path, Ordering::Equal));
 /// ```

@@ -6,10 +6,10 @@ use std::alloc::{AllocError, AllocFailed, Global};
 
 /// Keys and values lie in the rows themselves.
 ///
-/// <!-- quoted from crates/slots/src/tests.rt -->
+/// <!-- quoted from crates/tests_trie_memory/src/tests/prices.rt -->
 /// ```rust
 /// let mut pair: Pair<u64, Price, InPlace> = Pair::new(3, PRICE);
-/// let copy = pair.another()?;
+/// let copy = pair.another().expect(&rt, "no pair");
 /// ```
 pub struct InPlace;
 

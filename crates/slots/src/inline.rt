@@ -9,7 +9,7 @@ use std::alloc::AllocError;
 ///
 /// Each type of at most 64 bytes may say so itself:
 ///
-/// <!-- quoted from crates/slots/src/tests.rt -->
+/// <!-- quoted from crates/tests_trie_memory/src/tests/prices.rt -->
 /// ```rust
 /// impl Inline for Price {
 ///     ghost use Rattle.std.proofs.Common.{rules};
@@ -32,7 +32,7 @@ pub trait Inline {
 
 /// What takes 32 bytes at most: a pair of these, and an option of one, may lie in a row.
 ///
-/// <!-- quoted from crates/slots/src/tests.rt -->
+/// <!-- quoted from crates/tests_trie_memory/src/tests/prices.rt -->
 /// ```rust
 /// impl Half for Price {
 ///     ghost use Rattle.std.proofs.Common.{rules};
@@ -47,7 +47,7 @@ pub trait Half: Inline {
 
 /// What takes 16 bytes at most: up to four of these may lie in a row, and a pair or an option of these is a `Half`.
 ///
-/// <!-- quoted from crates/slots/src/tests.rt -->
+/// <!-- quoted from crates/tests_keys/src/tests/rows.rt -->
 /// ```rust
 /// assert_eq!(rt; twin(&(1u8, 2u64, 'x'))?, (1, 2, 'x'));
 /// ```

@@ -7,7 +7,7 @@ use std::sync::Arc;
 
 /// Keys lie in the rows themselves, and values behind handles, which maps and callers share.
 ///
-/// <!-- quoted from crates/slots/src/tests.rt -->
+/// <!-- quoted from crates/tests_keys/src/tests/rows.rt -->
 /// ```rust
 /// let value = KeysInPlace::new_value(alloc, 10u64)?;
 /// assert_eq!(rt; own_value::<u64, KeysInPlace>(value).ok(), Some(10));

@@ -20,6 +20,3 @@ pub use keys_in_place::KeysInPlace;
 pub use pair::Pair;
 pub use shared::Shared;
 pub use storage::{KeySlots, Slots, ValueSlots};
-
-#[cfg(test)]
-mod tests;

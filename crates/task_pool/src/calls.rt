@@ -118,13 +118,48 @@ where
     if pairs <= crew.grain {
         return run_sequential::<C, K, V, S, B, G>(&shared, view, bulk, crew.workers);
     }
+    run_started::<C, K, V, S, B, G, R>(rt, &shared, view, bulk, crew.workers)
+}
+
+// The report of a call whose workers are started.
+fn run_started<C, K, V, S, B, G, R>(
+    rt: &R,
+    shared: &Shared<'_, G>,
+    view: &View<K, V, S>,
+    bulk: &B,
+    workers: u32,
+) -> Result<Report<B::Part>, NoMemory>
+where
+    C: OfView<K, V> + OfBulk<B> + Send + Sync,
+    K: PathKey + Send + Sync,
+    V: Send + Sync,
+    S: Slots<K, V> + Send + Sync,
+    S::Key: Drop + Send + Sync,
+    S::Value: Drop + Send + Sync,
+    B: BulkIn<K, V, S> + Sync,
+    B::Part: Send,
+    G: Gate + Sync,
+    R: Threads + Wait + Sync,
+    requires least { 1 ≤ shared.now.started }
+    requires most { shared.now.started ≤ workers }
+    requires workers { workers ≤ MOST_WORKERS }
+    requires grain { shared.now.grain ≡ C.grain }
+    requires view { view.now ≡ C.map }
+    requires bulk { Some bulk.now ≡ C.bulk }
+    requires ready { B.ready bulk.now }
+    ensures { IfOk result (λ report. IsReport K.path_of (G.asked shared.now.gate.now) (B.answers bulk.now) (B.decides bulk.now) C.map C.grain workers report.part (map (λ list. list.items) report.lists.items)) }
+{
+    let alloc = shared.alloc;
     let task = Task::<C, K, V, S>::new(whole(alloc, view.try_clone()?));
     let first = Snapshot::of(&task);
-    let owners = open_all(alloc, task, shared.started as usize)?;
-    let gathered = run_parallel::<C, K, V, S, B, Brand, G, R>(
-        rt, &shared, view, bulk, owners, &first,
-    )?;
-    make_report(&shared, view, bulk, crew.workers, gathered)
+    let Ok(owners) = open_all(alloc, task, shared.started as usize) else {
+        drop(first);
+        return Err(NoMemory);
+    };
+    let made = run_parallel::<C, K, V, S, B, Brand, G, R>(rt, shared, view, bulk, owners, &first);
+    drop(first);
+    let gathered = made?;
+    make_report(shared, view, bulk, workers, gathered)
 }
 
 // What the workers have worked of what their first deque was given, and what is left over.

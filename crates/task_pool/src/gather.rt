@@ -57,6 +57,9 @@ where
             _ => Err(NoMemory),
         }
     }
+
+    // Drops all of them. Where a loop returns early, the drop of this type would be spelled out in the proof of the loop.
+    fn discard(self) {}
 }
 
 // Takes the workers apart, and adds their balances.
@@ -87,8 +90,14 @@ where
         gathered: Gathered::new(alloc),
     };
     for one in done {
-        let IdleWorker { state } = one?;
-        parted.add(state)?;
+        let Ok(IdleWorker { state }) = one else {
+            parted.discard();
+            return Err(NoMemory);
+        };
+        let Ok(()) = parted.add(state) else {
+            parted.discard();
+            return Err(NoMemory);
+        };
     }
     Ok(parted)
 }

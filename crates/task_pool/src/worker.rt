@@ -121,7 +121,13 @@ where
         let task = uncut.task;
         shared.note_worked();
         if !partial.is_free(&task) {
-            leftover.push(task)?;
+            if let Err(back) = leftover.push(task) {
+                drop(back);
+                drop(ends);
+                drop(partial);
+                drop(leftover);
+                return Err(NoMemory);
+            }
             return Ok(WorkerState {
                 ends,
                 partial,
@@ -130,7 +136,11 @@ where
         }
         let number = number_of(ends.place());
         shared.gate.before(number, task.lo(), task.hi());
-        let partial = partial.work(shared.alloc, task)?;
+        let Ok(partial) = partial.work(shared.alloc, task) else {
+            drop(ends);
+            drop(leftover);
+            return Err(NoMemory);
+        };
         Ok(WorkerState {
             ends,
             partial,

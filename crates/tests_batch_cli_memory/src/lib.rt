@@ -1,5 +1,5 @@
-//! Tests of `batch_cli` with requests for memory refused, and with writers and readers that fail. What scripts print
-//! stands in `tests_batch_cli`.
+//! Tests of `batch_cli` with requests for memory refused, with writers and readers that fail, and with no job left. What
+//! scripts print stands in `tests_batch_cli`.
 #![tactic(auto)]
 
 #[cfg(test)]

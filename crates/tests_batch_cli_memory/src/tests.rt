@@ -1,5 +1,6 @@
-//! With requests for memory refused, and by writers and readers that fail.
+//! With requests for memory refused, by writers and readers that fail, and with no job left.
 mod failures;
+mod jobs;
 mod memory;
 
 ghost use Rattle.batch_cli.specs.CommandLine.{AreInRange};

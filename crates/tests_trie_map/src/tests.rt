@@ -10,6 +10,7 @@ mod drops;
 mod equality;
 mod exchanged;
 mod filled;
+mod groups;
 mod hot_keys;
 mod in_rows;
 mod let_go;

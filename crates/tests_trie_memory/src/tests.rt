@@ -9,7 +9,9 @@ mod long_rows;
 mod maps;
 mod memory;
 mod merged;
+mod prices;
 mod united;
+mod words;
 
 use std::alloc::Global;
 use std::fmt::Debug;

@@ -1,4 +1,3 @@
 pub mod Writes
 pub mod Changes
 pub mod Removals
-pub mod Merges

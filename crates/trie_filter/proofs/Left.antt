@@ -11,8 +11,8 @@ use Rattle.std.specs.FinMap.{find}
 use Rattle.std.specs.Int.RustNames.{count_ones}
 use Rattle.hash_path.specs.Digits.{digit, last_level}
 use Rattle.std.specs.Borrow.{Bor}
-use Rattle.trie_copy.specs.Merges.{StampsPass, pairs_of}
-use Rattle.trie_copy.proofs.StampTests.{pass_listed}
+use Rattle.trie_merging.specs.Merges.{StampsPass, pairs_of}
+use Rattle.trie_merging.proofs.StampTests.{pass_listed}
 use Rattle.trie_shape.specs.Looks.{ShowsBitmap, ShowsPairs}
 use Rattle.trie_shape.specs.Roots.{map_of, word_of}
 use Rattle.trie_shape.specs.Shape.{nodes}

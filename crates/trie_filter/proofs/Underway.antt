@@ -3,7 +3,7 @@ use Rattle.std.proofs.Common.{◌≡◌, ℕ, zero, suc, ◌+◌, ◌*◌, ◌%�
 use Rattle.std.proofs.lemmas.List.{append-nil, drop_more, length-append, take_all, take_more}
 use Rattle.std.specs.declared.cmp.Ordering.{Ordering}
 use Rattle.hash_path.specs.Digits.{fan_out}
-use Rattle.trie_copy.specs.Merges.{AllStampsPass, StampsPass}
+use Rattle.trie_merging.specs.Merges.{AllStampsPass, StampsPass}
 use Rattle.trie_shape.specs.Looks.{ShowsBitmap}
 use Rattle.trie_shape.specs.Outline.{children, list_of}
 use Rattle.trie_shape.specs.Tree.{Tree, branch, bucket, Trees, no_trees, more_trees, trees, digits_of, entries, entries_of_all, KeysHaveDigit, IsTrie, AreTries}

@@ -2,7 +2,7 @@
 use Rattle.std.specs.Prelude.{◌≡◌, ◌⊎◌, ℕ, ◌<◌, ◌^◌, ◌==◌, Bool, true, false, List, [], ◌∷◌, length, Option, Some, None, IfSome}
 use Rattle.std.specs.declared.cmp.Ordering.{Ordering}
 use Rattle.hash_path.specs.Digits.{fan_out}
-use Rattle.trie_copy.specs.Merges.{AllStampsPass, StampsPass, pairs_of}
+use Rattle.trie_merging.specs.Merges.{AllStampsPass, StampsPass, pairs_of}
 use Rattle.trie_shape.specs.Tree.{Tree, branch, bucket, Trees, no_trees, more_trees, trees, digits_of, entries, entries_of_all, IsTrie, AreTries}
 
 module _ {K V : Type 0} where

@@ -19,7 +19,11 @@ pub use root_in_place::{
 pub use trie_puts::{Change, Exchange};
 
 // Writes by copies.
-pub use trie_copy::{Written, merged, put_where, removed_where, with_put, with_removed};
+pub use trie_contraction::{removed_where, with_removed};
+pub use trie_copy::{Written, put_where, with_put};
+
+// The union of two maps.
+pub use trie_merging::merged;
 
 // Where keys and values lie.
 pub use slots::{InPlace, Inline, KeySlots, KeysInPlace, Pair, Shared, Slots, ValueSlots};

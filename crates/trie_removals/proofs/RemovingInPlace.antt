@@ -18,7 +18,7 @@ use Rattle.trie_removals.specs.RemovalInPlace.{TakesOut, TakesInside}
 use Rattle.trie_removals.specs.declared.removal_in_place.RemovedIn.{RemovedIn}
 use Rattle.trie_removals.specs.declared.removal_in_place.RemovedIn.TheVariants.{Gone, Left}
 use Rattle.trie_removals.specs.declared.removal_in_place.TakenInside.{TakenInside}
-use Rattle.trie_copy.proofs.Removing.{size_below, gone_below, left_below}
+use Rattle.trie_contraction.proofs.Removing.{size_below, gone_below, left_below}
 
 -- the child of the key's way was removed from, and node now stands in its place
 module _ {K V S X Y : Type 0} {R : K → K → Ordering} {path : K → ℕ} {level : ℕ} {k : K} {b : Below K V S X Y} {d i : ℕ} {child : Node K V S X Y} (value_of : Y → V) (w : Way R path level k b d i child) (total : IsTotalOrder R) (exact : (x y : K) → R x y ≡ Equal → x ≡ y)

@@ -11,7 +11,8 @@ use hash_path::{Path, PathKey, Sought};
 use slots::Slots;
 use std::alloc::Global;
 use std::mem;
-use trie_copy::{Removal, remove_at};
+use trie_contraction::remove_at;
+use trie_copy::Removal;
 use trie_shape::{Condition, NoMemory, Node, Stamp};
 
 /// A removal by copies of the nodes of the key's way.

@@ -14,9 +14,8 @@ use hash_path::{Path, PathKey, Sought};
 use slots::{Shared, Slots, ValueSlots};
 use std::alloc::Global;
 use std::sync::Arc;
-use trie_shape::{
-    Always, Condition, NoMemory, Node, Stamp, count_out, has_digit, lose_child, place,
-};
+use trie_contraction::{count_out, lose_child};
+use trie_shape::{Always, Condition, NoMemory, Node, Stamp, has_digit, place};
 
 /// What a removal did to a node.
 #[derive(Drop)]

@@ -22,7 +22,6 @@ pub mod Names
 pub mod InOrder
 pub mod Ordered
 pub mod Counts
-pub mod Drawn
 pub mod Shortened
 pub mod Children
 pub mod Walked

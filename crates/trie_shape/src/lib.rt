@@ -9,7 +9,6 @@ mod bitmap;
 mod branch_in_place;
 mod condition;
 mod contents;
-mod contraction;
 mod copies;
 mod growing;
 mod laws;
@@ -44,11 +43,10 @@ pub use walk_laws::{
 
 // For the crates that write whole roots. None of them hands these on.
 pub use bitmap::{has_digit, place};
-pub use branch_in_place::{count_out, gain_child, lose_child};
+pub use branch_in_place::gain_child;
 pub use contents::{Branch, Contents, nth, open_node};
-pub use contraction::{with_rest, without_rest};
 pub use copies::{with_child, with_more};
 pub use growing::outgrow;
 pub use node::{make_bucket, make_leaf};
 pub use pairs::{find_pair, put_pair};
-pub use rows::make_branch;
+pub use rows::{branch_of_parts, make_branch};

@@ -91,8 +91,9 @@ where
 }
 
 /// A branch of these children, with one request for memory: handles on the nodes in front, the nodes in
-/// the middle, which are moved out of the buffer they stand in, and handles on the nodes behind.
-pub(crate) fn branch_of_parts<K, V, S: Slots<K, V>>(
+/// the middle, which are moved out of the buffer they stand in, and handles on the nodes behind. For the
+/// crates that write whole roots.
+pub fn branch_of_parts<K, V, S: Slots<K, V>>(
     alloc: Global,
     stamp: Stamp,
     size: u64,

@@ -8,7 +8,7 @@ use Rattle.std.specs.Cmp.{IsTotalOrder}
 use Rattle.std.specs.FinMap.{find}
 use Rattle.std.specs.Int.{bit_at}
 use Rattle.hash_path.specs.Digits.{digit, fan_out}
-use Rattle.trie_copy.specs.Merges.{child_at, pairs_of}
+use Rattle.trie_merging.specs.Merges.{child_at, pairs_of}
 use Rattle.trie_shape.specs.Roots.{map_of}
 use Rattle.trie_shape.specs.Shape.{Lacks}
 use Rattle.trie_shape.specs.Tree.{Tree, branch, bucket, trees, entries, entries_of_all, IsTrie}
@@ -16,8 +16,8 @@ use Rattle.trie_shape.proofs.Counts.{has_pair}
 use Rattle.trie_shape.proofs.Finds.{found_first}
 use Rattle.trie_shape.proofs.Roots.{find_entries}
 use Rattle.trie_shape.proofs.Tries.{at_child, find_child, find_other}
-use Rattle.trie_copy.proofs.ChildAt.{IsBelow}
-use Rattle.trie_copy.proofs.MergedRows.{IsSide, side}
+use Rattle.trie_merging.proofs.ChildAt.{IsBelow}
+use Rattle.trie_merging.proofs.MergedRows.{IsSide, side}
 use Rattle.united_roots.specs.Rows.{EachHasDigit, NoneHasDigit}
 
 -- an option that is not some value is none

@@ -11,12 +11,12 @@ use Rattle.std.specs.Int.RustNames.{count_ones, bit_or}
 use Rattle.std.specs.List.{insert}
 use Rattle.std.specs.Option.{option_or}
 use Rattle.hash_path.specs.Digits.{fan_out}
-use Rattle.trie_copy.specs.Merges.{AllStampsPass, StampsPass}
+use Rattle.trie_merging.specs.Merges.{AllStampsPass, StampsPass}
 use Rattle.trie_shape.specs.Shape.{Lacks}
 use Rattle.trie_shape.specs.Tree.{Tree, branch, trees, digits_of, entries, entries_of_all, IsTrie, AreTries}
 use Rattle.trie_shape.proofs.Tries.{AtGap, or_else, at_gap, entries_append, find_append, find_lacking, join}
 use Rattle.trie_copy.proofs.Branches.{length-three}
-use Rattle.trie_copy.proofs.ChildAt.{IsBelow}
+use Rattle.trie_merging.proofs.ChildAt.{IsBelow}
 
 -- what the middle of three lists has is found there, where the first then has nothing
 middle_first : {A : Type 0} (first middle last : Option A) → (is_some middle ≡ true → first ≡ None) → or_else first (or_else middle last) ≡ option_or middle (or_else first last)

@@ -12,7 +12,7 @@ use Rattle.std.specs.Int.Bits.{or_zero_l}
 use Rattle.std.specs.List.{insert}
 use Rattle.std.specs.Option.{option_or}
 use Rattle.hash_path.specs.Digits.{digit, fan_out, word_bits}
-use Rattle.trie_copy.specs.Merges.{StampsPass, child_at, pairs_of}
+use Rattle.trie_merging.specs.Merges.{StampsPass, child_at, pairs_of}
 use Rattle.trie_shape.specs.Map.{value_at}
 use Rattle.trie_shape.specs.Roots.{IsRoot, map_of, word_of}
 use Rattle.trie_shape.specs.Shape.{Fits, NoneAbove, nodes}
@@ -21,8 +21,8 @@ use Rattle.trie_shape.proofs.Divides.{trie_fits}
 use Rattle.trie_shape.proofs.Empty.{empty_is_root}
 use Rattle.trie_shape.proofs.Roots.{find_entries, length_map_of, root_is_trie, trie_is_root}
 use Rattle.trie_shape.proofs.Tries.{find_other}
-use Rattle.trie_copy.proofs.ChildAt.{IsBelow}
-use Rattle.trie_copy.proofs.StampTests.{listed_pass, none_above_pass, pass_listed, pass_none_above}
+use Rattle.trie_merging.proofs.ChildAt.{IsBelow}
+use Rattle.trie_merging.proofs.StampTests.{listed_pass, none_above_pass, pass_listed, pass_none_above}
 use Rattle.united_roots.proofs.FirstDigit.{root_side}
 use Rattle.united_roots.proofs.OneMore.{more_finds, more_trie}
 

@@ -11,7 +11,7 @@ use Rattle.std.specs.Int.RustNames.{count_ones, bit_or}
 use Rattle.std.specs.List.{insert}
 use Rattle.std.specs.Option.{option_or}
 use Rattle.hash_path.specs.Digits.{fan_out, word_bits}
-use Rattle.trie_copy.specs.Merges.{StampsPass, child_at, pairs_of}
+use Rattle.trie_merging.specs.Merges.{StampsPass, child_at, pairs_of}
 use Rattle.trie_shape.specs.Map.{union}
 use Rattle.trie_shape.specs.Roots.{IsRoot, map_of, word_of}
 use Rattle.trie_shape.specs.Shape.{Fits, NoneAbove, count_of, nodes}
@@ -23,8 +23,8 @@ use Rattle.trie_shape.proofs.Listings.{listed_as}
 use Rattle.trie_shape.proofs.Roots.{find_entries, length_map_of, map_of_is_map, root_is_trie, trie_is_root}
 use Rattle.trie_shape.proofs.Tries.{place_within}
 use Rattle.trie_shape.proofs.Unions.{IsMap-union, is_sorted_of, value_at-union}
-use Rattle.trie_copy.proofs.ChildAt.{IsBelow}
-use Rattle.trie_copy.proofs.StampTests.{listed_pass, none_above_pass, pass_listed, pass_none_above}
+use Rattle.trie_merging.proofs.ChildAt.{IsBelow}
+use Rattle.trie_merging.proofs.StampTests.{listed_pass, none_above_pass, pass_listed, pass_none_above}
 use Rattle.united_roots.specs.Rows.{EachHasDigit, NoneHasDigit}
 use Rattle.united_roots.proofs.FirstDigit.{found_below, lacks_digit, root_side}
 use Rattle.united_roots.proofs.OneMore.{more_finds, more_pass, more_trie}

@@ -1,7 +1,7 @@
 //! The children of a root that is put together.
 ghost use Rattle.std.specs.Prelude.{◌≡◌, ◌+◌, ◌<◌, ◌^◌, [], IfOk, IfSome, OnErr, OnOk, length, max, option_map};
 ghost use Rattle.hash_path.specs.Digits.{fan_out};
-ghost use Rattle.trie_copy.specs.Merges.{child_at};
+ghost use Rattle.trie_merging.specs.Merges.{child_at};
 ghost use Rattle.trie_shape.specs.Map.{IsMap, union};
 ghost use Rattle.trie_shape.specs.Roots.{IsRoot, map_of, word_of};
 ghost use Rattle.trie_shape.specs.Shape.{NoneAbove, nodes};

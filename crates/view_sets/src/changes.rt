@@ -47,8 +47,15 @@ where
     ensures removed { IfOk result (λ changes. changes.removed.entries ≡ apart K.cmp older.now newer.now) }
 {
     let put = difference(alloc, newer, older)?;
-    let altered = altered_pairs(alloc, newer, older)?;
-    let removed = difference(alloc, older, newer)?;
+    let Ok(altered) = altered_pairs(alloc, newer, older) else {
+        drop(put);
+        return Err(NoMemory);
+    };
+    let Ok(removed) = difference(alloc, older, newer) else {
+        drop(put);
+        drop(altered);
+        return Err(NoMemory);
+    };
     Ok(Changes {
         put,
         altered,

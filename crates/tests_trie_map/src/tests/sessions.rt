@@ -59,6 +59,25 @@ fn pairs_are_counted(rt: HostRuntime) {
     assert_is(&rt, seen, Ok(((2, false), (0, true))));
 }
 
+// A pair of each stripe, and the two that there were.
+#[test]
+fn a_view_has_the_pairs_of_each_stripe(rt: HostRuntime) {
+    let seen = of_two::<_, Brand, _, _>(&rt, book(), |calls| {
+        for digit in 0..32u32 {
+            calls.put(&rt, key(digit, 7), u64::from(digit))?;
+        }
+        let view = calls.view(&rt)?;
+        let mut found = 0u64;
+        for digit in 0..32u32 {
+            if view.get(&key(digit, 7)).map(|value| **value) == Some(u64::from(digit)) {
+                found = found.wrapping_add(1);
+            }
+        }
+        Ok((view.len(), found))
+    });
+    assert_is(&rt, seen, Ok((34, 32)));
+}
+
 #[test]
 fn several_keys_are_read_at_one_moment(rt: HostRuntime) {
     let seen = of_two::<_, Brand, _, _>(&rt, book(), |calls| {

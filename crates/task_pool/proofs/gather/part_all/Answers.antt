@@ -25,7 +25,7 @@ loop-one-init g c =
 
 pub loop-one-preserved : goal.loop-one-preserved
 loop-one-preserved g c =
-    let state = c.in_ok-state.state in
+    let state = c.in-Ok.state in
     let ends = state.ends in
     let partial = state.partial in
     let rest = state.leftover.items in
@@ -36,13 +36,13 @@ loop-one-preserved g c =
     let it : into_iter_items c.loop-one.one-iterator ≡ c.in-Some.one ∷ into_iter_items c.next.new.self = search rules in
     let ll : length c.add.new.self.ends.items ≡ length c.loop-one.parted.ends.items + 1 = ap length al ∙ length-append _ _ in
     let Asked = g.G.Gate.asked c.args.gate.now in
-    let own : All (Asked (length c.loop-one.parted.ends.items)) partial = subst (λ s. All (Asked (length c.loop-one.parted.ends.items)) s.partial) c.in_ok-state.state-is (first_ok (λ n w. All (Asked n) w.state.partial) _ _ c.in-Some.one c.in_ok-state.field-0 _ it (search rules) inv.5) in
-    let mine : ends.place ≡ length c.loop-one.parted.ends.items = ap (λ s. s.ends.place) (sym c.in_ok-state.state-is) ∙ first_ok (λ n w. w.state.ends.place ≡ n) _ _ c.in-Some.one c.in_ok-state.field-0 _ it (search rules) inv.1 in (
+    let own : All (Asked (length c.loop-one.parted.ends.items)) partial = subst (λ s. All (Asked (length c.loop-one.parted.ends.items)) s.partial) c.in-Ok.state-is (first_ok (λ n w. All (Asked n) w.state.partial) _ _ c.in-Some.one c.in-Ok.field-0 _ it (search rules) inv.5) in
+    let mine : ends.place ≡ length c.loop-one.parted.ends.items = ap (λ s. s.ends.place) (sym c.in-Ok.state-is) ∙ first_ok (λ n w. w.state.ends.place ≡ n) _ _ c.in-Some.one c.in-Ok.field-0 _ it (search rules) inv.1 in (
       (let l = ap length it in let h = inv.0 in omega arith),
       rest_ok (λ n w. w.state.ends.place ≡ n) _ _ _ _ _ it ll inv.1,
       places_push (λ e. e.place) _ _ ends al mine inv.2,
       (λ p.
-          let b = rw c.in_ok-state.state-is at (c.in_ok-state.field-0.balance p) in
+          let b = rw c.in-Ok.state-is at (c.in-Ok.field-0.balance p) in
           let h = inv.3 p in
           rw (al, pr, lf) (omega (
             arith,

@@ -12,7 +12,7 @@ use Rattle.trie_shape.proofs.Ways.{turn}
 use Rattle.trie_removals.specs.RemovalInPlace.{TakesOut, TakesInside}
 use Rattle.trie_removals.specs.declared.removal_in_place.TakenInside.TheVariants.{Done}
 use Rattle.trie_copy.proofs.InRows.{place_fits, row_has, place_used, place_in_row, way_in_row, held_there, set_in_row, same_in_row}
-use Rattle.trie_copy.proofs.Removing.{absent_below, nothing_below}
+use Rattle.trie_contraction.proofs.Removing.{absent_below, nothing_below}
 use Rattle.trie_removals.proofs.RemovingInPlace.{size_where_gone, size_where_left, gone_in_place, left_in_place}
 use Rattle.trie_copy.proofs.Cases.{at_err}
 use Rattle.trie_removals.proofs.RemovingInPlace.{takes_equal}

@@ -1,6 +1,6 @@
 use Rattle.std.proofs.Common.{◌≡◌, ◌<◌, [], ◌∷◌, length, Some, ap, ◌∙◌, refl}
 use Rattle.hash_path.specs.Digits.{fan_out}
-use Rattle.trie_copy.specs.Merges.{child_at}
+use Rattle.trie_merging.specs.Merges.{child_at}
 use Rattle.trie_shape.specs.Roots.{map_of}
 use Rattle.trie_shape.specs.Tree.{entries}
 use Rattle.trie_shape.specs.View.{tree}

@@ -3,7 +3,7 @@ use Rattle.hash_path.specs.Digits.{fan_out}
 use Rattle.trie_shape.specs.Outline.{children}
 use Rattle.trie_shape.specs.View.{tree}
 use Rattle.trie_shape.proofs.Roots.{root_is_trie}
-use Rattle.trie_copy.proofs.ChildAt.{place_in, child_in, child_out}
+use Rattle.trie_merging.proofs.ChildAt.{place_in, child_in, child_out}
 use Rattle.united_roots.proofs.FirstDigit.{lacks_beyond}
 use Rattle.united_roots.proofs.root_row.child_of.Goals as goal
 use Rattle.united_roots.proofs.root_row.child_of.Goals.{else-digit-lt-FAN_OUT-via-then-digit-lt-FAN_OUT+else-has_digit, else-digit-lt-FAN_OUT-via-else-digit-lt-FAN_OUT}

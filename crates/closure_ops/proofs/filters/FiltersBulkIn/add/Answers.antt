@@ -4,10 +4,10 @@ use Rattle.closure_ops.specs.Parts.{IsFiltered}
 use Rattle.closure_ops.proofs.Joining.{can_join_pair}
 use Rattle.closure_ops.proofs.filters.FiltersBulkIn.add.Goals as goal
 
-pub join-requires : goal.join-requires
-join-requires g c =
+pub join-all-requires : goal.join-all-requires
+join-all-requires g c =
     can_join_pair g.K.Ord.cmp (IsFiltered (MayAnswer g.F.Fn c.args.self.now.test)) c.in_ok-one.one c.args.part.now (g.S.KeySlots.key_of c.args.key.now) (g.S.ValueSlots.value_of c.args.value.now) c.in_ok-one.ensures c.requires.apart
 
 pub returns-clause-added : goal.returns-clause-added
 returns-clause-added g c m is apart =
-    c.in_ok-part.ensures ((g.S.KeySlots.key_of c.args.key.now, (g.S.ValueSlots.value_of c.args.value.now)) ∷ []) m c.in_ok-one.ensures is apart
+    rw c.replace.ensures.after (c.in_ok-all.ensures ((g.S.KeySlots.key_of c.args.key.now, (g.S.ValueSlots.value_of c.args.value.now)) ∷ []) m c.in_ok-one.ensures is apart)

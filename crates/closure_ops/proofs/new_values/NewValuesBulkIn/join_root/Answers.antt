@@ -5,10 +5,10 @@ use Rattle.trie_shape.specs.View.{tree}
 use Rattle.closure_ops.proofs.Joining.{can_join_part}
 use Rattle.closure_ops.proofs.new_values.NewValuesBulkIn.join_root.Goals as goal
 
-pub join-requires : goal.join-requires
-join-requires g c =
-    can_join_part g.K.Ord.cmp (IsMapped (MayAnswer g.G.Fn c.args.self.now.change)) c.args.part c.in-Some.made (map_of g.K.Ord.cmp (tree c.args.root.now)) (rw c.in-Some.is at c.in_ok-made.ensures) c.requires.apart
+pub join-all-requires : goal.join-all-requires
+join-all-requires g c =
+    can_join_part g.K.Ord.cmp (IsMapped (MayAnswer g.G.Fn c.args.self.now.change)) c.args.part c.in-Ok-Some.made (map_of g.K.Ord.cmp (tree c.args.root.now)) (rw c.in-Ok-Some.field-0-is at c.in-Ok-Some.ensures) c.requires.apart
 
-pub returns-in_ok-join-in-Some : goal.returns-in_ok-join-in-Some
-returns-in_ok-join-in-Some g c m is apart =
-    c.in_ok-join-in-Some.ensures m (map_of g.K.Ord.cmp (tree c.args.root.now)) is (rw c.in-Some.is at c.in_ok-made.ensures) apart
+pub returns-in_ok-all-in-Ok-Some : goal.returns-in_ok-all-in-Ok-Some
+returns-in_ok-all-in-Ok-Some g c m is apart =
+    c.in_ok-all-in-Ok-Some.ensures m (map_of g.K.Ord.cmp (tree c.args.root.now)) is (rw c.in-Ok-Some.field-0-is at c.in-Ok-Some.ensures) apart

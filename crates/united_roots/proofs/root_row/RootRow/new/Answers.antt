@@ -4,7 +4,7 @@ use Rattle.trie_shape.specs.Shape.{NoneAbove, nodes}
 use Rattle.trie_shape.specs.Tree.{Tree, branch, no_trees, trees}
 use Rattle.trie_shape.specs.View.{tree}
 use Rattle.trie_shape.proofs.Empty.{empty_is_root, map_of-empty}
-use Rattle.trie_copy.proofs.StampTests.{pass_listed, pass_none_above}
+use Rattle.trie_merging.proofs.StampTests.{pass_listed, pass_none_above}
 use Rattle.united_roots.proofs.root_row.RootRow.new.Goals as goal
 
 pub invariant_of-result : goal.invariant_of-result

@@ -3,7 +3,7 @@ use Rattle.std.proofs.lemmas.List.{length-map}
 use Rattle.std.specs.Int.RustNames.{count_ones}
 use Rattle.std.specs.List.{insert}
 use Rattle.hash_path.specs.Digits.{fan_out}
-use Rattle.trie_copy.specs.Merges.{child_at}
+use Rattle.trie_merging.specs.Merges.{child_at}
 use Rattle.trie_shape.specs.Map.{union}
 use Rattle.trie_shape.specs.Roots.{map_of}
 use Rattle.trie_shape.specs.Tree.{entries}

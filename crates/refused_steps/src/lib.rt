@@ -1,0 +1,11 @@
+//! Callers of a table and of the core. Each hands on a clause of the call that it makes.
+//!
+//! No program calls them. The edits in `must-fail/` make of each the wrong bodies that its clause is to refuse. They stand
+//! here since an edit costs the proof of its crate once more, and the crates below are large.
+#![tactic(auto)]
+
+mod core_step;
+mod table_steps;
+
+pub use core_step::stepped;
+pub use table_steps::{finished, frozen, on_handle};
