@@ -3,4 +3,3 @@ pub mod OneRun
 pub mod Assembled
 pub mod OneClient
 pub mod LegalTexts
-pub mod Merging

@@ -1,4 +1,3 @@
-pub mod ReplyOrder
 pub mod Events
 pub mod Runs
 pub mod Legality

@@ -3,7 +3,7 @@ use Rattle.std.specs.Prelude.{◌≡◌, ℕ, ℤ, Bool, true, false, All, List,
 use Rattle.std.specs.Io.KnownBytes.{Appends}
 use Rattle.std.specs.List.{flat_map}
 use Rattle.journal.specs.Journals.{Entered, IsLegal, own}
-pub use Rattle.script_runs.specs.ReplyOrder.{AreMerged, AreRepliesTo, IsNext, beside, is_line_of, lines_by, text_for}
+pub use Rattle.reply_order.specs.ReplyOrder.{AreMerged, AreRepliesTo, IsNext, beside, is_line_of, lines_by, text_for}
 use Rattle.script.specs.Scripts.{Spells}
 use Rattle.journal_text.specs.Entries.{text_of_journal}
 use Rattle.script_runs.specs.Events.{Event, Makes}

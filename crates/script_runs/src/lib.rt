@@ -1,11 +1,8 @@
 //! What a run of a script is, and its laws: which events each line makes, which journals a run has, and what is written.
-//! [`replies_in_order`] writes it: the replies of all clients, in the order of the lines.
 //!
 //! The definitions stand in `specs/`. The crate `batch_cli` runs scripts so.
 #![tactic(auto)]
 
 mod laws;
-mod reply_order;
 
 pub use laws::{run_has_lawful_entries, run_has_legal_text, script_has_one_output};
-pub use reply_order::{all_of, replies_in_order};

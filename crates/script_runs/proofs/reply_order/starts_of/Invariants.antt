@@ -1,5 +1,0 @@
-use Rattle.std.proofs.Common.{◌≡◌, map, take}
-use Rattle.script_runs.proofs.reply_order.starts_of.Given as goal
-
-abbrev pub invariant-loop-replies : goal.invariant-loop-replies
-invariant-loop-replies l = map (λ replies. replies.now) l.starts.items ≡ map (λ replies. replies.items) (take l.replies-index l.clients)
