@@ -8,8 +8,8 @@ use Rattle.trie_shape.specs.Map.{Map, IsMap}
 use Rattle.versions.specs.declared.version.TheConstants.{MOST_PAIRS}
 use Rattle.iter.specs.Intervals.{whole, lies_in, cover, parts}
 use Rattle.splitter.specs.Portion.{Portion}
-use Rattle.core_steps.specs.Boards.{Worker, nobody, first_board, intervals}
-use Rattle.core_steps.specs.WorkerValues.{WorkerValue, IsVacant, interval_of, worker_of, board, result_of, results, HasPieces, HasPart, IsJobOn}
+use Rattle.worker_states.specs.Boards.{Worker, nobody, first_board, intervals}
+use Rattle.worker_states.specs.WorkerValues.{WorkerValue, IsVacant, interval_of, worker_of, board, result_of, results, HasPieces, HasPart, IsJobOn}
 use Rattle.core_steps.proofs.KeptBoards.{first_is_board}
 
 -- no interval has no pairs

@@ -14,16 +14,16 @@ use Rattle.iter.specs.declared.interval.Interval.{Interval}
 use Rattle.iter.specs.Intervals.{AreApart, lies_in, cover, parts}
 use Rattle.combiner.specs.Unions as unions
 use Rattle.combiner.specs.Bulks.{Apart, IsJoined}
-use Rattle.core_steps.specs.Boards.{Worker, all_worked}
+use Rattle.worker_states.specs.Boards.{Worker, all_worked}
 use Rattle.splitter.specs.Portion.{Portion}
-use Rattle.core_steps.specs.WorkerValues.{WorkerValue, interval_of, worker_of, board, result_of, results, HasPart, IsJobOn}
+use Rattle.worker_states.specs.WorkerValues.{WorkerValue, interval_of, worker_of, board, result_of, results, HasPart, IsJobOn}
 use Rattle.core_steps.specs.Collected.{HasDecided, IsSettledPart, IsCollected}
 use Rattle.core_steps.proofs.Beginnings.{no_parts}
-use Rattle.core_steps.proofs.WorkerLemmas.{worker_is}
-use Rattle.core_steps.proofs.Covers.{once}
+use Rattle.worker_states.proofs.WorkerLemmas.{worker_is}
+use Rattle.worker_states.proofs.Covers.{once}
 use Rattle.core_steps.proofs.Tilings.{weights}
 use Rattle.core_steps.specs.Invariants.{waiting, waiting_of}
-use Rattle.core_steps.proofs.Workings.{few_together, result_at}
+use Rattle.worker_states.proofs.Workings.{few_together, result_at}
 
 module _ {K V P : Type 0} where
   -- what was worked, worker by worker

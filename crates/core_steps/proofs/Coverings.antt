@@ -4,7 +4,7 @@ use Rattle.std.specs.Prelude.{All, sum_by, slice_set}
 use Rattle.std.proofs.lemmas.List.Elements.{All-head}
 use Rattle.std.proofs.lemmas.List.Sums.{sum_by-cons, sum_by-append, sum_by-set}
 use Rattle.iter.specs.declared.interval.Interval.{Interval}
-use Rattle.core_steps.specs.Boards.{Worker, Board, nobody, worker, with_held, with_queue, with_worked, all_worked, newest, without_newest, oldest, without_oldest, MoveResult, took, cut, uncut, done, idle, Move, taking, stealing, splitting, working, moved, taken, stolen, split, split_at, work, named_by}
+use Rattle.worker_states.specs.Boards.{Worker, Board, nobody, worker, with_held, with_queue, with_worked, all_worked, newest, without_newest, oldest, without_oldest, MoveResult, took, cut, uncut, done, idle, Move, taking, stealing, splitting, working, moved, taken, stolen, split, split_at, work, named_by}
 
 -- the interval that a move has worked, if any
 abbrev pub worked_by : MoveResult → List Interval

@@ -10,11 +10,11 @@ use Rattle.std.specs.Cmp.{nat_cmp_total, eq_by_cmp_equiv, nat_cmp_is}
 use Rattle.std.specs.FinMap.Entries.{by_order, below_all, is_sorted, is_sorted-put, is_sorted-where_key}
 use Rattle.std.proofs.lemmas.Bool.Decides.{nat_tests}
 use Rattle.versions.specs.Map.{Map, IsMap, value_at, with_pair, without, is_other}
-use Rattle.core_steps.specs.WorkerValues.{board, state_parts}
+use Rattle.worker_states.specs.WorkerValues.{board, state_parts}
 use Rattle.core_steps.specs.JobStates.{JobValue, IsPlaceOf, job_state_of, job_states_of, boards_of, parts_shown, all_parts}
 use Rattle.core_steps.specs.Parts.{parts_of_job, part_at}
 use Rattle.core_steps.specs.declared.job_state.JobState.{JobState}
-use Rattle.core_steps.proofs.WorkerLemmas.{map_append}
+use Rattle.worker_states.proofs.WorkerLemmas.{map_append}
 
 -- how numbers compare
 pub above : (n m : ℕ) → m < n → nat_cmp n m ≡ Greater

@@ -9,9 +9,9 @@ use Rattle.iter.specs.declared.interval.Interval.{Interval}
 use Rattle.iter.specs.Intervals.{cover, part}
 use Rattle.splitter.specs.Cuts.{cut_point}
 use Rattle.splitter.specs.Laws.{CutsDivide}
-use Rattle.core_steps.specs.Boards.{Board, intervals, Move, taking, stealing, splitting, working, moved, named_by, MoveResult, tells_settled}
-use Rattle.core_steps.specs.WorkerValues.{WorkerValue, worker_of, board, HasPart, IsJobOn, Leaves, Works, taking_move, stealing_move, splitting_move}
-use Rattle.core_steps.proofs.Covers.{once}
+use Rattle.worker_states.specs.Boards.{Board, intervals, Move, taking, stealing, splitting, working, moved, named_by, MoveResult, tells_settled}
+use Rattle.worker_states.specs.WorkerValues.{WorkerValue, worker_of, board, HasPart, IsJobOn, Leaves, Works, taking_move, stealing_move, splitting_move}
+use Rattle.worker_states.proofs.Covers.{once}
 use Rattle.core_steps.proofs.Weights.{moved_weight}
 use Rattle.core_steps.proofs.KeptBoards.{cuts_within, covers_kept}
 

@@ -3,11 +3,11 @@ use Rattle.std.proofs.Common.{◌≡◌, ℕ, zero, suc, ◌<◌, ◌≤◌, Boo
 use Rattle.std.specs.Prelude.{All}
 use Rattle.std.proofs.lemmas.Bool.Decides.{nat_tests}
 use Rattle.iter.specs.declared.interval.Interval.{Interval}
-use Rattle.core_steps.proofs.Covers.{once, once_cut}
+use Rattle.worker_states.proofs.Covers.{once, once_cut}
 use Rattle.splitter.specs.Cuts.{cut_point}
 use Rattle.splitter.specs.Laws.{CutsDivide}
 use Rattle.versions.specs.Map.{Map}
-use Rattle.core_steps.specs.Boards.{Board, nobody, first_board, Move, named_by, moved}
+use Rattle.worker_states.specs.Boards.{Board, nobody, first_board, Move, named_by, moved}
 use Rattle.core_steps.specs.Invariants.{emptiness, IsBoard}
 use Rattle.core_steps.proofs.Weights.{CutsKeep, moved_weight, first_weight, moved_long}
 

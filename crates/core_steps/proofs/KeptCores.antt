@@ -16,7 +16,7 @@ use Rattle.handles.specs.declared.limits.Limits.{Limits}
 use Rattle.handles.specs.Machine.{Kind, State, Job, Request, open_handle, snapshot, drop_handle, on, view, freeze, finish, abandon, worker_step, Outcome, made, replied, viewed, frozen, finished, unfinished, refused, worked, Step, job_at, first_of}
 use Rattle.iter.specs.Intervals.{part}
 use Rattle.splitter.specs.Cuts.{cut_point}
-use Rattle.core_steps.specs.Boards.{Board, Move, named_by, first_board, MoveResult, tells_settled}
+use Rattle.worker_states.specs.Boards.{Board, Move, named_by, first_board, MoveResult, tells_settled}
 use Rattle.core_steps.specs.Cores.{CoreState, Asked, of_client, of_worker, CoreOutcome, to_client, to_worker, no_move, Division, WorkerMoves, moved_job, board_of, frozen_map, refusal_of, boards_after, CoreStep, new_core}
 use Rattle.core_steps.specs.Invariants.{IsBoard, IsCore}
 use Rattle.core_steps.proofs.KeptBoards.{CutsWithin, board_kept, first_is_board}

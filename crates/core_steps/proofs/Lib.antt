@@ -1,4 +1,3 @@
-pub mod Covers
 mod WorkedSteps
 pub mod Weights
 pub mod Runs
@@ -8,9 +7,7 @@ pub mod Tilings
 pub mod Coverings
 pub mod NeverTwice
 pub mod Wholes
-pub mod WorkerLemmas
 pub mod Takings
-pub mod Workings
 pub mod Beginnings
 pub mod JobSteps
 pub mod JobStateLemmas

@@ -5,11 +5,11 @@ use Rattle.trie_shape.specs.Map.{Map}
 use Rattle.iter.specs.declared.interval.Interval.{Interval}
 use Rattle.iter.specs.Intervals.{parts}
 use Rattle.splitter.specs.Cuts.{cut_point}
-use Rattle.core_steps.specs.Boards.{Board, worker, newest, oldest, taking, stealing, splitting, working, taken, stolen, split, split_at, MoveResult, TellsTruly}
-use Rattle.core_steps.specs.WorkerValues.{WorkerValue, board, state_parts, IsJobOn, Leaves, Works, taking_move, stealing_move, splitting_move}
+use Rattle.worker_states.specs.Boards.{Board, worker, newest, oldest, taking, stealing, splitting, working, taken, stolen, split, split_at, MoveResult, TellsTruly}
+use Rattle.worker_states.specs.WorkerValues.{WorkerValue, board, state_parts, IsJobOn, Leaves, Works, taking_move, stealing_move, splitting_move}
 use Rattle.core_steps.specs.Moves.{MovesTo}
 use Rattle.core_steps.specs.Parts.{PartsMove}
-use Rattle.core_steps.proofs.WorkerLemmas.{same_state_parts}
+use Rattle.worker_states.proofs.WorkerLemmas.{same_state_parts}
 
 -- only a worked piece tells of settling
 quiet_taken : (D : Type 0) (b : Board) (w : ℕ) (held new : Option Interval) → TellsTruly (taken b w held new).0 D

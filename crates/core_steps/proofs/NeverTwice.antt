@@ -12,9 +12,9 @@ use Rattle.versions.specs.declared.refusal.Refusal.TheVariants.{NoJob, NoWorker}
 use Rattle.handles.specs.Machine.{Kind, State, Job, Request, open_handle, snapshot, drop_handle, on, view, freeze, finish, abandon, worker_step, Outcome, made, replied, viewed, frozen, finished, unfinished, refused, worked, Step, job_at}
 use Rattle.iter.specs.declared.interval.Interval.{Interval}
 use Rattle.iter.specs.Intervals.{whole, lies_in, cover, AreApart, part}
-use Rattle.core_steps.proofs.Covers.{once}
+use Rattle.worker_states.proofs.Covers.{once}
 use Rattle.splitter.specs.Cuts.{cut_point}
-use Rattle.core_steps.specs.Boards.{Board, Move, taking, stealing, splitting, working, named_by, first_board, all_worked, MoveResult, took, cut, uncut, done, idle, tells_settled}
+use Rattle.worker_states.specs.Boards.{Board, Move, taking, stealing, splitting, working, named_by, first_board, all_worked, MoveResult, took, cut, uncut, done, idle, tells_settled}
 use Rattle.core_steps.specs.Cores.{CoreState, Asked, of_client, of_worker, CoreOutcome, to_client, to_worker, no_move, Division, WorkerMoves, moved_job, board_of, frozen_map, refusal_of, boards_after}
 use Rattle.core_steps.specs.Traces.{covered, CoreRun}
 use Rattle.core_steps.specs.Invariants.{IsBoard, IsCore}

@@ -17,12 +17,12 @@ use Rattle.handles.specs.Machine.{Kind, State, Job, freeze, finish, frozen, Step
 use Rattle.iter.specs.declared.interval.Interval.{Interval}
 use Rattle.iter.specs.Intervals.{whole, Tile, parts}
 use Rattle.splitter.specs.Cuts.{cut_point}
-use Rattle.core_steps.specs.Boards.{Worker, worker, first_board, Move, named_by}
-use Rattle.core_steps.specs.Views.{move_result}
-use Rattle.core_steps.specs.declared.progress.Progress.{Progress}
+use Rattle.worker_states.specs.Boards.{Worker, worker, first_board, Move, named_by}
+use Rattle.worker_states.specs.Views.{move_result}
+use Rattle.worker_states.specs.declared.progress.Progress.{Progress}
 use Rattle.core_steps.specs.declared.job_state.JobState.{JobState}
 use Rattle.core_steps.specs.Cores.{of_client, of_worker, IsUnfinished, worked_part, refusal_of}
-use Rattle.core_steps.specs.WorkerValues.{WorkerValue, board, state_parts, result_of, results, HasPart, IsJobOn}
+use Rattle.worker_states.specs.WorkerValues.{WorkerValue, board, state_parts, result_of, results, HasPart, IsJobOn}
 use Rattle.core_steps.specs.Collected.{IsCollected, MayCollect}
 use Rattle.core_steps.specs.Moves.{MovesTo}
 use Rattle.core_steps.specs.JobStates.{JobValue, Fits, IsPlaceOf, IsWhole, core_of, value_of, job_state_of, job_states_of, all_parts}
@@ -32,9 +32,9 @@ use Rattle.core_steps.specs.declared.outcome.Outcome.TheVariants as outcomes
 use Rattle.core_steps.specs.Steps.{StepsTo}
 use Rattle.core_steps.proofs.KeptBoards.{CutsWithin}
 use Rattle.core_steps.proofs.JobStateLemmas.{same_parts, parts_here, AllBelow, below_all_values, push_is_put, set_is_put, value_here, number_here}
-use Rattle.core_steps.proofs.WorkerLemmas.{worker_is}
+use Rattle.worker_states.proofs.WorkerLemmas.{worker_is}
 use Rattle.core_steps.proofs.WholeSteps.{IsOpen, is_open, long_states, frozen_whole, not_refused, unfinished_whole, collected_whole, may_finish, refusal_is, no_worker, moved_whole}
-use Rattle.core_steps.proofs.Workings.{result_at}
+use Rattle.worker_states.proofs.Workings.{result_at}
 
 -- what stands at a place
 there_is : {X : Type 0} (xs : List X) (k : ℕ) → k < length xs → (x : X) × (x ≡ get_or xs k x)

@@ -7,9 +7,9 @@ use Rattle.trie_shape.specs.Map.{Map}
 use Rattle.iter.specs.declared.interval.Interval.{Interval}
 use Rattle.splitter.specs.Portion.{Portion}
 use Rattle.splitter.specs.Cuts.{cut_point}
-use Rattle.core_steps.specs.Boards.{Worker, Board, worker, with_queue, with_held, newest, without_newest, oldest, without_oldest, MoveResult, took, cut, taken, stolen, split, split_at}
-use Rattle.core_steps.specs.WorkerValues.{WorkerValue, interval_of, board, result_of, HasPieces, Leaves, state_take, state_taken, state_split, state_split_of, state_cut, taking_move, stealing_move, splitting_move}
-use Rattle.core_steps.proofs.WorkerLemmas.{newest_interval, rest_intervals, oldest_interval, later_intervals, map_append, worker_is, with_queue_is, with_held_is, with_both_is, still_there, leaves_set, leaves_same, results_at}
+use Rattle.worker_states.specs.Boards.{Worker, Board, worker, with_queue, with_held, newest, without_newest, oldest, without_oldest, MoveResult, took, cut, taken, stolen, split, split_at}
+use Rattle.worker_states.specs.WorkerValues.{WorkerValue, interval_of, board, result_of, HasPieces, Leaves, state_take, state_taken, state_split, state_split_of, state_cut, taking_move, stealing_move, splitting_move}
+use Rattle.worker_states.proofs.WorkerLemmas.{newest_interval, rest_intervals, oldest_interval, later_intervals, map_append, worker_is, with_queue_is, with_held_is, with_both_is, still_there, leaves_set, leaves_same, results_at}
 
 -- a result that is one thing where it is another
 pub if_ok : {X E : Type 0} (A B : X → Type 0) (r : Result X E) → ((x : X) → A x → B x) → IfOk r A → IfOk r B

@@ -5,8 +5,8 @@ use Rattle.std.proofs.lemmas.Bool.Decides.{nat_tests}
 use Rattle.std.proofs.lemmas.List.Sums.{sum_by-cons, sum_by-append}
 use Rattle.iter.specs.declared.interval.Interval.{Interval}
 use Rattle.iter.specs.Intervals.{whole, cover, Tile}
-use Rattle.core_steps.proofs.Covers.{once}
-use Rattle.core_steps.specs.Boards.{Board, intervals_of, intervals, all_worked}
+use Rattle.worker_states.proofs.Covers.{once}
+use Rattle.worker_states.specs.Boards.{Board, intervals_of, intervals, all_worked}
 use Rattle.core_steps.specs.Invariants.{emptiness, waiting_of, waiting, IsBoard}
 
 -- what waits and what was worked are all intervals

@@ -7,7 +7,7 @@ use Rattle.std.proofs.lemmas.Option.{slice_get_within, get_or_from_slice_get}
 use Rattle.std.proofs.lemmas.List.Sums.{sum_by-cons, sum_by-append, sum_by-set}
 use Rattle.iter.specs.declared.interval.Interval.{Interval}
 use Rattle.iter.specs.Intervals.{whole}
-use Rattle.core_steps.specs.Boards.{Worker, Board, nobody, worker, with_held, with_queue, with_worked, intervals_of, intervals, newest, without_newest, oldest, without_oldest, Move, taking, stealing, splitting, working, moved, taken, stolen, split, split_at, work, named_by, first_board}
+use Rattle.worker_states.specs.Boards.{Worker, Board, nobody, worker, with_held, with_queue, with_worked, intervals_of, intervals, newest, without_newest, oldest, without_oldest, Move, taking, stealing, splitting, working, moved, taken, stolen, split, split_at, work, named_by, first_board}
 
 module _ (h : Interval → ℕ) where
   -- the weight of a worker's intervals

@@ -22,12 +22,12 @@ use Rattle.handles.specs.Laws.{OthersKeepJobs}
 use Rattle.iter.specs.declared.interval.Interval.{Interval}
 use Rattle.iter.specs.Intervals.{whole, Tile, part, parts}
 use Rattle.splitter.specs.Cuts.{cut_point}
-use Rattle.core_steps.specs.Boards.{Board, worker, first_board, all_worked, Move, taking, stealing, splitting, working, mover, named_by, moved, MoveResult, took, cut, uncut, done, idle, tells_settled, TellsTruly}
+use Rattle.worker_states.specs.Boards.{Board, worker, first_board, all_worked, Move, taking, stealing, splitting, working, mover, named_by, moved, MoveResult, took, cut, uncut, done, idle, tells_settled, TellsTruly}
 use Rattle.core_steps.specs.Cores as cores
-use Rattle.core_steps.specs.Views.{move_result}
-use Rattle.core_steps.specs.declared.progress.Progress.{Progress}
+use Rattle.worker_states.specs.Views.{move_result}
+use Rattle.worker_states.specs.declared.progress.Progress.{Progress}
 use Rattle.core_steps.specs.Cores.{CoreState, of_client, of_worker, to_client, to_worker, no_move, CoreStep, board_of, frozen_map, refusal_of, IsUnfinished, IsSettled}
-use Rattle.core_steps.specs.WorkerValues.{WorkerValue, worker_of, board, state_parts, IsJobOn}
+use Rattle.worker_states.specs.WorkerValues.{WorkerValue, worker_of, board, state_parts, IsJobOn}
 use Rattle.core_steps.specs.Invariants.{IsBoard, waiting}
 use Rattle.core_steps.specs.Collected.{IsCollected, MayCollect}
 use Rattle.core_steps.specs.Moves.{MovesTo, move_on}

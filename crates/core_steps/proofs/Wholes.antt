@@ -5,7 +5,7 @@ use Rattle.std.specs.Ordering.{nat_cmp}
 use Rattle.versions.specs.Map.{value_at}
 use Rattle.handles.specs.Machine.{job_at}
 use Rattle.iter.specs.Intervals.{whole, Tile}
-use Rattle.core_steps.specs.Boards.{all_worked}
+use Rattle.worker_states.specs.Boards.{all_worked}
 use Rattle.core_steps.specs.Cores.{CoreState, board_of}
 use Rattle.core_steps.specs.Invariants.{IsBoard, IsCore, waiting}
 use Rattle.core_steps.proofs.KeptCores.{its_board}

@@ -10,8 +10,8 @@ use Rattle.versions.specs.declared.refusal.Refusal.TheVariants.{NoJob, NoWorker}
 use Rattle.handles.specs.Machine.{Kind, open_handle, on, freeze, finish, made, replied, frozen, finished, unfinished}
 use Rattle.iter.specs.declared.interval.Interval.{Interval}
 use Rattle.iter.specs.Intervals.{whole, Tile}
-use Rattle.core_steps.proofs.Covers.{cut_tiles, cuts_tile}
-use Rattle.core_steps.specs.Boards.{taking, stealing, splitting, working, took, cut, uncut, done, idle}
+use Rattle.worker_states.proofs.Covers.{cut_tiles, cuts_tile}
+use Rattle.worker_states.specs.Boards.{taking, stealing, splitting, working, took, cut, uncut, done, idle}
 use Rattle.core_steps.specs.Cores.{CoreState, new_core, Asked, of_client, of_worker, CoreOutcome, to_client, to_worker, no_move, Division}
 use Rattle.core_steps.specs.Traces.{CoreRun}
 

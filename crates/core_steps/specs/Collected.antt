@@ -2,8 +2,8 @@
 use Rattle.std.specs.Prelude.{◌≡◌, ◌⊎◌, ℕ, ◌<◌, List, [], length, Option, Some, None}
 use Rattle.trie_shape.specs.Map.{Map}
 use Rattle.iter.specs.Intervals.{parts}
-use Rattle.core_steps.specs.Boards.{worker, all_worked}
-use Rattle.core_steps.specs.WorkerValues.{WorkerValue, board}
+use Rattle.worker_states.specs.Boards.{worker, all_worked}
+use Rattle.worker_states.specs.WorkerValues.{WorkerValue, board}
 use Rattle.core_steps.specs.Invariants.{waiting}
 
 module _ {K V P : Type 0} (path : K → ℕ) (answers : Map K V → P → Type 0) (Decides : Map K V → Type 0) (m : Map K V) where

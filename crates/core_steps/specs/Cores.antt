@@ -10,7 +10,7 @@ use Rattle.handles.specs.Machine.{Kind, State, Request, finish, abandon, Outcome
 use Rattle.iter.specs.declared.interval.Interval.{Interval}
 use Rattle.iter.specs.Intervals.{whole, Tile, part, parts}
 use Rattle.splitter.specs.Cuts.{cut_point}
-use Rattle.core_steps.specs.Boards.{Board, worker, first_board, all_worked, Move, mover, named_by, MoveResult, moved, tells_settled, TellsTruly}
+use Rattle.worker_states.specs.Boards.{Board, worker, first_board, all_worked, Move, mover, named_by, MoveResult, moved, tells_settled, TellsTruly}
 
 -- what a core keeps: the machine, the board of each open job, the number of workers, and the grain
 pub record CoreState (K V Q : Type 0) : Type 0 where

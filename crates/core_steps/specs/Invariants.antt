@@ -5,7 +5,7 @@ use Rattle.versions.specs.Map.{value_at}
 use Rattle.handles.specs.Machine.{job_at}
 use Rattle.iter.specs.declared.interval.Interval.{Interval}
 use Rattle.iter.specs.Intervals.{whole, Tile}
-use Rattle.core_steps.specs.Boards.{Worker, Board, intervals}
+use Rattle.worker_states.specs.Boards.{Worker, Board, intervals}
 use Rattle.core_steps.specs.Cores.{CoreState}
 
 -- 1 where an interval has no position

@@ -5,10 +5,10 @@ use Rattle.std.specs.Ordering.{nat_cmp}
 use Rattle.std.specs.declared.cmp.Ordering.{Ordering}
 use Rattle.versions.specs.Map.{Map, IsMap, value_at}
 use Rattle.handles.specs.Machine.{State, Job, job_at}
-use Rattle.core_steps.specs.Boards.{Board}
+use Rattle.worker_states.specs.Boards.{Board}
 use Rattle.core_steps.specs.Cores.{CoreState}
 use Rattle.core_steps.specs.Parts.{CoreValue}
-use Rattle.core_steps.specs.WorkerValues.{WorkerValue, board, state_parts, IsJobOn}
+use Rattle.worker_states.specs.WorkerValues.{WorkerValue, board, state_parts, IsJobOn}
 use Rattle.core_steps.specs.Invariants.{IsCore}
 use Rattle.core_steps.specs.declared.job_state.JobState.{JobState}
 

@@ -6,10 +6,10 @@ use Rattle.handles.specs.Machine.{Kind, Run, job_at}
 use Rattle.iter.specs.declared.interval.Interval.{Interval}
 use Rattle.splitter.specs.Cuts.{cut_point}
 use Rattle.iter.specs.Intervals.{whole, AreApart, Tile, parts}
-use Rattle.core_steps.specs.Boards.{Board, Move, MoveResult, all_worked, moved, named_by}
+use Rattle.worker_states.specs.Boards.{Board, Move, MoveResult, all_worked, moved, named_by}
 use Rattle.core_steps.specs.Cores.{CoreState, Asked, CoreOutcome, Division, CoreStep, board_of, frozen_map}
 use Rattle.core_steps.specs.Traces.{client_requests, client_outcomes, covered, CoreRun}
-use Rattle.core_steps.specs.WorkerValues.{WorkerValue, IsJobOn, Leaves, Works, splitting_move, stealing_move, taking_move}
+use Rattle.worker_states.specs.WorkerValues.{WorkerValue, IsJobOn, Leaves, Works, splitting_move, stealing_move, taking_move}
 use Rattle.core_steps.specs.Invariants.{IsBoard, IsCore, waiting}
 
 module _ {K V Q A B : Type 0} (kind : Kind K V Q A B) (division : Division K V Q) where

@@ -1,12 +1,9 @@
-pub mod Boards
 pub mod Cores
 pub mod Parts
 pub mod Invariants
 pub mod Traces
 pub mod Laws
 pub mod Queries
-pub mod WorkerValues
-pub mod Views
 pub mod JobStates
 pub mod Collected
 pub mod Moves

@@ -4,9 +4,9 @@ use Rattle.std.specs.declared.cmp.Ordering.{Ordering}
 use Rattle.trie_shape.specs.Map.{Map}
 use Rattle.iter.specs.Intervals.{part, parts}
 use Rattle.splitter.specs.Cuts.{cut_point}
-use Rattle.core_steps.specs.Boards as boards
-use Rattle.core_steps.specs.Boards.{Board, worker, mover, moved, MoveResult, tells_settled, TellsTruly}
-use Rattle.core_steps.specs.WorkerValues.{WorkerValue, board, state_parts, IsJobOn}
+use Rattle.worker_states.specs.Boards as boards
+use Rattle.worker_states.specs.Boards.{Board, worker, mover, moved, MoveResult, tells_settled, TellsTruly}
+use Rattle.worker_states.specs.WorkerValues.{WorkerValue, board, state_parts, IsJobOn}
 use Rattle.core_steps.specs.Parts.{PartsMove}
 use Rattle.core_steps.specs.declared.moves.Move.{Move}
 use Rattle.core_steps.specs.declared.moves.Move.TheVariants.{Take, Steal, Split, Work}

@@ -4,7 +4,8 @@ use Rattle.std.specs.Ordering.{nat_cmp}
 use Rattle.versions.specs.Map.{Map, value_at, with_pair, without}
 use Rattle.handles.specs.declared.limits.Limits.{Limits}
 use Rattle.handles.specs.Machine.{freeze, finish, abandon, made, frozen, finished}
-use Rattle.core_steps.specs.Boards.{Move, working, MoveResult, done}
+use Rattle.worker_states.specs.Boards.{Move, working, MoveResult, done}
+pub use Rattle.worker_states.specs.WorkerValues.{PartsMove}
 use Rattle.core_steps.specs.Cores.{CoreState, Asked, of_client, of_worker, CoreOutcome, to_client, to_worker, new_core}
 
 -- what contracts see of a core: its state, and for each open job the parts of its workers, in order of their numbers
@@ -24,11 +25,6 @@ module _ {P : Type 0} where
   -- the part of a worker of a job, if there is such a job and such a worker
   abbrev pub part_at : Map ℕ (List P) → ℕ → ℕ → Option P
   part_at ps j w = slice_get (parts_of_job ps j) w
-
-  -- the parts of a job's workers after a move: one that has worked a piece has another part, and the others have theirs
-  abbrev pub PartsMove : List P → Move → MoveResult → List P → Type 0
-  PartsMove ps (working w) (done lo hi n settled) qs = (p : P) × (qs ≡ slice_set ps w p)
-  PartsMove ps x y qs = qs ≡ ps
 
   -- the same of the parts of all jobs
   abbrev pub PartsMoved : Map ℕ (List P) → ℕ → Move → MoveResult → Map ℕ (List P) → Type 0

@@ -12,12 +12,12 @@ use Rattle.handles.specs.Machine.{Kind, view, freeze, finish, abandon, made, vie
 use Rattle.handles.specs.Machine as machine
 use Rattle.handles.specs.Views.{request_of, call_outcome}
 use Rattle.iter.specs.Intervals.{AreApart}
-use Rattle.core_steps.specs.Boards.{taking, stealing, splitting, working}
+use Rattle.worker_states.specs.Boards.{taking, stealing, splitting, working}
 use Rattle.core_steps.specs.Cores.{CoreState, Asked, of_client, of_worker, CoreOutcome, to_client, to_worker, no_move, Division, IsUnfinished, CoreStep, refusal_of}
 use Rattle.core_steps.specs.Parts.{CoreValue, PartsStep, PartsRun}
 use Rattle.core_steps.specs.Moves.{moves_without_memory}
 use Rattle.core_steps.specs.Traces.{client_requests, client_outcomes, covered, CoreRun}
-use Rattle.core_steps.specs.Views.{move_result}
+use Rattle.worker_states.specs.Views.{move_result}
 use Rattle.core_steps.specs.declared.step.Step.{Step}
 use Rattle.core_steps.specs.declared.step.Step.TheVariants.{Call, View, Freeze, Finish, Abandon, Take, Steal, Split, Work}
 use Rattle.core_steps.specs.declared.outcome.Outcome.{Outcome}

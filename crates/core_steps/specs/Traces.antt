@@ -2,7 +2,7 @@
 use Rattle.std.specs.Prelude.{◌≡◌, ℕ, ◌==◌, cond, List, [], ◌∷◌}
 use Rattle.handles.specs.Machine.{Kind, Request, Outcome}
 use Rattle.iter.specs.declared.interval.Interval.{Interval}
-use Rattle.core_steps.specs.Boards.{working, done}
+use Rattle.worker_states.specs.Boards.{working, done}
 use Rattle.core_steps.specs.Cores.{CoreState, Asked, of_client, of_worker, CoreOutcome, to_client, to_worker, Division, CoreStep}
 
 -- the requests of the clients among what was asked

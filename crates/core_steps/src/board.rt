@@ -1,17 +1,14 @@
 //! The board of one job: its workers' states.
 
 ghost use Rattle.std.specs.Prelude.{All, ◌≡◌, ◌<◌, ◌≤◌, [], IfOk, OnErr, length, option_map, slice_get, slice_index_or, slice_set};
-ghost use Rattle.core_steps.specs.Boards.{first_board, working};
+ghost use Rattle.worker_states.specs.Boards.{first_board, working};
 ghost use Rattle.versions.specs.Map.{Map};
 ghost use Rattle.splitter.specs.Cuts.{cut_point};
 ghost use Rattle.std.specs.VecDeque.{deque_capacity, deque_len};
-ghost use Rattle.core_steps.specs.WorkerValues.{HasPieces, IsJobOn, IsVacant, Leaves, WorkerValue, Works, board, splitting_move, state_parts, stealing_move, taking_move};
+ghost use Rattle.worker_states.specs.WorkerValues.{HasPieces, IsJobOn, IsVacant, Leaves, WorkerValue, Works, board, splitting_move, state_parts, stealing_move, taking_move};
 ghost use Rattle.core_steps.specs.Parts.{PartsMove};
-ghost use Rattle.core_steps.specs.Views.{move_result};
+ghost use Rattle.worker_states.specs.Views.{move_result};
 
-use crate::progress::Progress;
-use crate::worker_state::WorkerState;
-use crate::working::work_held;
 use combiner::Bulk;
 use hash_path::PathKey;
 use splitter::{Piece, whole};
@@ -21,6 +18,7 @@ use std::marker::Model;
 use std::sync::Arc;
 use trie_node::NoMemory;
 use versions::View;
+use worker_states::{Progress, WorkerState, work_held};
 
 /// The states of a job's workers, in order of the workers' numbers.
 #[derive(Drop)]
@@ -30,7 +28,7 @@ pub struct Board<K: PathKey, V, P> {
 
 impl<K: PathKey, V, P> Model for Board<K, V, P> {
     ghost use Rattle.std.specs.Prelude.{List};
-    ghost use Rattle.core_steps.specs.WorkerValues.{WorkerValue};
+    ghost use Rattle.worker_states.specs.WorkerValues.{WorkerValue};
 
     ghost Value = { List (WorkerValue K V P) };
 

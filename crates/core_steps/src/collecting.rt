@@ -2,18 +2,18 @@
 ghost use Rattle.std.specs.Prelude.{◌≡◌, ◌↔◌, [], IfOk, OnErr, true};
 ghost use Rattle.versions.specs.Map.{Map};
 ghost use Rattle.iter.specs.Intervals.{parts};
-ghost use Rattle.core_steps.specs.Boards.{all_worked};
-ghost use Rattle.core_steps.specs.WorkerValues.{IsJobOn, board};
+ghost use Rattle.worker_states.specs.Boards.{all_worked};
+ghost use Rattle.worker_states.specs.WorkerValues.{IsJobOn, board};
 ghost use Rattle.core_steps.specs.Invariants.{waiting};
 ghost use Rattle.core_steps.specs.Collected.{IsCollected, IsSettledPart, MayCollect, SomeDecided};
 
 use crate::board::Board;
-use crate::worker_state::WorkerState;
 use combiner::Bulk;
 use hash_path::PathKey;
 use iter::parts_follow_intervals;
 use std::alloc::Global;
 use trie_node::NoMemory;
+use worker_states::WorkerState;
 
 /// A part that answers the whole map of a job: where nothing waits and nothing is held the parts of all workers,
 /// joined; else the part of a worker whose own pairs decide. None where there is neither, whatever the memory.

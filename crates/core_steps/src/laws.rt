@@ -1,7 +1,7 @@
 //! Laws of the core. Their functions do nothing: each contract is the law.
 ghost use Rattle.std.specs.Prelude.{◌≤◌, ℕ};
 ghost use Rattle.handles.specs.declared.limits.Limits.{Limits};
-ghost use Rattle.core_steps.specs.Boards.{first_board};
+ghost use Rattle.worker_states.specs.Boards.{first_board};
 ghost use Rattle.core_steps.specs.Cores.{new_core};
 ghost use Rattle.core_steps.specs.Invariants.{IsBoard, IsCore};
 ghost use Rattle.core_steps.specs.Laws.{MovesKeepBoards, MovesKeepJobs, NoneWorkedTwice, RunsAreMachineRuns, StepsKeepCores, TileWhereNoneWaits, TiledIsWhole};

@@ -13,10 +13,7 @@ mod job_state;
 mod laws;
 mod moves;
 mod outcome;
-mod progress;
 mod step;
-mod worker_state;
-mod working;
 
 pub use board::{Board, first_board, work_on};
 pub use collecting::collected;
@@ -26,5 +23,5 @@ pub use laws::{
 };
 pub use moves::{Move, make_move};
 pub use outcome::{Outcome, Trace};
-pub use progress::Progress;
 pub use step::Step;
+pub use worker_states::Progress;

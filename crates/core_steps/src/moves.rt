@@ -1,19 +1,19 @@
 //! What workers may do.
 ghost use Rattle.std.specs.Prelude.{◌≡◌, ◌<◌, All, IfOk, OnErr, false, length, nat_le};
 ghost use Rattle.std.specs.List.{list_any};
-ghost use Rattle.core_steps.specs.Boards.{named_by};
-ghost use Rattle.core_steps.specs.WorkerValues.{IsJobOn};
+ghost use Rattle.worker_states.specs.Boards.{named_by};
+ghost use Rattle.worker_states.specs.WorkerValues.{IsJobOn};
 ghost use Rattle.core_steps.specs.Moves.{MovesTo, move_of, moves_without_memory};
-ghost use Rattle.core_steps.specs.Views.{move_result};
+ghost use Rattle.worker_states.specs.Views.{move_result};
 ghost use Rattle.versions.specs.Map.{Map};
 
 use crate::board::{Board, work_on};
 use crate::laws::law_of_jobs;
-use crate::progress::Progress;
 use combiner::Bulk;
 use hash_path::PathKey;
 use std::alloc::Global;
 use trie_node::NoMemory;
+use worker_states::Progress;
 
 /// What a worker does on the board of a job.
 #[derive(Clone, Copy, Debug, PartialEq, Eq)]

@@ -2,12 +2,12 @@
 ghost use Rattle.std.specs.Prelude.{◌≡◌};
 ghost use Rattle.core_steps.specs.Steps.{outcome_of_call, refused_outcome, outcome_of_view};
 
-use crate::progress::Progress;
 use bulk_work::Answer;
 use handles::CallReply;
 use hash_path::PathKey;
 use trie_node::NoMemory;
 use versions::{Refusal, View};
+use worker_states::Progress;
 
 /// What a step returns.
 #[derive(Drop)]

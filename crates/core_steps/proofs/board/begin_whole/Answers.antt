@@ -1,5 +1,5 @@
 use Rattle.std.proofs.Common.{◌++◌, ◌∷◌, [], length, get_or, set, refl, sym, subst, ap, ◌∙◌}
-use Rattle.core_steps.specs.WorkerValues.{IsJobOn, board}
+use Rattle.worker_states.specs.WorkerValues.{IsJobOn, board}
 use Rattle.core_steps.proofs.Beginnings.{first_state, begun_board, begun_job}
 use Rattle.core_steps.proofs.board.begin_whole.Goals as goal
 

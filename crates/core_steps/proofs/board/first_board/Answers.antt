@@ -1,5 +1,5 @@
 use Rattle.std.proofs.Common.{ap, ◌∙◌}
-use Rattle.core_steps.specs.Boards.{first_board}
+use Rattle.worker_states.specs.Boards.{first_board}
 use Rattle.core_steps.proofs.board.first_board.Goals as goal
 
 pub returns-clause-first : goal.returns-clause-first

@@ -1,6 +1,6 @@
 use Rattle.std.proofs.Common.{◌≤◌, ◌-◌, length}
 use Rattle.std.specs.Prelude.{All}
-use Rattle.core_steps.specs.WorkerValues.{IsVacant}
+use Rattle.worker_states.specs.WorkerValues.{IsVacant}
 use Rattle.core_steps.proofs.board.vacant.Given as goal
 
 abbrev pub invariant-worker_states : goal.invariant-worker_states

@@ -1,10 +1,10 @@
 use Rattle.std.proofs.Common.{◌<◌, length, set, sym, subst}
-use Rattle.core_steps.specs.WorkerValues.{IsJobOn, Works, state_parts}
-use Rattle.core_steps.specs.Boards.{working}
+use Rattle.worker_states.specs.WorkerValues.{IsJobOn, Works, state_parts}
+use Rattle.worker_states.specs.Boards.{working}
 use Rattle.core_steps.specs.Parts.{PartsMove}
-use Rattle.core_steps.specs.Views.{move_result}
+use Rattle.worker_states.specs.Views.{move_result}
 use Rattle.core_steps.proofs.Takings.{if_ok}
-use Rattle.core_steps.proofs.Workings.{can_work, works_on, works_parts}
+use Rattle.worker_states.proofs.Workings.{can_work, works_on, works_parts}
 use Rattle.core_steps.proofs.board.work_on.Goals as goal
 
 pub work_held-requires-clause-map : goal.work_held-requires-clause-map

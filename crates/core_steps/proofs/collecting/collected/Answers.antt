@@ -1,7 +1,7 @@
 use Rattle.std.proofs.Common.{rules, ◌≡◌, false, true, sym, inl, inr, subst, ◌∙◌}
 use Rattle.std.proofs.lemmas.Bool.{false≢true}
 use Rattle.core_steps.specs.Collected.{IsCollected, MayCollect}
-use Rattle.core_steps.specs.WorkerValues.{IsJobOn}
+use Rattle.worker_states.specs.WorkerValues.{IsJobOn}
 use Rattle.core_steps.proofs.Collections.{settled_collects}
 use Rattle.core_steps.proofs.Takings.{if_ok}
 use Rattle.core_steps.proofs.DueSteps.{at_err, if_err}

@@ -1,5 +1,5 @@
 use Rattle.std.proofs.Common.{◌≡◌, drop}
-use Rattle.core_steps.specs.WorkerValues.{board}
+use Rattle.worker_states.specs.WorkerValues.{board}
 use Rattle.core_steps.specs.Invariants.{waiting}
 use Rattle.core_steps.proofs.collecting.is_done.Given as goal
 

@@ -1,5 +1,5 @@
 use Rattle.versions.specs.Map.{Map}
-use Rattle.core_steps.specs.WorkerValues.{IsJobOn}
+use Rattle.worker_states.specs.WorkerValues.{IsJobOn}
 use Rattle.core_steps.proofs.Collections.{Joined}
 use Rattle.core_steps.proofs.collecting.joined.Given as goal
 

@@ -1,6 +1,6 @@
 use Rattle.std.proofs.Common.{ℕ, ◌<◌}
 use Rattle.versions.specs.Map.{Map}
-use Rattle.core_steps.specs.WorkerValues.{IsJobOn}
+use Rattle.worker_states.specs.WorkerValues.{IsJobOn}
 use Rattle.core_steps.specs.Collected.{HasDecided}
 use Rattle.core_steps.proofs.collecting.settled_part.Given as goal
 

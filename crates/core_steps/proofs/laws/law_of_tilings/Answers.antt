@@ -1,6 +1,6 @@
 use Rattle.core_steps.proofs.Wholes.{job_tiles}
 use Rattle.core_steps.specs.Cores.{board_of, frozen_map}
-use Rattle.core_steps.specs.Boards.{all_worked}
+use Rattle.worker_states.specs.Boards.{all_worked}
 use Rattle.core_steps.proofs.laws.law_of_tilings.Goals as goal
 
 pub returns : goal.returns

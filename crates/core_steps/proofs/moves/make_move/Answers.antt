@@ -1,9 +1,9 @@
 use Rattle.std.proofs.Common.{◌<◌, length, [], ◌∷◌, sym, subst}
 use Rattle.std.specs.Prelude.{All}
 use Rattle.std.proofs.lemmas.List.Elements.{All-head, All-tail}
-use Rattle.core_steps.specs.Boards.{named_by}
+use Rattle.worker_states.specs.Boards.{named_by}
 use Rattle.core_steps.specs.Moves.{MovesTo, move_of}
-use Rattle.core_steps.specs.Views.{move_result}
+use Rattle.worker_states.specs.Views.{move_result}
 use Rattle.core_steps.proofs.MoveSteps.{take_moves, steal_moves, split_moves, work_moves}
 use Rattle.core_steps.proofs.Takings.{both_ok, if_ok}
 use Rattle.core_steps.proofs.moves.make_move.Goals as goal

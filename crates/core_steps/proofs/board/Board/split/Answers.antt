@@ -1,8 +1,8 @@
 use Rattle.std.proofs.Common.{◌<◌, length, set, sym, subst}
 use Rattle.std.specs.Prelude.{All}
 use Rattle.splitter.specs.Cuts.{cut_point}
-use Rattle.core_steps.specs.WorkerValues.{HasPieces, Leaves, splitting_move}
-use Rattle.core_steps.specs.Views.{move_result}
+use Rattle.worker_states.specs.WorkerValues.{HasPieces, Leaves, splitting_move}
+use Rattle.worker_states.specs.Views.{move_result}
 use Rattle.core_steps.proofs.Takings.{if_ok, split_leaves}
 use Rattle.core_steps.proofs.board.Board.split.Goals as goal
 

@@ -1,6 +1,6 @@
 use Rattle.std.proofs.Common.{◌≡◌, ◌<◌, length, set, sym, subst, ap, ◌∙◌, is_none, true, arith}
-use Rattle.core_steps.specs.WorkerValues.{Leaves, stealing_move}
-use Rattle.core_steps.specs.Views.{move_result}
+use Rattle.worker_states.specs.WorkerValues.{Leaves, stealing_move}
+use Rattle.worker_states.specs.Views.{move_result}
 use Rattle.core_steps.proofs.Takings.{steal_leaves}
 use Rattle.core_steps.proofs.board.Board.steal.Goals as goal
 

@@ -1,6 +1,6 @@
 use Rattle.std.proofs.Common.{◌<◌, length, set, sym, subst}
-use Rattle.core_steps.specs.WorkerValues.{Leaves, taking_move}
-use Rattle.core_steps.specs.Views.{move_result}
+use Rattle.worker_states.specs.WorkerValues.{Leaves, taking_move}
+use Rattle.worker_states.specs.Views.{move_result}
 use Rattle.core_steps.proofs.Takings.{take_leaves}
 use Rattle.core_steps.proofs.board.Board.take.Goals as goal
 

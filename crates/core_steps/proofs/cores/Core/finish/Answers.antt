@@ -2,7 +2,7 @@ use Rattle.std.proofs.Common.{◌≡◌, None, sym, subst}
 use Rattle.handles.specs.Machine.{finish, refusal}
 use Rattle.handles.specs.Views.{finished_outcome}
 use Rattle.core_steps.specs.Cores.{of_client}
-use Rattle.core_steps.specs.WorkerValues.{IsJobOn}
+use Rattle.worker_states.specs.WorkerValues.{IsJobOn}
 use Rattle.core_steps.specs.JobStates.{IsPlaceOf, IsWhole, job_states_of, value_of}
 use Rattle.core_steps.specs.Queries.{asked, divided}
 use Rattle.core_steps.specs.Steps.{IsAnswered, MayFinish, StepsTo}

@@ -3,9 +3,9 @@ use Rattle.std.specs.Prelude.{All}
 use Rattle.std.specs.Arc.{arc_value}
 use Rattle.handles.specs.Machine.{freeze, refusal}
 use Rattle.handles.specs.Views.{frozen_outcome}
-use Rattle.core_steps.specs.Boards.{first_board}
+use Rattle.worker_states.specs.Boards.{first_board}
 use Rattle.core_steps.specs.Cores.{Asked, of_client}
-use Rattle.core_steps.specs.WorkerValues.{IsJobOn, IsVacant}
+use Rattle.worker_states.specs.WorkerValues.{IsJobOn, IsVacant}
 use Rattle.core_steps.specs.JobStates.{IsWhole, job_states_of, value_of}
 use Rattle.core_steps.specs.Queries.{asked, divided}
 use Rattle.core_steps.specs.Steps.{IsAnswered, StepsTo}

@@ -1,6 +1,6 @@
 use Rattle.std.proofs.Common.{◌≡◌, ◌∙◌, None, set, sym, subst}
 use Rattle.core_steps.specs.Cores.{of_worker, refusal_of}
-use Rattle.core_steps.specs.WorkerValues.{IsJobOn}
+use Rattle.worker_states.specs.WorkerValues.{IsJobOn}
 use Rattle.core_steps.specs.Moves.{move_of}
 use Rattle.core_steps.specs.JobStates.{IsPlaceOf, job_states_of, value_of, job_state_of}
 use Rattle.core_steps.specs.Queries.{asked, divided}

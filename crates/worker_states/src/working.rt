@@ -2,11 +2,11 @@
 
 ghost use Rattle.std.specs.Prelude.{◌≡◌, IfOk, OnErr};
 ghost use Rattle.versions.specs.Map.{Map};
-ghost use Rattle.core_steps.specs.WorkerValues.{CanWork, WorksHeld};
-ghost use Rattle.core_steps.specs.Views.{move_result};
+ghost use Rattle.worker_states.specs.WorkerValues.{CanWork, WorksHeld};
+ghost use Rattle.worker_states.specs.Views.{move_result};
 
 use crate::progress::Progress;
-use crate::worker_state::WorkerState;
+use crate::state::WorkerState;
 use bulk_work::work;
 use combiner::Bulk;
 use hash_path::PathKey;
@@ -16,7 +16,7 @@ use trie_node::NoMemory;
 
 /// Works the piece that is held, if there is one, joins it to the part and lets it go. After `NoMemory` all is as
 /// before.
-pub(crate) fn work_held<K: PathKey + Drop, V: Drop, B: Bulk<K, V>>(
+pub fn work_held<K: PathKey + Drop, V: Drop, B: Bulk<K, V>>(
     alloc: Global,
     bulk: &B,
     worker_state: &mut WorkerState<K, V, B::Part>,

@@ -1,9 +1,9 @@
 //! The state of one worker of a job.
 
 ghost use Rattle.std.specs.Prelude.{◌≡◌, [], IfOk, None, Some, OnErr, is_none, length};
-ghost use Rattle.core_steps.specs.Boards.{oldest, without_oldest};
-ghost use Rattle.core_steps.specs.WorkerValues.{state_split, state_take};
-ghost use Rattle.core_steps.specs.Views.{move_result};
+ghost use Rattle.worker_states.specs.Boards.{oldest, without_oldest};
+ghost use Rattle.worker_states.specs.WorkerValues.{state_split, state_take};
+ghost use Rattle.worker_states.specs.Views.{move_result};
 
 use crate::progress::Progress;
 use hash_path::PathKey;
@@ -17,15 +17,15 @@ use trie_node::NoMemory;
 /// The pieces that wait for a worker, oldest first; the piece that it holds, if any; the intervals that it has worked,
 /// and the part of their pairs.
 #[derive(Drop)]
-pub(crate) struct WorkerState<K: PathKey, V, P> {
-    pub(crate) queue: VecDeque<Piece<K, V>>,
-    pub(crate) held: Option<Piece<K, V>>,
-    pub(crate) part: P,
-    pub(crate) worked: Vec<Interval>,
+pub struct WorkerState<K: PathKey, V, P> {
+    pub queue: VecDeque<Piece<K, V>>,
+    pub held: Option<Piece<K, V>>,
+    pub part: P,
+    pub worked: Vec<Interval>,
 }
 
 impl<K: PathKey, V, P> Model for WorkerState<K, V, P> {
-    ghost use Rattle.core_steps.specs.WorkerValues.{WorkerValue};
+    ghost use Rattle.worker_states.specs.WorkerValues.{WorkerValue};
 
     ghost Value = { WorkerValue K V P };
 
@@ -34,7 +34,7 @@ impl<K: PathKey, V, P> Model for WorkerState<K, V, P> {
 
 impl<K: PathKey + Drop, V: Drop, P> WorkerState<K, V, P> {
     /// The state of a worker that has nothing yet, with the part of no pairs. It makes no request for memory.
-    pub(crate) fn new(alloc: Global, part: P) -> WorkerState<K, V, P>
+    pub fn new(alloc: Global, part: P) -> WorkerState<K, V, P>
         ensures { result ≡ record { queue = []; held = None; part = part; worked = [] } }
     {
         WorkerState {
@@ -46,28 +46,28 @@ impl<K: PathKey + Drop, V: Drop, P> WorkerState<K, V, P> {
     }
 
     /// Whether the worker holds no piece.
-    pub(crate) fn is_free(&self) -> bool
+    pub fn is_free(&self) -> bool
         ensures { result ≡ is_none self.now.held }
     {
         self.held.is_none()
     }
 
     /// The part of what the worker has worked.
-    pub(crate) fn part(&self) -> &P
+    pub fn part(&self) -> &P
         ensures { result.now ≡ self.now.part }
     {
         &self.part
     }
 
     /// How many pieces wait.
-    pub(crate) fn waiting(&self) -> usize
+    pub fn waiting(&self) -> usize
         ensures { result ≡ length self.now.queue }
     {
         self.queue.len()
     }
 
     /// A worker that holds no piece gets the newest one of its queue.
-    pub(crate) fn take(&mut self) -> Progress
+    pub fn take(&mut self) -> Progress
         ensures { (move_result result, self.new) ≡ state_take self.old }
     {
         if self.held.is_some() {
@@ -80,7 +80,7 @@ impl<K: PathKey + Drop, V: Drop, P> WorkerState<K, V, P> {
     }
 
     /// The piece that came first into the queue leaves it, if there is one.
-    pub(crate) fn oldest(&mut self) -> Option<Piece<K, V>>
+    pub fn oldest(&mut self) -> Option<Piece<K, V>>
         ensures piece { result ≡ oldest self.old.queue }
         ensures left { self.new ≡ record self.old { queue = without_oldest self.old.queue } }
     {
@@ -88,7 +88,7 @@ impl<K: PathKey + Drop, V: Drop, P> WorkerState<K, V, P> {
     }
 
     /// The worker holds the piece now.
-    pub(crate) fn hold(&mut self, piece: Piece<K, V>) -> Progress
+    pub fn hold(&mut self, piece: Piece<K, V>) -> Progress
         ensures told { result ≡ Progress.Took piece.interval.lo piece.interval.hi }
         ensures held { self.new ≡ record self.old { held = Some piece } }
     {
@@ -99,7 +99,7 @@ impl<K: PathKey + Drop, V: Drop, P> WorkerState<K, V, P> {
 
     /// Cuts the held piece at its cut point, where it has one: the upper piece is put last in the queue. The place in
     /// the queue is made first, and after `NoMemory` all is as before.
-    pub(crate) fn split(&mut self, grain: u64) -> Result<Progress, NoMemory>
+    pub fn split(&mut self, grain: u64) -> Result<Progress, NoMemory>
         ensures ok { IfOk result (λ progress. (move_result progress, self.new) ≡ state_split K.path_of grain self.old) }
         ensures err { OnErr result (self.new ≡ self.old) }
     {

@@ -7,8 +7,8 @@ use Rattle.std.proofs.lemmas.List.Elements.{All-get_or, All-set}
 use Rattle.trie_shape.specs.Map.{Map}
 use Rattle.iter.specs.declared.interval.Interval.{Interval}
 use Rattle.splitter.specs.Portion.{Portion}
-use Rattle.core_steps.specs.Boards.{Worker, Board, worker, with_queue, with_held, newest, without_newest, oldest, without_oldest, MoveResult}
-use Rattle.core_steps.specs.WorkerValues.{WorkerValue, interval_of, worker_of, board, result_of, results, state_parts, HasPieces, Leaves}
+use Rattle.worker_states.specs.Boards.{Worker, Board, worker, with_queue, with_held, newest, without_newest, oldest, without_oldest, MoveResult}
+use Rattle.worker_states.specs.WorkerValues.{WorkerValue, interval_of, worker_of, board, result_of, results, state_parts, HasPieces, Leaves}
 
 pub newest_interval : {K V : Type 0} (ps : List (Portion K V)) → newest (map interval_of ps) ≡ option_map interval_of (newest ps)
 newest_interval ps = ap (λ n. slice_get (map interval_of ps) (n - 1)) (length-map ps interval_of) ∙ slice_get-map interval_of ps (length ps - 1)

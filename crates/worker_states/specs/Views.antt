@@ -1,7 +1,7 @@
 -- How what the code answers appears to the board.
-use Rattle.core_steps.specs.Boards.{MoveResult, took, cut, uncut, done, idle}
-use Rattle.core_steps.specs.declared.progress.Progress.{Progress}
-use Rattle.core_steps.specs.declared.progress.Progress.TheVariants.{Took, Cut, Whole, Worked, Idle}
+use Rattle.worker_states.specs.Boards.{MoveResult, took, cut, uncut, done, idle}
+use Rattle.worker_states.specs.declared.progress.Progress.{Progress}
+use Rattle.worker_states.specs.declared.progress.Progress.TheVariants.{Took, Cut, Whole, Worked, Idle}
 
 -- what a worker's move was answered, as the board answers it
 abbrev pub move_result : Progress → MoveResult

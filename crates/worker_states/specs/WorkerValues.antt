@@ -1,5 +1,5 @@
 -- A board as the code keeps it: with the pieces of its intervals, and the parts of what was worked.
-use Rattle.std.specs.Prelude.{◌≡◌, ℕ, ◌≤◌, Bool, All, IfSome, List, [], ◌∷◌, ◌++◌, length, map, Option, Some, None, option_map, option_to_list}
+use Rattle.std.specs.Prelude.{◌≡◌, ℕ, ◌≤◌, Bool, All, IfSome, List, [], ◌∷◌, ◌++◌, length, map, Option, Some, None, option_map, option_to_list, slice_set}
 use Rattle.std.specs.declared.cmp.Ordering.{Ordering}
 use Rattle.trie_shape.specs.Map.{Map, IsMap}
 use Rattle.versions.specs.declared.version.TheConstants.{MOST_PAIRS}
@@ -7,7 +7,7 @@ use Rattle.iter.specs.declared.interval.Interval.{Interval}
 use Rattle.iter.specs.Intervals.{AreApart, part, parts}
 use Rattle.splitter.specs.Portion.{Portion}
 use Rattle.splitter.specs.Cuts.{cut_point}
-use Rattle.core_steps.specs.Boards.{Worker, Board, worker, intervals, newest, without_newest, oldest, taken, stolen, split, work, MoveResult, took, cut, uncut, done, idle, tells_settled, TellsTruly}
+use Rattle.worker_states.specs.Boards.{Move, working, Worker, Board, worker, intervals, newest, without_newest, oldest, taken, stolen, split, work, MoveResult, took, cut, uncut, done, idle, tells_settled, TellsTruly}
 
 -- what contracts see of a worker's state: the pieces that wait, oldest first; the piece that is held, if any; the intervals that were worked, and the part of their pairs
 pub record WorkerValue (K V P : Type 0) : Type 0 where
@@ -139,3 +139,8 @@ module _ {K V P : Type 0} (R : K → K → Ordering) (path : K → ℕ) (answers
     pub pieces : All (HasPieces m) new
     pub answered : All HasPart (results new)
     pub truly : TellsTruly told (Decides (parts path m (worker (board new) w).worked))
+
+-- the parts of a job's workers after a move: one that has worked a piece has another part, and the others have theirs
+abbrev pub PartsMove : {P : Type 0} → List P → Move → MoveResult → List P → Type 0
+PartsMove ps (working w) (done lo hi n settled) qs = (p : _) × (qs ≡ slice_set ps w p)
+PartsMove ps x y qs = qs ≡ ps

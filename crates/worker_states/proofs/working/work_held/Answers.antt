@@ -2,10 +2,10 @@ use Rattle.std.proofs.Common.{◌≡◌, List, ◌++◌, ◌∷◌, [], Option, 
 use Rattle.iter.specs.declared.interval.Interval.{Interval}
 use Rattle.iter.specs.Intervals.{part}
 use Rattle.splitter.specs.Portion.{Portion}
-use Rattle.core_steps.specs.Boards.{MoveResult, done}
-use Rattle.core_steps.specs.WorkerValues.{WorkerValue, CanWork, WorksHeld, HasWorked}
-use Rattle.core_steps.proofs.Workings.{may_join, has_worked}
-use Rattle.core_steps.proofs.working.work_held.Goals as goal
+use Rattle.worker_states.specs.Boards.{MoveResult, done}
+use Rattle.worker_states.specs.WorkerValues.{WorkerValue, CanWork, WorksHeld, HasWorked}
+use Rattle.worker_states.proofs.Workings.{may_join, has_worked}
+use Rattle.worker_states.proofs.working.work_held.Goals as goal
 
 pub join-requires : goal.join-requires
 join-requires g c =

@@ -14,11 +14,11 @@ use Rattle.iter.specs.Intervals.{AreApart, lies_in, cover, part, parts}
 use Rattle.splitter.specs.Portion.{Portion}
 use Rattle.combiner.specs.Unions as unions
 use Rattle.combiner.specs.Bulks.{Apart, IsJoined}
-use Rattle.core_steps.specs.Boards.{Worker, Board, worker, with_worked, with_held, intervals, intervals_of, work, working, MoveResult, done, idle, tells_settled, TellsTruly}
-use Rattle.core_steps.specs.WorkerValues.{WorkerValue, interval_of, worker_of, board, result_of, results, state_parts, HasPieces, HasPart, IsJobOn, CanWork, HasWorked, WorksHeld, Works, working_move}
-use Rattle.core_steps.specs.Parts.{PartsMove}
-use Rattle.core_steps.proofs.Covers.{once}
-use Rattle.core_steps.proofs.WorkerLemmas.{worker_is, read_same, still_there, with_held_is}
+use Rattle.worker_states.specs.Boards.{Worker, Board, worker, with_worked, with_held, intervals, intervals_of, work, working, MoveResult, done, idle, tells_settled, TellsTruly}
+use Rattle.worker_states.specs.WorkerValues.{WorkerValue, interval_of, worker_of, board, result_of, results, state_parts, HasPieces, HasPart, IsJobOn, CanWork, HasWorked, WorksHeld, Works, working_move}
+use Rattle.worker_states.specs.WorkerValues.{PartsMove}
+use Rattle.worker_states.proofs.Covers.{once}
+use Rattle.worker_states.proofs.WorkerLemmas.{worker_is, read_same, still_there, with_held_is}
 
 -- a flag that is true exactly where something is so tells the truth
 pub tells_truly : (b : Bool) (D : Type 0) → (b ≡ true) ↔ D → MatchBool b D (D → ⊥)
