@@ -13,7 +13,7 @@ use Rattle.journal.specs.Journals.{is_filed}
 use Rattle.journal.specs.Tokens.{entry_at}
 use Rattle.journal.specs.Kept.{Standing, Files}
 use Rattle.locked_map.specs.Seats.{AllOf, Seated, Placed, placed, placed_all, with_entry, marked_by, marked_unknown, Adds}
-use Rattle.locked_map.specs.declared.filed.Filed.{Filed}
+use Rattle.filed_entries.specs.declared.filed.Filed.{Filed}
 use Rattle.locked_map.proofs.Dues.{full_needs_room, step_has_worker, unknown_names_job}
 
 module _ {K V Q B : Type 0} where

@@ -6,7 +6,7 @@ use Rattle.std.proofs.lemmas.Bool.Decides.{nat_tests}
 use Rattle.boxcar.specs.Table.{Shelves, Where, Shows}
 use Rattle.bulk_work.specs.Answers as plain
 use Rattle.journal.specs.Journals.{Entered, own}
-use Rattle.locked_map.specs.declared.filed.Filed.{Filed}
+use Rattle.filed_entries.specs.declared.filed.Filed.{Filed}
 use Rattle.journal.specs.Tokens.{entry_at, entries_of}
 use Rattle.locked_map.specs.Seats.{placed_all, AllOf, AboveFloors, pairs}
 

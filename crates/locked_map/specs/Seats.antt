@@ -7,7 +7,7 @@ use Rattle.versions.specs.declared.refusal.Refusal.TheVariants.{NoJob, Unfinishe
 use Rattle.handles.specs.Machine.{Request, job_of, needs_room, Outcome, unfinished, refused, worked}
 use Rattle.journal.specs.Journals.{Entered}
 use Rattle.journal.specs.Tokens.{entry_at}
-use Rattle.locked_map.specs.declared.filed.Filed.{Filed}
+use Rattle.filed_entries.specs.declared.filed.Filed.{Filed}
 
 -- an entry at its place in the journal, with the floor that its seat had
 pub record Placed (K V Q B : Type 0) : Type 0 where

@@ -1,11 +1,10 @@
 //! The tests by which a map is closed. They take no memory.
-ghost use Rattle.std.specs.Prelude.{◌≡◌, ◌<◌, ◌≤◌, ℕ, All, IsTrue, None, Some, slice_index_or, true, vec_len};
+ghost use Rattle.std.specs.Prelude.{◌≡◌, ◌<◌, ℕ, All, IsTrue, None, Some, slice_index_or, true, vec_len};
 ghost use Rattle.handles.specs.Machine.{job_at, room};
 ghost use Rattle.journal.specs.Journals.{own};
 ghost use Rattle.locked_map.specs.Seats.{AboveFloors, pairs};
 ghost use Rattle.journal.specs.Tokens.{AllShown, entries_of};
 
-use crate::filed::Filed;
 use crate::seat::Seat;
 use bulk_work::Asks;
 use handles::Table;
@@ -34,7 +33,7 @@ pub(crate) fn is_borne_out<K: PathKey + Drop, V: Drop, Q: Asks<K, V> + Drop, J: 
                 return false;
             };
             if filed.place != place
-                || !is_above_floor(filed)
+                || !filed.is_above_floor()
                 || filed.token.index() != token.index()
             {
                 return false;
@@ -45,13 +44,6 @@ pub(crate) fn is_borne_out<K: PathKey + Drop, V: Drop, Q: Asks<K, V> + Drop, J: 
         place += 1;
     }
     rest.is_empty()
-}
-
-// Whether the entry stands at the floor beside it, or behind that.
-fn is_above_floor<K: PathKey, V, Q, I>(filed: &Filed<K, V, Q, I>) -> bool
-    ensures { IsTrue result → filed.now.floor ≤ filed.now.place }
-{
-    filed.floor <= filed.place
 }
 
 /// Whether the seats have the numbers from 0, in order, and the journal bears out each one's list, and their marks

@@ -10,7 +10,6 @@ mod bulk;
 mod clients;
 mod closed;
 mod closing;
-mod filed;
 mod lending;
 mod seat;
 mod shared_map;
@@ -18,7 +17,7 @@ mod ticket;
 
 pub use clients::{CLIENT_STACK, Client, NoJournal, with_clients};
 pub use closed::{Closed, Torn};
-pub use filed::Filed;
+pub use filed_entries::Filed;
 pub use handles::{Outcome, Request};
 pub use journal::{Entry, Journal, JournalName};
 pub use lending::{MOST_SEATS, Use, with};

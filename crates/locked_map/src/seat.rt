@@ -2,8 +2,8 @@
 ghost use Rattle.std.specs.Prelude.{◌≡◌};
 ghost use Rattle.locked_map.specs.Seats.{fresh, marked_by, met};
 
-use crate::filed::Filed;
 use bulk_work::Asks;
+use filed_entries::Filed;
 use hash_path::PathKey;
 use journal::JournalName;
 use std::alloc::Global;

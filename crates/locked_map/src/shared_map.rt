@@ -14,10 +14,10 @@ mod get_or_else;
 
 use crate::closed::{Closed, Torn};
 use crate::closing::{are_all, are_borne_out, are_of_seats};
-use crate::filed::file;
 use crate::seat::Seat;
 use crate::ticket::Ticket;
 use bulk_work::{Answer, Asks};
+use filed_entries::file;
 use handles::{Call, CallReply, Limits, MOST_ENTRIES};
 use hash_path::PathKey;
 use journal::{Caller, Entries, Journal, JournalName, JournaledTable};

@@ -4,7 +4,7 @@ use Rattle.bulk_work.specs.Answers as plain
 use Rattle.handles.specs.Machine.{Request, abandon, made, refused}
 use Rattle.handles.specs.Views.{machine}
 use Rattle.locked_map.specs.Seats.{Adds, Seated, placed_all}
-use Rattle.locked_map.specs.declared.filed.Filed.{Filed}
+use Rattle.filed_entries.specs.declared.filed.Filed.{Filed}
 use Rattle.locked_map.proofs.Adding.{all_of_more, ended_adds, event_adds}
 use Rattle.locked_map.proofs.shared_map.SharedMap.abandon.Goals as goal
 

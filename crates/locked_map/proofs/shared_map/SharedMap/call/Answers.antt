@@ -3,7 +3,7 @@ use Rattle.std.specs.Prelude.{IfOk}
 use Rattle.handles.specs.Machine.{Request}
 use Rattle.handles.specs.Views.{call_outcome, machine, request_of}
 use Rattle.journal.specs.Answers.{answered}
-use Rattle.locked_map.specs.declared.filed.Filed.{Filed}
+use Rattle.filed_entries.specs.declared.filed.Filed.{Filed}
 use Rattle.journal.proofs.Foresight.{call_names_no_job}
 use Rattle.locked_map.specs.Getting.{MayReturn}
 use Rattle.locked_map.proofs.Adding.{event_adds, unfiled_adds}

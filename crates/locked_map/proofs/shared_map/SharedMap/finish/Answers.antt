@@ -4,7 +4,7 @@ use Rattle.bulk_work.specs.Summaries.{summary_of}
 use Rattle.handles.specs.Machine.{Request, finish, finished, refused}
 use Rattle.handles.specs.Views.{machine}
 use Rattle.locked_map.specs.Seats.{Adds, Seated, placed_all}
-use Rattle.locked_map.specs.declared.filed.Filed.{Filed}
+use Rattle.filed_entries.specs.declared.filed.Filed.{Filed}
 use Rattle.locked_map.proofs.Adding.{ended_adds, event_adds}
 use Rattle.locked_map.proofs.shared_map.SharedMap.finish.Goals as goal
 

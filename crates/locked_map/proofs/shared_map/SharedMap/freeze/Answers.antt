@@ -6,7 +6,7 @@ use Rattle.journal.specs.Answers.{answered}
 use Rattle.boxcar.specs.Table.{Shows}
 use Rattle.locked_map.specs.Seats.{Adds, Seated, placed_all}
 use Rattle.locked_map.specs.Tickets.{ticket_outcome}
-use Rattle.locked_map.specs.declared.filed.Filed.{Filed}
+use Rattle.filed_entries.specs.declared.filed.Filed.{Filed}
 use Rattle.locked_map.proofs.Adding.{all_of_more, event_adds}
 use Rattle.locked_map.proofs.shared_map.SharedMap.freeze.Goals.{in-Ok-answer, in-Err-answer}
 use Rattle.locked_map.proofs.shared_map.SharedMap.freeze.Goals as goal

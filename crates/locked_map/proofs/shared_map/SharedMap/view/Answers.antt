@@ -3,7 +3,7 @@ use Rattle.boxcar.specs.Table.{Shows}
 use Rattle.handles.specs.Machine.{Request, view}
 use Rattle.handles.specs.Views.{machine, view_outcome}
 use Rattle.journal.specs.Answers.{answered}
-use Rattle.locked_map.specs.declared.filed.Filed.{Filed}
+use Rattle.filed_entries.specs.declared.filed.Filed.{Filed}
 use Rattle.locked_map.proofs.Adding.{all_of_more, event_adds, unfiled_adds}
 use Rattle.locked_map.proofs.shared_map.SharedMap.view.Goals as goal
 
