@@ -220,9 +220,11 @@ where
         self.miss(rt);
         let mut stripe = self.readers.row().stripe_at(rt, path);
         self.sight.see(&mut stripe);
-        match stripe.get(key, path) {
+        let found = match stripe.get(key, path) {
             Some(value) => Some(*S::lend_value(value)),
             None => None,
-        }
+        };
+        drop(stripe);
+        found
     }
 }

@@ -168,10 +168,19 @@ where
     ) -> Option<Latest<K, V, P, J, W, S>> {
         let mut latest = self.latest.as_lock().try_lock()?;
         if self.made() != seen {
-            return Some((unless_over(&latest), self.made()));
+            let newest = (unless_over(&latest), self.made());
+            drop(latest);
+            return Some(newest);
         }
-        let base = self.new_base(rt, pairs).ok()?;
-        let before = mem::replace(&mut *latest, Some(Arc::try_clone(&base).ok()?));
+        let Ok(base) = self.new_base(rt, pairs) else {
+            drop(latest);
+            return None;
+        };
+        let Ok(shared) = Arc::try_clone(&base) else {
+            drop((latest, base));
+            return None;
+        };
+        let before = mem::replace(&mut *latest, Some(shared));
         let made = self.made.fetch_add(1, Ordering::SeqCst).wrapping_add(1);
         drop(latest);
         // So the nodes of the base before are dropped with no lock held.
