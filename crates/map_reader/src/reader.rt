@@ -1,5 +1,9 @@
 //! What one thread reads a map by.
 ghost use Rattle.std.specs.Prelude.{◌≡◌, IfSome, Some, option_map};
+ghost use Rattle.std.specs.Sync.Mutex.{mutex_guard_value};
+ghost use mathlib.Core.List.{IsPrefix};
+ghost use Rattle.hash_path.specs.Digits.{digit};
+ghost use Rattle.stripe.specs.Told.{Tells};
 ghost use Rattle.write_history.specs.Rules.{HasHistory};
 ghost use Rattle.write_history.specs.Signers.{Read};
 
@@ -8,10 +12,10 @@ use crate::counts::Counts;
 use crate::readers::{Latest, Readers};
 use crate::sight::Sight;
 use crate::since::Since;
-use hash_path::{PathKey, Sought};
+use hash_path::{Path, PathKey, Sought};
 use std::marker::Model;
-use std::sync::{Arc, Wait};
-use stripes::{Anything, Keeps};
+use std::sync::{Arc, MutexGuard, Wait};
+use stripes::{Anything, Keeps, Stripe};
 use trie_node::{Shared, Slots};
 use write_history::{Front, Naming, Unnamed};
 
@@ -138,10 +142,19 @@ where
                 return look(base.value(key, path));
             }
         }
+        self.seen_stripe(rt, path).read(key, path, look)
+    }
+
+    // The stripe of the keys with this path word, for a read that takes a lock. The history is seen as it is then.
+    fn seen_stripe<R: Wait>(&mut self, rt: &R, path: Path) -> MutexGuard<'m, Stripe<K, V, P, J, S>>
+        ensures tells { HasHistory J.book → Tells K.cmp K.path_of (mutex_guard_value result).digit (mutex_guard_value result).entries self.new }
+        ensures since { HasHistory J.book → IsPrefix W.since self.new }
+        ensures digit { (mutex_guard_value result).digit ≡ digit path.0 0 }
+    {
         self.miss(rt);
         let mut stripe = self.readers.row().stripe_at(rt, path);
         self.sight.see(&mut stripe);
-        stripe.read(key, path, look)
+        stripe
     }
 
     // Counts a read that takes a lock. It has another base then where there is one, or where it is time for one.
@@ -217,9 +230,7 @@ where
                 return base.value(key, path).copied();
             }
         }
-        self.miss(rt);
-        let mut stripe = self.readers.row().stripe_at(rt, path);
-        self.sight.see(&mut stripe);
+        let stripe = self.seen_stripe(rt, path);
         let found = match stripe.get(key, path) {
             Some(value) => Some(*S::lend_value(value)),
             None => None,

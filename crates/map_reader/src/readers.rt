@@ -129,7 +129,7 @@ where
     }
 
     /// The stripes of the map.
-    pub(crate) fn row(&self) -> &Stripes<K, V, P, J, S> {
+    pub(crate) fn row(&self) -> &'m Stripes<K, V, P, J, S> {
         self.row
     }
 
