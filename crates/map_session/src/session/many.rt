@@ -82,7 +82,9 @@ where
         ensures wrote { (gone : Map K V) × InTurn (Removes K.cmp K.path_of) gone self.old self.new × All (λ pair. P.holds pair.0 pair.1 × MayAnswer F.Fn test pair.0 pair.1 false) gone × IfOk result (λ removed. removed ≡ length gone) }
     {
         let view = self.view(rt)?;
-        self.remove_all_failing(rt, &view, &test)
+        let removed = self.remove_all_failing(rt, &view, &test);
+        drop(view);
+        removed
     }
 
     // Removes the pairs of the view that fail the test, where those that their keys have now fail too. Returns how many

@@ -45,7 +45,9 @@ where
         ensures wrote { (given : List (K × V × V)) × InTurn (Replaces K.cmp K.path_of (λ key old made. MayAnswer F.Fn change key old made)) given self.old self.new × IfOk result (λ count. count ≡ length given) }
     {
         let view = self.view(rt)?;
-        self.replace_each(rt, &view, &change)
+        let given = self.replace_each(rt, &view, &change);
+        drop(view);
+        given
     }
 
     // Gives each key of the view a new value, and returns how many it gave one.

@@ -6,11 +6,11 @@ use Rattle.map_session.proofs.session.Session.retain.Goals as goal
 
 pub returns : goal.returns
 returns g c =
-    let told = c.remove_all_failing.ensures.wrote in
+    let told = c.remove_all_failing-removed.ensures.wrote in
     record {
       wrote = (
         told.0,
-        turns_behind (Removes g.K.Ord.cmp g.K.PathKey.path_of) (removes_behind g.K.Ord.cmp g.K.PathKey.path_of) told.0 c.args.self.now c.view.new.self c.remove_all_failing.new.self (c.view.ensures.seen, c.view.ensures.signer) told.1,
+        turns_behind (Removes g.K.Ord.cmp g.K.PathKey.path_of) (removes_behind g.K.Ord.cmp g.K.PathKey.path_of) told.0 c.args.self.now c.view.new.self c.remove_all_failing-removed.new.self (c.view.ensures.seen, c.view.ensures.signer) told.1,
         told.2,
         told.3,
       );
