@@ -1,5 +1,6 @@
 //! Calls that hold all locks at one moment.
-ghost use Rattle.std.specs.Prelude.{◌≡◌, IfOk, length};
+ghost use Rattle.std.specs.Prelude.{◌≡◌, IfOk, length, map};
+ghost use Rattle.std.specs.Sync.Mutex.{mutex_guard_value};
 ghost use Rattle.hash_path.specs.Digits.{fan_out};
 ghost use Rattle.stripe.specs.Rules.{AllKeep};
 ghost use Rattle.stripes.specs.Stripes.{digits_of, up_to};
@@ -8,7 +9,9 @@ use super::TrieMap;
 use hash_path::PathKey;
 use map_view::View;
 use std::sync::Wait;
-use stripes::{Keeps, STRIPES, Stripe, Stripes, clear_all, empty_maps, forks, joined};
+use stripes::{
+    EmptyMap, Guards, Keeps, STRIPES, Stripe, Stripes, clear_all, empty_maps, forks, joined,
+};
 use trie_node::{NoMemory, Slots};
 use united_roots::RootRow;
 use write_history::{Author, Naming, Unnamed};
@@ -27,12 +30,23 @@ where
         let held = self.row.all(rt, self.alloc)?;
         // The pairs are dropped once the locks are free.
         let before = forks(room, &held)?;
-        if let Some(stripe) = held.first() {
-            let all = stripe.gathered();
-            clear_all(held, empty_maps, all, &mut Author::nobody());
-        }
+        Self::clear_held(held, empty_maps);
         drop(before);
         Ok(())
+    }
+
+    // Gives each stripe an empty map, and frees the locks.
+    fn clear_held(held: Guards<'_, K, V, P, J, S>, empty_maps: Vec<EmptyMap<K, V, S>>)
+        requires digits { digits_of (map mutex_guard_value held.items) ≡ up_to fan_out }
+        requires maps { length empty_maps.items ≡ fan_out }
+    {
+        if let Some(stripe) = held.first() {
+            let all = stripe.gathered();
+            drop(clear_all(held, empty_maps, all, &mut Author::nobody()));
+        } else {
+            drop(held);
+            drop(empty_maps);
+        }
     }
 
     /// The map as it stands at one moment of the call. The view keeps the nodes of that moment.

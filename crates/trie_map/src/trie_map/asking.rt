@@ -87,7 +87,10 @@ where
         requires callable { G.IsAlwaysCallable item }
         ensures { IfOk result (λ all. (m : Map K V) × AllKeep K.cmp P.holds m × ((i : K → V → M.Item) → Means (MayAnswer G.Fn item) i → all ≡ folded (M.combine monoid.now) (M.unit_of monoid.now) (items_of i m))) }
     {
-        Ok(self.view(rt)?.fold(monoid, item))
+        let view = self.view(rt)?;
+        let all = view.fold(monoid, item);
+        drop(view);
+        Ok(all)
     }
 
     /// The map of the pairs that pass the test, of the map as it stands at one moment of the call. It has one owner,
@@ -124,7 +127,10 @@ where
         ensures entries { IfOk result (λ made. (m : Map K V) × AllKeep K.cmp P.holds m × ((f : K → V → W) → Means (MayAnswer G.Fn change) f → made.entries ≡ changed f m) × (length made.entries ≤ length m)) }
         ensures limit { IfOk result (λ made. made.limit ≡ MOST_PAIRS) }
     {
-        self.view(rt)?.map_values(change)
+        let view = self.view(rt)?;
+        let made = view.map_values(change);
+        drop(view);
+        made
     }
 }
 

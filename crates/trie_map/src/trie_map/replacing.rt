@@ -91,7 +91,9 @@ where
         ensures few { IfOk result (λ given. (m : Map K V) × AllKeep K.cmp P.holds m × (given ≤ length m)) }
     {
         let view = self.view(rt)?;
-        self.replace_each(rt, &view, &change)
+        let given = self.replace_each(rt, &view, &change);
+        drop(view);
+        given
     }
 
     // Gives each key of the view a new value, and returns how many it gave one.

@@ -39,7 +39,9 @@ where
         ensures failed { IfOk result (λ removed. (gone : Map K V) × (length gone ≡ removed) × AllPairs (λ x y. x.0 ≢ y.0) gone × All (λ pair. P.holds pair.0 pair.1 × MayAnswer F.Fn test pair.0 pair.1 false) gone) }
     {
         let view = self.view(rt)?;
-        self.remove_all_failing(rt, &view, &test)
+        let removed = self.remove_all_failing(rt, &view, &test);
+        drop(view);
+        removed
     }
 
     // Removes the pairs of the view that fail the test, where those that their keys have now fail too. Returns how many
