@@ -16,7 +16,7 @@ pub fn removal_told<K: PathKey, V, J: Naming, Q: Sought<K>>(
     key: Q,
     there: bool,
 )
-    requires { HasHistory J.book → (d : ℕ) × (part.old.digit ≡ Some d) × IsOf K.path_of d (Remove (Q.key_of key)) }
+    requires { HasHistory J.book → (d : ℕ) × (part.old.digit ≡ Some d) × IsOf K.path_of {V = V} d (Remove (Q.key_of key)) }
     ensures { HasHistory J.book → IsTrue there → (h : List (Entry K V)) × IsPrefix part.old.log h × (part.new.log ≡ h ++ record { by = author.old.by; write = Remove (Q.key_of key) } ∷ []) }
 {
     let intent = part.removing(author, &key);
